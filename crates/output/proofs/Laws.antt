@@ -1,0 +1,136 @@
+-- Laws of laying text into a buffer. Assumes nothing.
+use mathlib.Core.Path.{_≡_, refl, sym, ap, subst, _∙_}
+use mathlib.Core.List.{List, [], _∷_, _++_, append-assoc, append-nil}
+use Prim.Native.Nat.{ℕ, zero, suc, _+_, _/_, _≤_, _<_, min}
+use native.Mathlib.Nat.{add-zero, add-suc, suc-add}
+use native.Mathlib.Decide.{decLe}
+use native.Mathlib.Omega.{arith}
+use lib.ListN.{length, take, drop, set, length-append, length-set}
+use lib.Seq.{sets, length-sets, set-out, set-set, set-comm, take-length}
+use Rattle.output.specs.Wrote.{Wrote, limit, leBytes}
+
+-- past the end nothing is stored
+pub sets-out : (l : List ℕ) (i : ℕ) (s : List ℕ) → length l ≤ i → sets l i s ≡ l
+sets-out l i [] h = refl
+sets-out l i (x ∷ s) h =
+    ap (λ (k : List ℕ). sets k (suc i) s) (set-out l i x h) ∙ sets-out l (suc i) s (omega arith)
+
+-- s, and t behind it, is s ++ t
+pub sets-append : (l : List ℕ) (i : ℕ) (s t : List ℕ) → sets (sets l i s) (i + length s) t ≡ sets l i (s ++ t)
+sets-append l i [] t = ap (λ (k : ℕ). sets l k t) (add-zero i)
+sets-append l i (x ∷ s) t =
+    ap (λ (k : ℕ). sets (sets (set l i x) (suc i) s) k t) (add-suc i (length s) ∙ sym (suc-add i (length s)))
+    ∙ sets-append (set l i x) (suc i) s t
+
+-- a position at the limit is as good as any other past it
+sets-clip : (l : List ℕ) (i : ℕ) (s : List ℕ) → length l < limit → sets l (min i limit) s ≡ sets l i s
+sets-clip l i s room = go (decLe i limit)
+  where
+    go : Dec (i ≤ limit) → sets l (min i limit) s ≡ sets l i s
+    go (yes h) = let e : min i limit ≡ i = omega arith in rw e
+    go (no h) = sets-out l (min i limit) s (omega arith) ∙ sym (sets-out l i s (omega arith))
+
+pub wrote-none : (a : List ℕ) (p : ℕ) → p ≤ limit → length a < limit → Wrote a a p p []
+wrote-none a p h room = record { bytes = refl; count = omega arith; room = room }
+
+pub wrote-length : {a b : List ℕ} {p r : ℕ} {s : List ℕ} → Wrote a b p r s → length b ≡ length a
+wrote-length {a} {b} {p} {r} {s} w = ap length (w .bytes) ∙ length-sets a p s
+
+pub wrote-bound : {a b : List ℕ} {p r : ℕ} {s : List ℕ} → Wrote a b p r s → r ≤ limit
+wrote-bound w = let e = w .count in omega arith
+
+-- one text after another
+pub wrote-then : {a b c : List ℕ} {p q r : ℕ} {s t : List ℕ} → Wrote a b p q s → Wrote b c q r t → Wrote a c p r (s ++ t)
+wrote-then {a} {b} {c} {p} {q} {r} {s} {t} v w =
+    let q′ = v .count in
+    let r′ = w .count in
+    record {
+      bytes =
+          w .bytes
+          ∙ ap (λ (k : ℕ). sets b k t) q′
+          ∙ sets-clip b (p + length s) t (w .room)
+          ∙ ap (λ (l : List ℕ). sets l (p + length s) t) (v .bytes)
+          ∙ sets-append a p s t;
+      count = simp length-append (omega arith);
+      room = v .room;
+    }
+
+sets-shift : (x : ℕ) (l : List ℕ) (i : ℕ) (s : List ℕ) → sets (x ∷ l) (suc i) s ≡ x ∷ sets l i s
+sets-shift x l i [] = refl
+sets-shift x l i (y ∷ s) = sets-shift x (set l i y) (suc i) s
+
+-- from the start: the text, clipped, and what it leaves
+pub sets-front : (l s : List ℕ) → sets l 0 s ≡ take (length l) (s ++ drop (length s) l)
+sets-front l [] = sym (take-length l)
+sets-front [] (x ∷ s) = sets-out [] 1 s (omega arith)
+sets-front (y ∷ l) (x ∷ s) = sets-shift x l 0 s ∙ ap (λ (k : List ℕ). x ∷ k) (sets-front l s)
+
+-- ---- a loop that writes: what it wrote so far, and what is left of the whole
+
+pub record Progress (a b : List ℕ) (pos p : ℕ) (whole left : List ℕ) : Type 0 where
+  pub done : List ℕ
+  pub wrote : Wrote a b pos p done
+  pub splits : whole ≡ done ++ left
+
+pub start : (a : List ℕ) (p : ℕ) (whole : List ℕ) → p ≤ limit → length a < limit → Progress a a p p whole whole
+start a p whole h room = record { done = []; wrote = wrote-none a p h room; splits = refl }
+
+-- one text more
+pub more : {a b c : List ℕ} {pos p q : ℕ} {whole s left left′ : List ℕ} → Progress a b pos p whole left → Wrote b c p q s → left ≡ s ++ left′ → Progress a c pos q whole left′
+more {s = s} {left′ = left′} g w e = record {
+  done = g .done ++ s;
+  wrote = wrote-then (g .wrote) w;
+  splits = g .splits ∙ ap (λ (l : List ℕ). g .done ++ l) e ∙ sym (append-assoc (g .done) s left′);
+}
+
+-- nothing is left
+pub finish : {a b : List ℕ} {pos p : ℕ} {whole left : List ℕ} → Progress a b pos p whole left → left ≡ [] → Wrote a b pos p whole
+finish {a} {b} {pos} {p} g e =
+    subst (λ (l : List ℕ). Wrote a b pos p l) (sym (g .splits ∙ ap (λ (l : List ℕ). g .done ++ l) e ∙ append-nil (g .done))) (g .wrote)
+
+-- ---- a header that is written again, of the same length, once the body behind it stands
+
+set-sets : (u m : List ℕ) (i j : ℕ) (y : ℕ) → i < j → set (sets m j u) i y ≡ sets (set m i y) j u
+set-sets [] m i j y h = refl
+set-sets (z ∷ u) m i j y h =
+    set-sets u (set m j z) i (suc j) y (omega arith)
+    ∙ ap (λ (k : List ℕ). sets k (suc j) u) (set-comm m j i z y (λ (e : j ≡ i). omega arith))
+
+pub sets-over : (s s′ t l : List ℕ) (i : ℕ) → length s ≡ length s′ → sets (sets l i (s ++ t)) i s′ ≡ sets l i (s′ ++ t)
+sets-over [] [] t l i h = refl
+sets-over [] (y ∷ s′) t l i h = let bad : ⊥ = omega arith in absurd bad
+sets-over (x ∷ s) [] t l i h = let bad : ⊥ = omega arith in absurd bad
+sets-over (x ∷ s) (y ∷ s′) t l i h =
+    ap (λ (k : List ℕ). sets k (suc i) s′) (set-sets (s ++ t) (set l i x) i (suc i) y (omega arith) ∙ ap (λ (k : List ℕ). sets k (suc i) (s ++ t)) (set-set l i x y))
+    ∙ sets-over s s′ t (set l i y) (suc i) (omega arith)
+
+pub wrote-patched : {a b c d : List ℕ} {p q r q′ : ℕ} {s s′ t : List ℕ} → Wrote a b p q s → Wrote b c q r t → Wrote c d p q′ s′ → length s ≡ length s′ → Wrote a d p r (s′ ++ t)
+wrote-patched {a} {b} {c} {d} {p} {q} {r} {q′} {s} {s′} {t} v w x h =
+    let y = wrote-then v w in
+    let n = y .count in
+    let l = length-append s t in
+    record {
+      bytes = x .bytes ∙ ap (λ (k : List ℕ). sets k p s′) (y .bytes) ∙ sets-over s s′ t a p h;
+      count = simp length-append (omega arith);
+      room = v .room;
+    }
+
+-- a text that is written again, of the same length
+pub wrote-again : {a b c : List ℕ} {p q r : ℕ} {s t : List ℕ} → Wrote a b p q s → Wrote b c p r t → length s ≡ length t → Wrote a c p r t
+wrote-again {a} {b} {c} {p} {q} {r} {s} {t} v w h = record {
+  bytes = w .bytes ∙ ap (λ (k : List ℕ). sets k p t) (v .bytes ∙ ap (sets a p) (sym (append-nil s))) ∙ sets-over s t [] a p h ∙ ap (sets a p) (append-nil t);
+  count = w .count;
+  room = v .room;
+}
+
+pub length-le : (w n : ℕ) → length (leBytes w n) ≡ w
+unfolding leBytes
+length-le zero n = refl
+length-le (suc w) n = ap suc (length-le w (n / 256))
+
+-- a store behind a text is the same before it as after it
+pub set-sets-behind : (u m : List ℕ) (i j : ℕ) (y : ℕ) → i + length u ≤ j → set (sets m i u) j y ≡ sets (set m j y) i u
+set-sets-behind [] m i j y h = refl
+set-sets-behind (z ∷ u) m i j y h =
+    set-sets-behind u (set m i z) (suc i) j y (omega arith)
+    ∙ ap (λ (k : List ℕ). sets k (suc i) u) (set-comm m i j z y (λ (e : i ≡ j). omega arith))

@@ -1,0 +1,4 @@
+pub mod Places
+pub mod DigitLaws
+pub mod DigitCode
+pub mod DigitReading
