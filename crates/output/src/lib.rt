@@ -60,8 +60,20 @@ pub fn put_bytes(buf: &mut [u8], pos: usize, s: &[u8]) -> usize
     put_clipped(buf, pos, s)
 }
 
-// The byte x, n times.
-pub fn put_repeated(buf: &mut [u8], pos: usize, x: u8, n: usize) -> usize
+// The byte x, n times, for which there is room.
+fn fill_at(buf: &mut [u8], pos: usize, x: u8, n: usize)
+    requires { ⌜ pos + n ≤ length (now buf) ⌝ }
+    ensures { λ _. ⌜ now (buf .exit) ≡ sets (now (buf .entry)) pos (replicate n x) ⌝ }
+{
+    let mut i = 0;
+    while i < n {
+        buf[pos + i] = x;
+        i += 1;
+    }
+}
+
+// The byte x, n times, as far as there is room.
+fn repeat_clipped(buf: &mut [u8], pos: usize, x: u8, n: usize) -> usize
     requires { ⌜ pos ≤ limit ⌝ }
     ensures { λ r. ⌜ Wrote (now (buf .entry)) (now (buf .exit)) pos r (replicate n x) ⌝ }
 {
@@ -72,6 +84,20 @@ pub fn put_repeated(buf: &mut [u8], pos: usize, x: u8, n: usize) -> usize
         i += 1;
     }
     p
+}
+
+// The byte x, n times.
+pub fn put_repeated(buf: &mut [u8], pos: usize, x: u8, n: usize) -> usize
+    requires { ⌜ pos ≤ limit ⌝ }
+    ensures { λ r. ⌜ Wrote (now (buf .entry)) (now (buf .exit)) pos r (replicate n x) ⌝ }
+{
+    if pos <= buf.len() {
+        if n <= buf.len() - pos {
+            fill_at(buf, pos, x, n);
+            return pos + n;
+        }
+    }
+    repeat_clipped(buf, pos, x, n)
 }
 
 // The lowest bytes of n, as many as the width says, the lowest first.

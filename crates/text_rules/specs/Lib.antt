@@ -1,3 +1,4 @@
 pub mod Digits
 pub mod DigitSteps
 pub mod Texts
+pub mod Reading

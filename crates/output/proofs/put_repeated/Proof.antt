@@ -1,51 +1,49 @@
 -- `output::put_repeated` meets its contract. Assumes nothing.
-use mathlib.Core.Path.{_≡_}
-use Prim.Native.Nat.{ℕ, _≤_, _-_}
+use Prim.Native.Nat.{ℕ}
 use native.Mathlib.Omega.{arith}
-use lib.ListN.{replicate, replicate-append-replicate}
-use Rattle.output.specs.Wrote.{Wrote}
-use Rattle.output.proofs.Laws.{wrote-none, wrote-then, wrote-length}
+use lib.ListN.{length-replicate}
 use borrow.Author.Needs.{needs}
 use Rattle.output.proofs.put_repeated.Statement.{statement}
 use Rattle.output.proofs.put_repeated.Tie as tie
 
-abbrev Inv-loop : tie.InvT-loop
-Inv-loop buf₀ pos x n p₀ i₀ buf p i = (i ≤ n) × Wrote buf₀ buf pos p (replicate i x)
+sub-if2 : tie.Need-sub-if2
+sub-if2 c = search needs
 
-abbrev μ-loop : tie.MeasureT-loop
-μ-loop buf₀ pos x n p₀ i₀ buf p i = n - i
+fill-at-requires : tie.Need-fill-at-requires
+fill-at-requires c κs = search needs
 
-loop-holds : tie.Need-loop-holds Inv-loop μ-loop
-loop-holds c = (search needs, wrote-none _ _ (search needs) (search needs))
+add-result : tie.Need-add-result
+add-result c = search needs
 
-put-requires : tie.Need-put-requires Inv-loop μ-loop
-put-requires c κs = search needs
+same-length : tie.Need-same-length
+same-length c = search needs
 
-add-i : tie.Need-add-i Inv-loop μ-loop
-add-i c = search needs
+returns : tie.Need-returns
+returns c =
+    record {
+      bytes = c .before .before .fill-at .ensures;
+      count = simp (length-replicate {A = ℕ}) (omega arith);
+      room = search needs;
+    }
 
-loop-less : tie.Need-loop-less Inv-loop μ-loop
-loop-less c = search needs
+repeat-clipped-requires : tie.Need-repeat-clipped-requires
+repeat-clipped-requires c κs = search needs
 
-loop-again : tie.Need-loop-again Inv-loop μ-loop
-loop-again c = (omega arith, rw (replicate-append-replicate {A = ℕ} _ 1 _) at (wrote-then (c .before .before .before .before .before .loop .inv .1) (c .before .before .put .ensures)))
+same-length-2 : tie.Need-same-length-2
+same-length-2 c = search needs
 
-same-length : tie.Need-same-length Inv-loop μ-loop
-same-length c = wrote-length (c .before .loop .inv .1)
-
-returns : tie.Need-returns Inv-loop μ-loop
-returns c = let e : c .before .loop .i ≡ c .before .before .before .args .n = omega arith in rw e at (c .before .loop .inv .1)
+returns-2 : tie.Need-returns-2
+returns-2 c = search needs
 
 pub put-repeated-spec : {M : Type 1} → statement M
 put-repeated-spec =
     tie.close
     (tie.spec
-    Inv-loop
-    μ-loop
-    loop-holds
-    put-requires
-    add-i
-    loop-less
-    loop-again
+    sub-if2
+    fill-at-requires
+    add-result
     same-length
-    returns)
+    returns
+    repeat-clipped-requires
+    same-length-2
+    returns-2)

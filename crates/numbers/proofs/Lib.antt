@@ -1,0 +1,5 @@
+pub mod Signed
+pub mod DecimalLaws
+pub mod NumeralLaws
+pub mod DecimalBack
+pub mod DecimalExamples

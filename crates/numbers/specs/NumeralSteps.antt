@@ -1,0 +1,30 @@
+-- What the contracts of the readers of numbers say. Assumes nothing: these are definitions.
+use Prim.Native.Nat.{ℕ, _<_}
+use lib.IntN.{ℤ}
+use mathlib.Core.Path.{_≡_}
+use mathlib.Core.Bool.{Bool, true}
+use mathlib.Core.List.{List}
+use mathlib.Core.Option.{Option, none, some}
+use lib.ListN.{length, drop}
+use Rattle.text_rules.specs.Texts.{starts}
+use Rattle.numbers.specs.Numeral.{Numeral}
+use Rattle.numbers.specs.declared.numeral.Shift.{Shift}
+use Rattle.numbers.specs.declared.numeral.Shift.the-variants.{By, Out}
+use Rattle.numbers.specs.declared.numeral.NumeralRead.{NumeralRead}
+use Rattle.numbers.specs.declared.numeral.NumeralRead.the-variants.{Int, Decimal, Bad}
+
+-- a byte stands at a place
+pub record Stands (text : List ℕ) (at b : ℕ) (r : Bool) : Type 0 where
+  pub is : r ≡ starts b (drop at text)
+  pub inside : r ≡ true → at < length text
+
+-- an exponent, or none that fits
+abbrev pub shift : Shift → Option ℤ
+shift (By x) = some x
+shift Out = none
+
+-- the answer of the reader: a numeral and the place behind it, or nothing
+abbrev pub numeralRead : NumeralRead → Option (Numeral × ℕ)
+numeralRead (Int z end) = some (Numeral.int z, end)
+numeralRead (Decimal neg m e end) = some (Numeral.decimal neg m e, end)
+numeralRead Bad = none

@@ -1,0 +1,110 @@
+// The text of a decimal: `format_text` and `write_scientific` of types/decimal/mod.rs.
+use crate::int;
+ghost use mathlib.Core.Path.{_≡_};
+ghost use Prim.Native.Nat.{_≤_, _<_};
+ghost use mathlib.Core.List.{_∷_, _++_};
+ghost use lib.ListN.{replicate};
+ghost use Rattle.output.specs.Logic.{byte};
+ghost use Rattle.output.specs.Wrote.{Wrote, limit};
+ghost use Rattle.text_rules.specs.Digits.{count, digits};
+ghost use Rattle.numbers.specs.Decimal.{pointed, scientific, above, below, sign, decimalText};
+
+// The digits of n, w of them, with a point after k: the number that the first k are, and as many digits as are left.
+fn put_pointed(buf: &mut [u8], pos: usize, n: u64, w: usize, k: usize) -> usize
+    requires { ⌜ (pos ≤ limit) × (w ≡ count 19 n) × (w ≤ 20) × (1 ≤ k) × (k ≤ w) ⌝ }
+    ensures { λ r. ⌜ Wrote (now (buf .entry)) (now (buf .exit)) pos r (pointed (digits n) k) ⌝ }
+{
+    let left = w - k;
+    let p = text_rules::digits::put_digits(buf, pos, n / text_rules::digits::pow10(left));
+    let q = output::put(buf, p, b'.');
+    text_rules::digits::write_zero_padded(buf, q, n, left)
+}
+
+// First digit, point and remaining digits, `d`, exponent.
+fn write_scientific(buf: &mut [u8], pos: usize, n: u64, w: usize, exponent: i64) -> usize
+    requires { ⌜ (pos ≤ limit) × (w ≡ count 19 n) × (w ≤ 20) × (1 ≤ w) ⌝ }
+    ensures { λ r. ⌜ Wrote (now (buf .entry)) (now (buf .exit)) pos r (scientific (digits n) exponent) ⌝ }
+{
+    let p = put_pointed(buf, pos, n, w, 1);
+    let q = output::put(buf, p, b'd');
+    int::format_integer(buf, q, exponent)
+}
+
+fn put_sign(buf: &mut [u8], pos: usize, negative: bool) -> usize
+    requires { ⌜ pos ≤ limit ⌝ }
+    ensures { λ r. ⌜ Wrote (now (buf .entry)) (now (buf .exit)) pos r (sign negative) ⌝ }
+{
+    if negative {
+        output::put(buf, pos, b'-')
+    } else {
+        pos
+    }
+}
+
+fn width(x: u64) -> usize
+    ensures { λ r. ⌜ r ≡ x ⌝ }
+{
+    x as usize
+}
+
+// `0.`, zeros, digits.
+fn put_small(buf: &mut [u8], pos: usize, n: u64, zeros: usize) -> usize
+    requires { ⌜ pos ≤ limit ⌝ }
+    ensures { λ r. ⌜ Wrote (now (buf .entry)) (now (buf .exit)) pos r (byte "0" ∷ byte "." ∷ (replicate zeros (byte "0") ++ digits n)) ⌝ }
+{
+    let a = output::put(buf, pos, b'0');
+    let b = output::put(buf, a, b'.');
+    let c = output::put_repeated(buf, b, b'0', zeros);
+    text_rules::digits::put_digits(buf, c, n)
+}
+
+// The exponent is e, 0 or above.
+fn put_above(buf: &mut [u8], pos: usize, n: u64, w: usize, e: u64) -> usize
+    requires { ⌜ (pos ≤ limit) × (w ≡ count 19 n) × (w ≤ 20) × (1 ≤ w) ⌝ }
+    ensures { λ r. ⌜ Wrote (now (buf .entry)) (now (buf .exit)) pos r (above (digits n) w e) ⌝ }
+{
+    if e == 0 {
+        if 6 < w {
+            return write_scientific(buf, pos, n, w, int::plus(int::far(w - 1)));
+        }
+        let a = text_rules::digits::put_digits(buf, pos, n);
+        return output::put(buf, a, b'.');
+    }
+    let a = text_rules::digits::put_digits(buf, pos, n);
+    let b = output::put(buf, a, b'd');
+    text_rules::digits::put_digits(buf, b, e)
+}
+
+// The exponent is -k.
+fn put_below(buf: &mut [u8], pos: usize, n: u64, w: usize, k: u64) -> usize
+    requires { ⌜ (pos ≤ limit) × (w ≡ count 19 n) × (w ≤ 20) × (1 ≤ w) × (1 ≤ k) × (k ≤ limit) ⌝ }
+    ensures { λ r. ⌜ Wrote (now (buf .entry)) (now (buf .exit)) pos r (below (digits n) w k) ⌝ }
+{
+    let l = int::far(w);
+    if k < l {
+        return put_pointed(buf, pos, n, w, width(l - k));
+    }
+    if k <= l + 5 {
+        return put_small(buf, pos, n, width(k - l));
+    }
+    write_scientific(buf, pos, n, w, int::minus(k - l))
+}
+
+pub fn format_text(
+    buf: &mut [u8],
+    pos: usize,
+    negative: bool,
+    magnitude: u64,
+    exponent: i32,
+) -> usize
+    requires { ⌜ pos ≤ limit ⌝ }
+    ensures { λ r. ⌜ Wrote (now (buf .entry)) (now (buf .exit)) pos r (decimalText negative magnitude exponent) ⌝ }
+{
+    let p = put_sign(buf, pos, negative);
+    let w = text_rules::digits::digit_count(magnitude);
+    let e = int::size(int::widen(exponent));
+    if exponent < 0 {
+        return put_below(buf, p, magnitude, w, e);
+    }
+    put_above(buf, p, magnitude, w, e)
+}
