@@ -3,3 +3,8 @@ pub mod DecimalLaws
 pub mod NumeralLaws
 pub mod DecimalBack
 pub mod DecimalExamples
+pub mod TimestampSigned
+pub mod TimestampPlaces
+pub mod Calendar
+pub mod TimestampBack
+pub mod TimestampExamples

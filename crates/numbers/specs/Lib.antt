@@ -1,3 +1,6 @@
 pub mod Decimal
 pub mod Numeral
 pub mod NumeralSteps
+pub mod Timestamp
+pub mod TimestampRead
+pub mod TimestampSteps

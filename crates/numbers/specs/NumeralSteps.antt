@@ -13,11 +13,6 @@ use Rattle.numbers.specs.declared.numeral.Shift.the-variants.{By, Out}
 use Rattle.numbers.specs.declared.numeral.NumeralRead.{NumeralRead}
 use Rattle.numbers.specs.declared.numeral.NumeralRead.the-variants.{Int, Decimal, Bad}
 
--- a byte stands at a place
-pub record Stands (text : List ℕ) (at b : ℕ) (r : Bool) : Type 0 where
-  pub is : r ≡ starts b (drop at text)
-  pub inside : r ≡ true → at < length text
-
 -- an exponent, or none that fits
 abbrev pub shift : Shift → Option ℤ
 shift (By x) = some x

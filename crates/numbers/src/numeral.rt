@@ -1,6 +1,7 @@
 // Ints and decimals, read from a place of a text by one scanner.
 use crate::int;
 use text_rules::digits::Joined;
+use text_rules::texts::stands;
 ghost use mathlib.Core.Path.{_≡_};
 ghost use Prim.Native.Nat.{ℕ, suc, _≤_, _<_};
 ghost use lib.IntN.{negℤ};
@@ -12,7 +13,7 @@ ghost use Rattle.output.specs.Wrote.{limit};
 ghost use Rattle.text_rules.specs.Digits.{run, past};
 ghost use Rattle.text_rules.specs.Reading.{Reads};
 ghost use Rattle.numbers.specs.Numeral.{signed, held, intOf, shifted, decimalOf, powerOf, behindD, behindPoint, behindWhole, unsigned, numeral};
-ghost use Rattle.numbers.specs.NumeralSteps.{Stands, shift, numeralRead};
+ghost use Rattle.numbers.specs.NumeralSteps.{shift, numeralRead};
 
 // A number, and the place behind it: an int, or a decimal by sign, magnitude and exponent.
 pub enum NumeralRead {
@@ -25,17 +26,6 @@ pub enum NumeralRead {
 pub enum Shift {
     By(i32),
     Out,
-}
-
-// The byte b stands at a place.
-fn stands(text: &[u8], at: usize, b: u8) -> bool
-    requires { ⌜ at ≤ length (now text) ⌝ }
-    ensures { λ r. ⌜ Stands (now (text .entry)) at b r ⌝ }
-{
-    if at == text.len() {
-        return false;
-    }
-    text[at] == b
 }
 
 // The exponent e, 0 or above.

@@ -1,3 +1,4 @@
 // The text rules, under both writers and the reader. Each rule has its text, written at a position of a lent buffer, and its reader, from
 // a place of a text.
 pub mod digits;
+pub mod texts;

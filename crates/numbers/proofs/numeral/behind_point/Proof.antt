@@ -2,7 +2,7 @@
 use native.Mathlib.Omega.{arith}
 use mathlib.Core.Path.{sym, _∙_}
 use Rattle.numbers.specs.Numeral.{behindPoint}
-use Rattle.numbers.proofs.NumeralLaws.{reads-from}
+use Rattle.text_rules.proofs.ReadingLaws.{reads-from}
 use Rattle.text_rules.proofs.Places.{next}
 use borrow.Author.Needs.{needs}
 use Rattle.numbers.proofs.numeral.behind_point.Statement.{statement}

@@ -5,7 +5,8 @@ use mathlib.Core.Path.{_≡_, sym, _∙_}
 use lib.ListN.{length, drop}
 use Rattle.numbers.specs.Numeral.{behindWhole}
 use Rattle.text_rules.specs.Digits.{run}
-use Rattle.numbers.proofs.NumeralLaws.{refused, reads-from, point-over}
+use Rattle.numbers.proofs.NumeralLaws.{point-over}
+use Rattle.text_rules.proofs.ReadingLaws.{refused, reads-from}
 use Rattle.text_rules.proofs.Places.{next}
 use borrow.Author.Needs.{needs}
 use Rattle.numbers.proofs.numeral.behind_whole.Statement.{statement}

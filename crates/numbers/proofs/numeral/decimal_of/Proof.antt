@@ -6,7 +6,8 @@ use mir.Syntax.{w32}
 use mir.ValLaws.{toZ-ofZ}
 use Rattle.numbers.specs.Numeral.{shifted}
 use Rattle.numbers.proofs.Signed.{held-some}
-use Rattle.numbers.proofs.NumeralLaws.{refused, decimal-some, decimal-none}
+use Rattle.numbers.proofs.NumeralLaws.{decimal-some, decimal-none}
+use Rattle.text_rules.proofs.ReadingLaws.{refused}
 use borrow.Author.Needs.{needs}
 use Rattle.numbers.proofs.numeral.decimal_of.Statement.{statement}
 use Rattle.numbers.proofs.numeral.decimal_of.Tie as tie

@@ -10,7 +10,8 @@ use mir.Syntax.{w64}
 use mir.Val.{SFits}
 use Rattle.numbers.specs.Numeral.{Numeral, intOf}
 use Rattle.numbers.proofs.Signed.{read-back}
-use Rattle.numbers.proofs.NumeralLaws.{refused, int-some, int-some-below, int-none, int-none-below}
+use Rattle.numbers.proofs.NumeralLaws.{int-some, int-some-below, int-none, int-none-below}
+use Rattle.text_rules.proofs.ReadingLaws.{refused}
 use borrow.Author.Needs.{needs}
 use Rattle.numbers.proofs.numeral.int_of.Statement.{statement}
 use Rattle.numbers.proofs.numeral.int_of.Tie as tie

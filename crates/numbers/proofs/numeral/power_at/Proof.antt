@@ -6,7 +6,8 @@ use lib.ListN.{length, drop}
 use Rattle.text_rules.specs.Digits.{run}
 use Rattle.numbers.specs.Numeral.{powerOf}
 use Rattle.text_rules.proofs.DigitLaws.{number-small}
-use Rattle.numbers.proofs.NumeralLaws.{refused, reads-from, power-long}
+use Rattle.numbers.proofs.NumeralLaws.{power-long}
+use Rattle.text_rules.proofs.ReadingLaws.{refused, reads-from}
 use borrow.Author.Needs.{needs}
 use Rattle.numbers.proofs.numeral.power_at.Statement.{statement}
 use Rattle.numbers.proofs.numeral.power_at.Tie as tie

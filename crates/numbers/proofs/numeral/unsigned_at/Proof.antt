@@ -6,7 +6,8 @@ use lib.ListN.{length, drop}
 use Rattle.numbers.specs.Numeral.{unsigned}
 use Rattle.text_rules.specs.Digits.{run}
 use Rattle.text_rules.proofs.DigitLaws.{whole-none, whole-one}
-use Rattle.numbers.proofs.NumeralLaws.{refused, reads-from, whole-at, unsigned-over}
+use Rattle.numbers.proofs.NumeralLaws.{whole-at, unsigned-over}
+use Rattle.text_rules.proofs.ReadingLaws.{refused, reads-from}
 use borrow.Author.Needs.{needs}
 use Rattle.numbers.proofs.numeral.unsigned_at.Statement.{statement}
 use Rattle.numbers.proofs.numeral.unsigned_at.Tie as tie

@@ -1,12 +1,12 @@
--- `numbers::numeral::stands` meets its contract. Assumes nothing.
+-- `texts::stands` meets its contract. Assumes nothing.
 use native.Mathlib.Omega.{arith}
 use mathlib.Core.Path.{sym}
 use Rattle.text_rules.proofs.Places.{byte-at, end-at}
 use Rattle.text_rules.specs.Texts.{starts}
 use Rattle.text_rules.proofs.DigitLaws.{never}
 use borrow.Author.Needs.{needs}
-use Rattle.numbers.proofs.numeral.stands.Statement.{statement}
-use Rattle.numbers.proofs.numeral.stands.Tie as tie
+use Rattle.text_rules.proofs.texts.stands.Statement.{statement}
+use Rattle.text_rules.proofs.texts.stands.Tie as tie
 
 returns : tie.Need-returns
 unfolding starts

@@ -1,0 +1,32 @@
+-- `timestamp::format_date` meets its contract. Assumes nothing.
+use Rattle.output.proofs.Laws.{wrote-then}
+use Rattle.numbers.specs.Timestamp.{date}
+use borrow.Author.Needs.{needs}
+use Rattle.numbers.proofs.timestamp.format_date.Statement.{statement}
+use Rattle.numbers.proofs.timestamp.format_date.Tie as tie
+
+format-year-and-month-requires : tie.Need-format-year-and-month-requires
+format-year-and-month-requires c κs = search needs
+
+put-requires : tie.Need-put-requires
+put-requires c κs = search needs
+
+write-zero-padded-requires : tie.Need-write-zero-padded-requires
+write-zero-padded-requires c κs = search needs
+
+same-length : tie.Need-same-length
+same-length c = search needs
+
+returns : tie.Need-returns
+unfolding date
+returns c = wrote-then (c .before .before .before .before .before .before .before .before .before .before .format-year-and-month .ensures) (wrote-then (c .before .before .before .before .before .before .put .ensures) (c .before .before .write-zero-padded .ensures))
+
+pub format-date-spec : {M : Type 1} → statement M
+format-date-spec =
+    tie.close
+    (tie.spec
+    format-year-and-month-requires
+    put-requires
+    write-zero-padded-requires
+    same-length
+    returns)

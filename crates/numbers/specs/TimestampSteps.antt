@@ -1,0 +1,33 @@
+-- What the readers of a timestamp's parts answer, in the terms of the rules. Assumes nothing: these are definitions.
+use Prim.Native.Nat.{ℕ, _<_}
+use mathlib.Core.Path.{_≡_}
+use mathlib.Core.Bool.{Bool, true, false}
+use mathlib.Core.List.{List}
+use mathlib.Core.Option.{Option, none, some}
+use lib.ListN.{length, drop}
+use lib.IntN.{ℤ, pos, negsuc}
+use Rattle.text_rules.specs.Texts.{starts}
+use Rattle.numbers.specs.declared.timestamp.Timestamp.{Timestamp}
+use Rattle.numbers.specs.declared.timestamp.TimestampRead.{TimestampRead}
+use Rattle.numbers.specs.declared.timestamp.TimestampRead.the-variants as t
+use Rattle.numbers.specs.declared.timestamp.Number.{Number}
+use Rattle.numbers.specs.declared.timestamp.Number.the-variants as n
+use Rattle.numbers.specs.declared.timestamp.Clock.{Clock}
+use Rattle.numbers.specs.declared.timestamp.Clock.the-variants as c
+
+abbrev pub timestampRead : TimestampRead → Option (Timestamp × ℕ)
+timestampRead (t.Is x end) = some (x, end)
+timestampRead t.Bad = none
+
+abbrev pub numberRead : Number → Option (ℕ × ℕ)
+numberRead (n.Is x end) = some (x, end)
+numberRead n.Bad = none
+
+abbrev pub clockRead : Clock → Option ((ℕ × ℕ) × ℕ)
+clockRead (c.Is h m end) = some ((h, m), end)
+clockRead c.Bad = none
+
+-- an offset's sign
+abbrev pub negative : ℤ → Bool
+negative (pos m) = false
+negative (negsuc m) = true
