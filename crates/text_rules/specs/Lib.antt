@@ -2,3 +2,8 @@ pub mod Digits
 pub mod DigitSteps
 pub mod Texts
 pub mod Reading
+pub mod Words
+pub mod Utf8
+pub mod Escapes
+pub mod Text
+pub mod WordSteps

@@ -1,0 +1,51 @@
+-- Which symbol text is written bare. Assumes nothing.
+use Prim.Native.Nat.{ℕ}
+use mathlib.Core.Path.{_≡_, refl, sym}
+use mathlib.Core.Bool.{Bool, true, false, _&&_, _||_, not}
+use mathlib.Core.List.{List}
+use Rattle.output.specs.Logic.{if, byte}
+use Rattle.text_rules.specs.Words.{isKeyword, resemblesSymbolId, resemblesVersionMarker, isIdentifier}
+use Rattle.text_rules.specs.Text.{marked, symbolText}
+use Rattle.text_rules.specs.WordSteps.{isBare}
+use Rattle.text_rules.proofs.DigitLaws.{never}
+
+-- a word that is bare is an identifier, and no keyword, number or version
+pub record Bare (s : List ℕ) : Type 0 where
+  pub identifier : isIdentifier s ≡ true
+  pub no-keyword : isKeyword s ≡ false
+  pub no-number : resemblesSymbolId s ≡ false
+  pub no-version : resemblesVersionMarker s ≡ false
+
+tests : (i k n v : Bool) → i && (not k && (not n && not v)) ≡ true → (i ≡ true) × (k ≡ false) × (n ≡ false) × (v ≡ false)
+tests true false false false h = (refl, refl, refl, refl)
+tests false k n v h = never (sym h)
+tests true true n v h = never (sym h)
+tests true false true v h = never (sym h)
+tests true false false true h = never (sym h)
+
+pub bare-is : (s : List ℕ) → isBare s ≡ true → Bare s
+unfolding isBare
+bare-is s h =
+    let t = tests (isIdentifier s) (isKeyword s) (resemblesSymbolId s) (resemblesVersionMarker s) h in
+    record { identifier = t .0; no-keyword = t .1; no-number = t .2; no-version = t .3 }
+
+-- the rule, by its four tests
+choice : {A : Type 0} (i k n v : Bool) (a b : A) → if (k || n || v) b (if i a b) ≡ if (i && (not k && (not n && not v))) a b
+choice true true n v a b = refl
+choice false true n v a b = refl
+choice true false true v a b = refl
+choice false false true v a b = refl
+choice true false false true a b = refl
+choice false false false true a b = refl
+choice true false false false a b = refl
+choice false false false false a b = refl
+
+symbol-choice : (s : List ℕ) → symbolText s ≡ if (isBare s) s (marked (byte "'") s)
+unfolding symbolText isBare
+symbol-choice s = choice (isIdentifier s) (isKeyword s) (resemblesSymbolId s) (resemblesVersionMarker s) s (marked (byte "'") s)
+
+pub symbol-bare : (s : List ℕ) → isBare s ≡ true → symbolText s ≡ s
+symbol-bare s h = rw (symbol-choice s, h)
+
+pub symbol-marked : (s : List ℕ) → isBare s ≡ false → symbolText s ≡ marked (byte "'") s
+symbol-marked s h = rw (symbol-choice s, h)

@@ -1,0 +1,71 @@
+-- What `text_formatter` writes: symbols, strings, clobs, nulls, bools, floats. Assumes nothing: these are definitions.
+use Prim.Native.Nat.{ℕ}
+use mathlib.Core.Bool.{Bool, true, false, _||_}
+use mathlib.Core.List.{List, [], _∷_, _++_}
+use lib.Dec.{eqb}
+use lib.Ieee.{Float, binary64, toBits, isNan}
+use Rattle.output.specs.Logic.{if, byte, ascii}
+use Rattle.text_rules.specs.Digits.{digits}
+use Rattle.text_rules.specs.Words.{isKeyword, resemblesSymbolId, resemblesVersionMarker, isIdentifier}
+use Rattle.text_rules.specs.Escapes.{textBody, clobBody}
+
+-- a symbol: its text, or its number
+pub data Sym : Type 0 where
+  text : List ℕ → Sym
+  id : ℕ → Sym
+
+-- text between two marks q, with its escapes
+abbrev pub marked : ℕ → List ℕ → List ℕ
+marked q s = q ∷ (textBody s ++ (q ∷ []))
+
+-- Text is quoted if it is true, false, nan or null, or `$` and digits, or `$ion_` digits `_` digits; else bare if it is an identifier; else quoted
+unfoldable pub symbolText : List ℕ → List ℕ
+symbolText s =
+    if (isKeyword s || resemblesSymbolId s || resemblesVersionMarker s) (marked (byte "'") s)
+    (if (isIdentifier s) s (marked (byte "'") s))
+
+-- an identifier prints `$` and its number
+unfoldable pub symbolIdText : ℕ → List ℕ
+symbolIdText n = byte "$" ∷ digits n
+
+unfoldable pub stringText : List ℕ → List ℕ
+stringText s = marked (byte "\"") s
+
+-- a clob is `{{"`, bytes, `"}}`
+unfoldable pub clobText : List ℕ → List ℕ
+clobText s = ascii "{{\"" ++ clobBody s ++ ascii "\"}}"
+
+-- the types in the tape's order; a number past 12 is no type
+unfoldable pub typeName : ℕ → List ℕ
+typeName t =
+    if (eqb t 0) (ascii "null")
+    (if (eqb t 1) (ascii "bool")
+    (if (eqb t 2) (ascii "int")
+    (if (eqb t 3) (ascii "float")
+    (if (eqb t 4) (ascii "decimal")
+    (if (eqb t 5) (ascii "timestamp")
+    (if (eqb t 6) (ascii "symbol")
+    (if (eqb t 7) (ascii "string")
+    (if (eqb t 8) (ascii "clob")
+    (if (eqb t 9) (ascii "blob")
+    (if (eqb t 10) (ascii "list")
+    (if (eqb t 11) (ascii "sexp")
+    (if (eqb t 12) (ascii "struct") []))))))))))))
+
+-- nulls print `null` or `null.` and the type
+unfoldable pub nullText : ℕ → List ℕ
+nullText t = if (eqb t 0) (ascii "null") (ascii "null." ++ typeName t)
+
+unfoldable pub boolText : Bool → List ℕ
+boolText b = if b (ascii "true") (ascii "false")
+
+-- +inf, -inf, 0e0, -0e0, by the bits of a float that is no NaN; any other float has no text
+unfoldable pub bitsText : ℕ → List ℕ
+bitsText b =
+    if (eqb b 0x7FF0_0000_0000_0000) (ascii "+inf")
+    (if (eqb b 0xFFF0_0000_0000_0000) (ascii "-inf")
+    (if (eqb b 0) (ascii "0e0")
+    (if (eqb b 0x8000_0000_0000_0000) (ascii "-0e0") [])))
+
+unfoldable pub floatText : Float → List ℕ
+floatText x = if (isNan x) (ascii "nan") (bitsText (toBits binary64 x))

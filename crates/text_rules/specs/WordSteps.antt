@@ -1,0 +1,49 @@
+-- What the contracts of the word readers say. Assumes nothing: these are definitions.
+use Prim.Native.Nat.{ℕ, _+_, _-_, _≤_}
+use mathlib.Core.Path.{_≡_}
+use mathlib.Core.Bool.{Bool, not, _&&_}
+use mathlib.Core.List.{List}
+use mathlib.Core.Option.{none, some}
+use lib.Dec.{leb}
+use lib.ListN.{length, take, drop}
+use Rattle.output.specs.Logic.{if}
+use Rattle.text_rules.specs.Texts.{strip}
+use Rattle.text_rules.specs.Digits.{past}
+use Rattle.text_rules.specs.Words.{isKeyword, resemblesSymbolId, resemblesVersionMarker, isIdentifier, word, behind, kindOf}
+use Rattle.text_rules.specs.declared.words.Word.{Word}
+use Rattle.text_rules.specs.declared.words.Kind.{Kind}
+use Rattle.text_rules.specs.declared.words.Kind.the-variants.{Number, Refused}
+
+-- the identifier bytes from a place up to r
+pub record Spanned (text : List ℕ) (at r : ℕ) : Type 0 where
+  pub ahead : at ≤ r
+  pub inside : r ≤ length text
+  pub rest : drop r text ≡ behind (drop at text)
+  pub bytes : take (r - at) (drop at text) ≡ word (drop at text)
+
+-- the digits from a place up to r are passed
+pub record Passed (text : List ℕ) (at r : ℕ) : Type 0 where
+  pub ahead : at ≤ r
+  pub inside : r ≤ length text
+  pub is : drop r text ≡ past (drop at text)
+
+-- whether a word stands at a place, and then the text behind it
+pub record WordStands (text : List ℕ) (at : ℕ) (w : List ℕ) (r : Bool) : Type 0 where
+  pub is : strip w (drop at text) ≡ if r (some (drop (at + length w) text)) none
+  pub inside : if r (at + length w) at ≤ length text
+
+-- the number of a symbol identifier, if it is below 2 to the 32nd
+abbrev pub bounded : ℕ → Kind
+bounded n = if (leb n 4_294_967_295) (Number n) Refused
+
+-- the word of identifier bytes at a place, what it is and where it ends
+pub record WordAt (text : List ℕ) (at : ℕ) (r : Word) : Type 0 where
+  pub ahead : at ≤ r .end
+  pub inside : r .end ≤ length text
+  pub rest : drop (r .end) text ≡ behind (drop at text)
+  pub bytes : take (r .end - at) (drop at text) ≡ word (drop at text)
+  pub kind : r .kind ≡ kindOf (word (drop at text))
+
+-- symbol text that is written bare
+unfoldable pub isBare : List ℕ → Bool
+isBare s = isIdentifier s && (not (isKeyword s) && (not (resemblesSymbolId s) && not (resemblesVersionMarker s)))

@@ -1,0 +1,396 @@
+// Escapes, written: the table of escape kinds, and the body of quoted text and strings.
+ghost use mathlib.Core.Path.{_≡_};
+ghost use mathlib.Core.List.{[], _∷_};
+ghost use Prim.Native.Nat.{_≤_};
+ghost use Rattle.output.specs.Logic.{byte};
+ghost use Rattle.output.specs.Wrote.{Wrote, limit};
+ghost use Rattle.text_rules.specs.Escapes.{letterOf, escapeKind, EscapeTable, textEscape, textBody};
+
+// The kind of each byte: 0 raw, 1 a short letter, 2 raw in text and `\x` with two hex digits in a clob, 3 the single quote mark, a letter in
+// text and raw in a clob. It is lent to the loops, since a constant table that is indexed is built anew at each use.
+const ESCAPES: [u8; 256] = [
+    1, // NUL
+    2,
+    2,
+    2,
+    2,
+    2,
+    2,
+    1, // 7
+    1, // 8
+    1, // tab
+    1, // LF
+    1, // 11
+    1, // 12
+    1, // CR
+    2,
+    2,
+    2,
+    2,
+    2,
+    2,
+    2,
+    2,
+    2,
+    2,
+    2,
+    2,
+    2,
+    2,
+    2,
+    2,
+    2,
+    2,
+    0, // space, hex 20
+    0,
+    1, // "
+    0,
+    0,
+    0,
+    0,
+    3, // '
+    0,
+    0,
+    0,
+    0,
+    0,
+    0,
+    0,
+    0,
+    0,
+    0,
+    0,
+    0,
+    0,
+    0,
+    0,
+    0,
+    0,
+    0,
+    0,
+    0,
+    0,
+    0,
+    0,
+    0,
+    0,
+    0,
+    0,
+    0,
+    0,
+    0,
+    0,
+    0,
+    0,
+    0,
+    0,
+    0,
+    0,
+    0,
+    0,
+    0,
+    0,
+    0,
+    0,
+    0,
+    0,
+    0,
+    0,
+    0,
+    0,
+    0,
+    0,
+    0,
+    1, // backslash
+    0,
+    0,
+    0,
+    0,
+    0,
+    0,
+    0,
+    0,
+    0,
+    0,
+    0,
+    0,
+    0,
+    0,
+    0,
+    0,
+    0,
+    0,
+    0,
+    0,
+    0,
+    0,
+    0,
+    0,
+    0,
+    0,
+    0,
+    0,
+    0,
+    0,
+    0,
+    0,
+    0,
+    0, // hex 7E
+    2, // hex 7F
+    2,
+    2,
+    2,
+    2,
+    2,
+    2,
+    2,
+    2,
+    2,
+    2,
+    2,
+    2,
+    2,
+    2,
+    2,
+    2,
+    2,
+    2,
+    2,
+    2,
+    2,
+    2,
+    2,
+    2,
+    2,
+    2,
+    2,
+    2,
+    2,
+    2,
+    2,
+    2,
+    2,
+    2,
+    2,
+    2,
+    2,
+    2,
+    2,
+    2,
+    2,
+    2,
+    2,
+    2,
+    2,
+    2,
+    2,
+    2,
+    2,
+    2,
+    2,
+    2,
+    2,
+    2,
+    2,
+    2,
+    2,
+    2,
+    2,
+    2,
+    2,
+    2,
+    2,
+    2,
+    2,
+    2,
+    2,
+    2,
+    2,
+    2,
+    2,
+    2,
+    2,
+    2,
+    2,
+    2,
+    2,
+    2,
+    2,
+    2,
+    2,
+    2,
+    2,
+    2,
+    2,
+    2,
+    2,
+    2,
+    2,
+    2,
+    2,
+    2,
+    2,
+    2,
+    2,
+    2,
+    2,
+    2,
+    2,
+    2,
+    2,
+    2,
+    2,
+    2,
+    2,
+    2,
+    2,
+    2,
+    2,
+    2,
+    2,
+    2,
+    2,
+    2,
+    2,
+    2,
+    2,
+    2,
+    2,
+    2,
+    2,
+    2,
+    2,
+    2,
+    2,
+    2,
+    2,
+    2,
+];
+
+// The table, for a caller that lends it.
+pub fn escapes() -> [u8; 256]
+    ensures { λ r. ⌜ EscapeTable r ⌝ }
+{
+    ESCAPES
+}
+
+// The letter behind a backslash; the backslash and the quote marks stand for themselves.
+fn letter_of(b: u8) -> u8
+    ensures { λ r. ⌜ r ≡ letterOf b ⌝ }
+{
+    if b == 0 {
+        return b'0';
+    }
+    if b == 7 {
+        return b'a';
+    }
+    if b == 8 {
+        return b'b';
+    }
+    if b == 9 {
+        return b't';
+    }
+    if b == 10 {
+        return b'n';
+    }
+    if b == 11 {
+        return b'v';
+    }
+    if b == 12 {
+        return b'f';
+    }
+    if b == 13 {
+        return b'r';
+    }
+    b
+}
+
+// A backslash and the letter of b.
+pub fn put_letter(buf: &mut [u8], pos: usize, b: u8) -> usize
+    requires { ⌜ pos ≤ limit ⌝ }
+    ensures { λ r. ⌜ Wrote (now (buf .entry)) (now (buf .exit)) pos r (byte "\\" ∷ letterOf b ∷ []) ⌝ }
+{
+    let p = output::put(buf, pos, b'\\');
+    output::put(buf, p, letter_of(b))
+}
+
+// One byte of text, whose kind is at hand.
+fn put_text_byte(buf: &mut [u8], pos: usize, b: u8, kind: u8) -> usize
+    requires { ⌜ (pos ≤ limit) × (kind ≡ escapeKind b) ⌝ }
+    ensures { λ r. ⌜ Wrote (now (buf .entry)) (now (buf .exit)) pos r (textEscape b) ⌝ }
+{
+    if kind == 1 {
+        return put_letter(buf, pos, b);
+    }
+    if kind == 3 {
+        return put_letter(buf, pos, b);
+    }
+    output::put(buf, pos, b)
+}
+
+// The bytes of s one by one, by the table t.
+fn put_text_by(buf: &mut [u8], pos: usize, s: &[u8], t: &[u8; 256]) -> usize
+    requires { ⌜ (pos ≤ limit) × EscapeTable (now t) ⌝ }
+    ensures { λ r. ⌜ Wrote (now (buf .entry)) (now (buf .exit)) pos r (textBody (now (s .entry))) ⌝ }
+{
+    let mut p = pos;
+    let mut i = 0;
+    while i < s.len() {
+        let b = s[i];
+        p = put_text_byte(buf, p, b, t[b as usize]);
+        i += 1;
+    }
+    p
+}
+
+// The same with the crate's table.
+fn put_text_escaped(buf: &mut [u8], pos: usize, s: &[u8]) -> usize
+    requires { ⌜ pos ≤ limit ⌝ }
+    ensures { λ r. ⌜ Wrote (now (buf .entry)) (now (buf .exit)) pos r (textBody (now (s .entry))) ⌝ }
+{
+    let t = escapes();
+    put_text_by(buf, pos, s, &t)
+}
+
+// 0 only for a byte that is raw in text. It says 1 of every control character, which keeps the test short.
+fn suspect(b: u8) -> u8
+    ensures { λ r. ⌜ (r ≡ 0 → textEscape b ≡ b ∷ []) ⌝ }
+{
+    if b < 0x20 {
+        return 1;
+    }
+    if b == b'"' {
+        return 1;
+    }
+    if b == b'\'' {
+        return 1;
+    }
+    if b == b'\\' {
+        return 1;
+    }
+    0
+}
+
+// 0 only where no byte needs an escape. There is no way out of the loop, so that the compiler makes it a vector loop.
+fn any_suspect(s: &[u8]) -> u8
+    ensures { λ r. ⌜ (r ≡ 0 → textBody (now (s .entry)) ≡ now (s .entry)) ⌝ }
+{
+    let mut n = 0;
+    let mut i = 0;
+    while i < s.len() {
+        n = n | suspect(s[i]);
+        i += 1;
+    }
+    n
+}
+
+// The body of quoted text and strings: NUL, 7 to 13, the backslash and both quote marks escaped, other characters raw.
+pub fn format_escaped_text_body(buf: &mut [u8], pos: usize, s: &[u8]) -> usize
+    requires { ⌜ pos ≤ limit ⌝ }
+    ensures { λ r. ⌜ Wrote (now (buf .entry)) (now (buf .exit)) pos r (textBody (now (s .entry))) ⌝ }
+{
+    if any_suspect(s) == 0 {
+        return output::put_bytes(buf, pos, s);
+    }
+    put_text_escaped(buf, pos, s)
+}

@@ -1,0 +1,12 @@
+pub mod QuotedSteps
+pub mod QuotedMany
+pub mod ClobSteps
+pub mod QuotedBack
+pub mod ClobBack
+pub mod Utf8Back
+pub mod TokensLaws
+pub mod SymbolSteps
+pub mod SymbolBack
+pub mod NullBack
+pub mod FloatBack
+pub mod WordsOther

@@ -1,0 +1,129 @@
+-- Symbols that are written are read back. Assumes nothing.
+use Prim.Native.Nat.{ℕ, _≤_, _<_, _^_}
+use mathlib.Core.Path.{_≡_, refl, sym, ap, _∙_}
+use mathlib.Core.List.{List, [], _∷_, _++_, append-assoc, append-nil}
+use mathlib.Core.Bool.{Bool, true, false, _||_}
+use mathlib.Core.Option.{some}
+use native.Mathlib.Omega.{arith}
+use lib.Dec.{eqb}
+use lib.ListN.{length}
+use borrow.Author.Tests.{le-leb, ne-eqb}
+use Rattle.output.specs.Logic.{byte}
+use Rattle.text_rules.specs.Digits.{isDigit, digits, past}
+use Rattle.text_rules.specs.Texts.{starts, strip, ended}
+use Rattle.text_rules.specs.Words.{isStart, isPart, word, behind, allDigits, resemblesVersionMarker, isIdentifier, symbolId, kindOf}
+use Rattle.text_rules.specs.Utf8.{valid}
+use Rattle.text_rules.specs.Escapes.{textBody}
+use Rattle.text_rules.specs.Text.{marked, symbolText, symbolIdText}
+use Rattle.text_rules.specs.Text.{Sym}
+use Rattle.tokens.specs.Token.{symbolOf, bareSymbol, quotedSymbol, symbol}
+use Rattle.text_rules.specs.WordSteps.{isBare}
+use Rattle.text_rules.specs.declared.words.Kind.{Kind}
+use Rattle.text_rules.specs.declared.words.Kind.the-variants.{Number, Text}
+use Rattle.text_rules.proofs.DigitLaws.{never, Digits, digits-digits, digits-some, digit-range, past-digits, number-digits, whole-digits}
+use Rattle.text_rules.proofs.WordsLaws.{kind-bare, dollar-number}
+use Rattle.text_rules.proofs.SymbolsText.{bare-is, symbol-bare, symbol-marked}
+use Rattle.tokens.proofs.QuotedBack.{quoted-back, single}
+use Rattle.text_rules.proofs.WordsBack.{identifier-word, Stops, stops, word-back, behind-back, behind-digits, identifier-parts, start-part, unlike}
+
+-- ---- what a bare word is read as
+
+-- a written bare symbol is symbol text, so nothing takes it for another token
+pub bare-kind : (s : List ℕ) → isBare s ≡ true → kindOf s ≡ Text
+bare-kind s h = let b = bare-is s h in kind-bare s (b .no-keyword) (b .no-version) (b .no-number) (b .identifier)
+
+word-symbol : (w r : List ℕ) (k : Kind) (x : Sym) → behind w ≡ [] → kindOf w ≡ k → symbolOf k w ≡ some x → Stops r → bareSymbol (w ++ r) ≡ some (x, r)
+unfolding bareSymbol
+word-symbol w r k x a e h s = rw (word-back w r a s, e, h, behind-back w r a s)
+
+quote-part : isPart (byte "'") ≡ false
+unfolding isPart isStart isDigit
+quote-part = refl
+
+symbol-word : (c : ℕ) (t : List ℕ) → isPart c ≡ true → symbol (c ∷ t) ≡ bareSymbol (c ∷ t)
+unfolding symbol starts
+symbol-word c t h = rw (unlike c 39 h quote-part)
+
+bare-back : (s r : List ℕ) → isBare s ≡ true → ended r ≡ true → symbol (s ++ r) ≡ some (Sym.text s, r)
+bare-back [] r h e = never (sym (let b = bare-is [] h in unfold isIdentifier in b .identifier))
+bare-back (c ∷ w) r h e =
+    let i = identifier-parts c w (bare-is (c ∷ w) h .identifier) in
+    symbol-word c (w ++ r) (start-part c (i .0))
+    ∙ word-symbol (c ∷ w) r Text (Sym.text (c ∷ w)) (i .1) (bare-kind (c ∷ w) h) refl (stops r e)
+
+-- ---- `$` and a number
+
+dollar-digits : (w : List ℕ) → 1 ≤ length w → Digits w → (allDigits w ≡ true) × (resemblesVersionMarker (byte "$" ∷ w) ≡ false)
+unfolding allDigits resemblesVersionMarker strip
+dollar-digits [] l h = absurd (omega arith)
+dollar-digits (c ∷ w) l h =
+    let d = digit-range c (h .0) in
+    let p : past w ≡ [] = ap past (sym (append-nil w)) ∙ past-digits w [] (h .1) tt in
+    (rw (h .0, p), rw (ne-eqb c 105 (λ q. omega arith)))
+
+pub id-kind : (n : ℕ) → n < 2 ^ 32 → kindOf (symbolIdText n) ≡ Number n
+unfolding symbolIdText
+id-kind n h =
+    let w = dollar-digits (digits n) (digits-some n) (digits-digits n) in
+    dollar-number (byte "$" ∷ digits n) (unfold starts in refl) (w .1) (w .0)
+    ∙ unfold symbolId in rw (whole-digits n (omega arith), number-digits n (omega arith), le-leb n 4_294_967_295 (omega arith))
+
+dollar-part : isPart (byte "$") ≡ true
+unfolding isPart isStart
+dollar-part = refl
+
+dollar-word : (n : ℕ) → behind (symbolIdText n) ≡ []
+unfolding symbolIdText behind
+dollar-word n = rw dollar-part (behind-digits (digits n) (digits-digits n))
+
+pub symbol-id-back : (n : ℕ) (r : List ℕ) → n < 2 ^ 32 → ended r ≡ true → symbol (symbolIdText n ++ r) ≡ some (Sym.id n, r)
+symbol-id-back n r h e =
+    let b : symbol (symbolIdText n ++ r) ≡ bareSymbol (symbolIdText n ++ r) = unfold symbolIdText in symbol-word 36 (digits n ++ r) dollar-part in
+    b ∙ word-symbol (symbolIdText n) r (Number n) (Sym.id n) (dollar-word n) (id-kind n h) refl (stops r e)
+
+-- ---- quoted symbols, by the round trip of quoted text
+
+marked-back : (s r : List ℕ) → valid s ≡ true → symbol (marked (byte "'") s ++ r) ≡ some (Sym.text s, r)
+unfolding symbol starts quotedSymbol
+marked-back s r h = rw (append-assoc (textBody s) (byte "'" ∷ []) r, quoted-back single s r h)
+
+pub symbol-back : (s r : List ℕ) → valid s ≡ true → ended r ≡ true → symbol (symbolText s ++ r) ≡ some (Sym.text s, r)
+symbol-back s r h e = go (isBare s) refl
+  where
+    go : (b : Bool) → isBare s ≡ b → symbol (symbolText s ++ r) ≡ some (Sym.text s, r)
+    go true i = rw (symbol-bare s i) (bare-back s r i e)
+    go false i = rw (symbol-marked s i) (marked-back s r h)
+
+-- ---- the words and first bytes of what is written, which tell a symbol from other tokens
+
+pub bare-word : (s r : List ℕ) → isBare s ≡ true → ended r ≡ true → (word (s ++ r) ≡ s) × (behind (s ++ r) ≡ r)
+bare-word s r h e = let a = identifier-word s (bare-is s h .identifier) in (word-back s r a (stops r e), behind-back s r a (stops r e))
+
+pub id-word : (n : ℕ) (r : List ℕ) → ended r ≡ true → (word (symbolIdText n ++ r) ≡ symbolIdText n) × (behind (symbolIdText n ++ r) ≡ r)
+id-word n r e = let a = dollar-word n in (word-back (symbolIdText n) r a (stops r e), behind-back (symbolIdText n) r a (stops r e))
+
+-- a text that starts with a single quote mark or as an identifier does
+pub record Begins (t : List ℕ) : Type 0 where
+  pub first : ℕ
+  pub rest : List ℕ
+  pub is : t ≡ first ∷ rest
+  pub tells : eqb first (byte "'") || isStart first ≡ true
+
+pub symbol-begins : (s : List ℕ) → Begins (symbolText s)
+symbol-begins s = go (isBare s) refl
+  where
+    or-right : (a b : Bool) → b ≡ true → a || b ≡ true
+    or-right true b h = refl
+    or-right false b h = h
+
+    bare-begins : (s : List ℕ) → isBare s ≡ true → Begins s
+    bare-begins [] h = never (sym (let b = bare-is [] h in unfold isIdentifier in b .identifier))
+    bare-begins (c ∷ w) h = record { first = c; rest = w; is = refl; tells = or-right (eqb c (byte "'")) (isStart c) (identifier-parts c w (bare-is (c ∷ w) h .identifier) .0) }
+
+    go : (b : Bool) → isBare s ≡ b → Begins (symbolText s)
+    go true i = rw (symbol-bare s i) (bare-begins s i)
+    go false i = rw (symbol-marked s i) record { first = byte "'"; rest = textBody s ++ (byte "'" ∷ []); is = refl; tells = refl }
+
+pub id-begins : (n : ℕ) → Begins (symbolIdText n)
+unfolding symbolIdText isStart
+id-begins n = record { first = byte "$"; rest = digits n; is = refl; tells = refl }

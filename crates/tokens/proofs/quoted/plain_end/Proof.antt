@@ -1,0 +1,56 @@
+-- `quoted::plain_end` meets its contract. Assumes nothing.
+use Prim.Native.Nat.{_-_}
+use mathlib.Core.Path.{sym, _∙_}
+use native.Mathlib.Omega.{arith}
+use lib.ListN.{length}
+use borrow.Author.Tests.{not-false}
+use Rattle.tokens.specs.Steps.{RunTo, isPlain}
+use Rattle.tokens.proofs.QuotedSteps.{run-more}
+use borrow.Author.Needs.{needs}
+use Rattle.tokens.proofs.quoted.plain_end.Statement.{statement}
+use Rattle.tokens.proofs.quoted.plain_end.Tie as tie
+
+abbrev Inv-loop : tie.InvT-loop
+Inv-loop text at q i₀ i = RunTo (isPlain q) text at i
+
+abbrev μ-loop : tie.MeasureT-loop
+μ-loop text at q i₀ i = length text - i
+
+loop-holds : tie.Need-loop-holds Inv-loop μ-loop
+loop-holds c = record { ahead = omega arith; inside = omega arith; each = λ k l u. absurd (omega arith) }
+
+shared-slice-read-is-plain : tie.Need-shared-slice-read-is-plain Inv-loop μ-loop
+shared-slice-read-is-plain c = search needs
+
+is-plain-requires : tie.Need-is-plain-requires Inv-loop μ-loop
+is-plain-requires c κs = search needs
+
+returns : tie.Need-returns Inv-loop μ-loop
+returns c = c .before .before .before .before .loop .inv
+
+add-i : tie.Need-add-i Inv-loop μ-loop
+add-i c = search needs
+
+loop-less : tie.Need-loop-less Inv-loop μ-loop
+loop-less c = search needs
+
+loop-again : tie.Need-loop-again Inv-loop μ-loop
+loop-again c = run-more (c .before .before .before .before .loop .inv) (c .before .before .before .loop-test .taken) (sym (c .before .is-plain .ensures) ∙ not-false _ (c .if1 .left))
+
+returns-2 : tie.Need-returns-2 Inv-loop μ-loop
+returns-2 c = c .before .loop .inv
+
+pub plain-end-spec : {M : Type 1} → statement M
+plain-end-spec =
+    tie.close
+    (tie.spec
+    Inv-loop
+    μ-loop
+    loop-holds
+    shared-slice-read-is-plain
+    is-plain-requires
+    returns
+    add-i
+    loop-less
+    loop-again
+    returns-2)

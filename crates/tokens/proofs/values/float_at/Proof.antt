@@ -1,0 +1,48 @@
+-- `values::float_at` meets its contract. A NaN is made by 0.0 / 0.0, since no float is made of a NaN's pattern. Assumes nothing.
+use lib.Ieee.{div, ofBits}
+use Rattle.tokens.proofs.TokensLaws.{nan-here, float-other}
+use borrow.Author.Needs.{needs}
+use Rattle.tokens.proofs.values.float_at.Statement.{statement}
+use Rattle.tokens.proofs.values.float_at.Tie as tie
+
+word-end-requires : tie.Need-word-end-requires
+word-end-requires c κs = search needs
+
+sub-same-word : tie.Need-sub-same-word
+sub-same-word c = search needs
+
+part-same-word-start : tie.Need-part-same-word-start
+part-same-word-start c = search needs
+
+part-same-word-end : tie.Need-part-same-word-end
+part-same-word-end c = search needs
+
+slice-aggregate-same-word : tie.Need-slice-aggregate-same-word
+slice-aggregate-same-word c = search needs
+
+same-word-requires : tie.Need-same-word-requires
+same-word-requires c κs = search needs
+
+returns : tie.Need-returns
+unfolding div ofBits
+returns c = nan-here (c .before .before .before .before .word-end .ensures) (c .before .same-word .result) (c .before .same-word .ensures) (c .if1 .taken)
+
+spelled-float-requires : tie.Need-spelled-float-requires
+spelled-float-requires c κs = search needs
+
+returns-2 : tie.Need-returns-2
+returns-2 c = float-other (c .before .before .before .before .before .word-end .ensures) (c .before .before .same-word .result) (c .before .before .same-word .ensures) (c .before .if1 .left) _ (c .spelled-float .ensures)
+
+pub float-at-spec : {M : Type 1} → statement M
+float-at-spec =
+    tie.close
+    (tie.spec
+    word-end-requires
+    sub-same-word
+    part-same-word-start
+    part-same-word-end
+    slice-aggregate-same-word
+    same-word-requires
+    returns
+    spelled-float-requires
+    returns-2)

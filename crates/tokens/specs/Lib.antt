@@ -1,0 +1,4 @@
+pub mod Quoted
+pub mod Token
+pub mod Steps
+pub mod TokenSteps

@@ -1,0 +1,92 @@
+-- Symbols, nulls, bools and floats, read from the start of a text: what was read, and the text behind it.
+-- Assumes nothing: these are definitions.
+use Prim.Native.Nat.{ℕ}
+use mathlib.Core.Bool.{Bool, true, false}
+use mathlib.Core.List.{List, [], _∷_}
+use mathlib.Core.Option.{Option, none, some}
+use lib.ListN.{drop}
+use lib.Ieee.{Float, nan, binary64, ofBits}
+use Rattle.output.specs.Logic.{if, then, or, byte, ascii}
+use Rattle.text_rules.specs.Texts.{starts, strip, same}
+use Rattle.text_rules.specs.Words.{word, behind, kindOf}
+use Rattle.text_rules.specs.Text.{Sym}
+use Rattle.tokens.specs.Quoted.{quoted}
+use Rattle.text_rules.specs.declared.words.Kind.{Kind}
+use Rattle.text_rules.specs.declared.words.Kind.the-variants.{Null, True, False, Nan, Marker, Number, Text, Refused}
+
+-- what a bare word is as a symbol: `$` and a number, or symbol text; every other kind is no symbol
+abbrev pub symbolOf : Kind → List ℕ → Option Sym
+symbolOf Text w = some (Sym.text w)
+symbolOf (Number n) w = some (Sym.id n)
+symbolOf Null w = none
+symbolOf True w = none
+symbolOf False w = none
+symbolOf Nan w = none
+symbolOf Marker w = none
+symbolOf Refused w = none
+
+unfoldable pub bareSymbol : List ℕ → Option (Sym × List ℕ)
+bareSymbol t = then (symbolOf (kindOf (word t)) (word t)) (λ s. some (s, behind t))
+
+unfoldable pub quotedSymbol : List ℕ → Option (Sym × List ℕ)
+quotedSymbol t = then (quoted (byte "'") t) (λ r. some (Sym.text (r .0), r .1))
+
+unfoldable pub symbol : List ℕ → Option (Sym × List ℕ)
+symbol t = if (starts (byte "'") t) (quotedSymbol (drop 1 t)) (bareSymbol t)
+
+-- ---- nulls
+
+-- the type that a name names behind `null.`: type 0 prints `null` alone, so `null` is none here
+unfoldable pub typeOf : List ℕ → Option ℕ
+typeOf w =
+    if (same (ascii "bool") w) (some 1)
+    (if (same (ascii "int") w) (some 2)
+    (if (same (ascii "float") w) (some 3)
+    (if (same (ascii "decimal") w) (some 4)
+    (if (same (ascii "timestamp") w) (some 5)
+    (if (same (ascii "symbol") w) (some 6)
+    (if (same (ascii "string") w) (some 7)
+    (if (same (ascii "clob") w) (some 8)
+    (if (same (ascii "blob") w) (some 9)
+    (if (same (ascii "list") w) (some 10)
+    (if (same (ascii "sexp") w) (some 11)
+    (if (same (ascii "struct") w) (some 12) none)))))))))))
+
+-- behind the word `null`: a point and a type, or nothing more
+unfoldable pub nullBehind : List ℕ → Option (ℕ × List ℕ)
+nullBehind t = if (starts (byte ".") t) (then (typeOf (word (drop 1 t))) (λ k. some (k, behind (drop 1 t)))) (some (0, t))
+
+-- a null of some type
+unfoldable pub null : List ℕ → Option (ℕ × List ℕ)
+null t = if (same (ascii "null") (word t)) (nullBehind (behind t)) none
+
+-- ---- bools
+
+abbrev pub boolOf : Kind → Option Bool
+boolOf True = some true
+boolOf False = some false
+boolOf Null = none
+boolOf Nan = none
+boolOf Marker = none
+boolOf (Number n) = none
+boolOf Text = none
+boolOf Refused = none
+
+unfoldable pub bool : List ℕ → Option (Bool × List ℕ)
+bool t = then (boolOf (kindOf (word t))) (λ b. some (b, behind t))
+
+-- ---- the five floats as printed
+
+unfoldable pub nanWord : List ℕ → Option (Float × List ℕ)
+nanWord t = if (same (ascii "nan") (word t)) (some (nan, behind t)) none
+
+-- a spelling, and the bits of the float that it prints
+unfoldable pub spelled : List ℕ → ℕ → List ℕ → Option (Float × List ℕ)
+spelled w bits t = then (strip w t) (λ r. some (ofBits binary64 bits, r))
+
+unfoldable pub float : List ℕ → Option (Float × List ℕ)
+float t =
+    or (nanWord t)
+    (or (spelled (ascii "+inf") 0x7FF0_0000_0000_0000 t)
+    (or (spelled (ascii "-inf") 0xFFF0_0000_0000_0000 t)
+    (or (spelled (ascii "0e0") 0 t) (spelled (ascii "-0e0") 0x8000_0000_0000_0000 t))))
