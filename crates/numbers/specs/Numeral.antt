@@ -1,4 +1,5 @@
--- Ints and decimals, read from the start of a text: the longest token, and the text behind it.
+-- Ints and decimals, read from the start of a text: what was begun is read as far as it goes, or refused; and the text behind it. What may
+-- stand behind a token is the sequence's to say.
 -- Assumes nothing: these are definitions.
 use Prim.Native.Nat.{ℕ, _^_}
 use lib.IntN.{ℤ, pos, negℤ, _-ℤ_}

@@ -53,7 +53,7 @@ wellFormed x =
     && offsetWell (x .precision) (x .offset)
     && fractionWell (x .precision) (x .digits) (x .fraction)
 
--- ---- their text, for any numbers in the fields
+-- ---- their text, for any numbers in the fields: outside `wellFormed` it is no text of 01's
 
 -- `YYYY-MM`
 unfoldable pub yearAndMonth : ℕ → ℕ → List ℕ

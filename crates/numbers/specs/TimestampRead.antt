@@ -85,7 +85,7 @@ zoned x o = record {
 
 -- ---- the rules, from the end of a timestamp to its start
 
--- "the ranges of values bind here too"
+-- the ranges of values bind here too
 unfoldable pub checked : Timestamp → List ℕ → Read
 checked x t = if (wellFormed x) (some (x, t)) none
 

@@ -17,7 +17,7 @@ fn put_pointed(buf: &mut [u8], pos: usize, n: u64, w: usize, k: usize) -> usize
     let left = w - k;
     let p = text_rules::digits::put_digits(buf, pos, n / text_rules::digits::pow10(left));
     let q = output::put(buf, p, b'.');
-    text_rules::digits::write_zero_padded(buf, q, n, left)
+    text_rules::digits::put_padded(buf, q, n, left)
 }
 
 // First digit, point and remaining digits, `d`, exponent.

@@ -179,9 +179,9 @@ fn format_year_and_month(buf: &mut [u8], pos: usize, year: u16, month: u8) -> us
     requires { ⌜ pos ≤ limit ⌝ }
     ensures { λ r. ⌜ Wrote (now (buf .entry)) (now (buf .exit)) pos r (yearAndMonth year month) ⌝ }
 {
-    let p = digits::write_zero_padded(buf, pos, year as u64, 4);
+    let p = digits::put_padded(buf, pos, year as u64, 4);
     let q = output::put(buf, p, b'-');
-    digits::write_zero_padded(buf, q, month as u64, 2)
+    digits::put_padded(buf, q, month as u64, 2)
 }
 
 // Writes `YYYY-MM-DD`.
@@ -191,7 +191,7 @@ fn format_date(buf: &mut [u8], pos: usize, year: u16, month: u8, day: u8) -> usi
 {
     let p = format_year_and_month(buf, pos, year, month);
     let q = output::put(buf, p, b'-');
-    digits::write_zero_padded(buf, q, day as u64, 2)
+    digits::put_padded(buf, q, day as u64, 2)
 }
 
 // Writes `hh:mm`.
@@ -199,9 +199,9 @@ fn format_hour_and_minute(buf: &mut [u8], pos: usize, hour: u16, minute: u16) ->
     requires { ⌜ pos ≤ limit ⌝ }
     ensures { λ r. ⌜ Wrote (now (buf .entry)) (now (buf .exit)) pos r (hourAndMinute hour minute) ⌝ }
 {
-    let p = digits::write_zero_padded(buf, pos, hour as u64, 2);
+    let p = digits::put_padded(buf, pos, hour as u64, 2);
     let q = output::put(buf, p, b':');
-    digits::write_zero_padded(buf, q, minute as u64, 2)
+    digits::put_padded(buf, q, minute as u64, 2)
 }
 
 // Writes `YYYY-MM-DDThh:mm`.
@@ -222,7 +222,7 @@ fn format_fractional_seconds(buf: &mut [u8], pos: usize, digits: u8, fraction: u
         return pos;
     }
     let p = output::put(buf, pos, b'.');
-    digits::write_zero_padded(buf, p, fraction as u64, digits as usize)
+    digits::put_padded(buf, p, fraction as u64, digits as usize)
 }
 
 fn format_offset(buf: &mut [u8], pos: usize, offset: i16) -> usize
@@ -248,7 +248,7 @@ pub fn format(buf: &mut [u8], pos: usize, t: Timestamp) -> usize
     ensures { λ r. ⌜ Wrote (now (buf .entry)) (now (buf .exit)) pos r (timestampText t) ⌝ }
 {
     if t.precision == 0 {
-        let p = digits::write_zero_padded(buf, pos, t.year as u64, 4);
+        let p = digits::put_padded(buf, pos, t.year as u64, 4);
         return output::put(buf, p, b'T');
     }
     if t.precision == 1 {
@@ -264,7 +264,7 @@ pub fn format(buf: &mut [u8], pos: usize, t: Timestamp) -> usize
         return format_offset(buf, p, t.offset);
     }
     let q = output::put(buf, p, b':');
-    let s = digits::write_zero_padded(buf, q, t.second as u64, 2);
+    let s = digits::put_padded(buf, q, t.second as u64, 2);
     let e = format_fractional_seconds(buf, s, t.digits, t.fraction);
     format_offset(buf, e, t.offset)
 }

@@ -3,7 +3,7 @@ use mathlib.Core.Path.{_≡_, refl, sym, ap, subst, _∙_}
 use mathlib.Core.Bool.{Bool, true, false}
 use mathlib.Core.List.{List, [], _∷_, _++_}
 use Prim.Native.Nat.{ℕ, zero, suc, _+_, _-_, _*_, _/_, _%_, _^_, _≤_, _<_}
-use native.Mathlib.Nat.{pow-suc, pow-le-pow-right, mod-eq-of-lt, div-eq-of-lt, div-le-self, le-div-iff-mul-le, div-lt-iff-lt-mul}
+use native.Mathlib.Nat.{le-of-lt, pow-suc, pow-le-pow-right, mod-eq-of-lt, div-eq-of-lt, div-le-self, le-div-iff-mul-le, div-lt-iff-lt-mul}
 use native.Mathlib.Decide.{decLe, decLt}
 use native.Mathlib.Omega.{arith}
 use lib.Dec.{lit<, lit≤}
@@ -136,3 +136,16 @@ zero-padded w n h b s =
     most : (w : ℕ) → 1 ≤ w → n < 10 ^ w → count 19 n ≤ w
     most zero s b = let bad : ⊥ = omega arith in absurd bad
     most (suc j) s b = count-most 19 j n b
+
+-- a number that has the digits needs no zeros
+pub zero-padded-long : (w n : ℕ) → w ≤ count 19 n → zeroPadded w n ≡ digits n
+unfolding zeroPadded
+zero-padded-long w n h =
+    let z : w - length (digits n) ≡ 0 = omega (arith, length-digits n) in
+    ap (λ (k : ℕ). replicate k (byte "0") ++ digits n) z
+
+pub zero-padded-short : (w n : ℕ) → n < 2 ^ 64 → count 19 n < w → zeroPadded w n ≡ pad w n
+zero-padded-short w n h l =
+    let e = count-enough 19 n (omega arith) in
+    let p : 10 ^ count 19 n ≤ 10 ^ w = pow-le-pow-right (lit< tt) (le-of-lt l) in
+    zero-padded w n h (omega arith) (omega arith)

@@ -35,7 +35,7 @@ stringText s = marked (byte "\"") s
 unfoldable pub clobText : List ℕ → List ℕ
 clobText s = ascii "{{\"" ++ clobBody s ++ ascii "\"}}"
 
--- the types in the tape's order; a number past 12 is no type
+-- the types in the tape's order; a number past 12 is no type, and what is written for it no text of 01's
 unfoldable pub typeName : ℕ → List ℕ
 typeName t =
     if (eqb t 0) (ascii "null")

@@ -29,7 +29,8 @@ same w t = on (strip w t) empty false
 unfoldable pub blank : ℕ → Bool
 blank c = eqb c (byte " ") || leb 9 c && leb c 13
 
--- what may follow a token: a blank, a comma, a closing bracket; behind a name or an annotation also a colon
+-- What may follow a token: a blank, a comma, a closing bracket; behind a name or an annotation also a colon. It serves the theorems that
+-- what is written reads back.
 unfoldable pub delimiter : ℕ → Bool
 delimiter c = blank c || eqb c (byte ",") || eqb c (byte "]") || eqb c (byte ")") || eqb c (byte "}") || eqb c (byte ":")
 

@@ -50,7 +50,8 @@ charOf a b c d =
 abbrev pub charAt : List ℕ → ℕ → ℕ
 charAt s i = charOf (getD s i 0) (getD s (i + 1) 0) (getD s (i + 2) 0) (getD s (i + 3) 0)
 
--- after n bytes that belong to a character, characters one after the other up to the end
+-- After n bytes that belong to a character, characters one after the other up to the end. A list never ends inside a character: all of its
+-- bytes were looked at when it began.
 unfoldable pub after : ℕ → List ℕ → Bool
 after n [] = true
 after (suc n) (b ∷ s) = after n s

@@ -5,7 +5,7 @@ ghost use lib.ListN.{length, drop};
 ghost use lib.Seq.{sets};
 ghost use Rattle.output.specs.Logic.{byte};
 ghost use Rattle.output.specs.Wrote.{Wrote, limit};
-ghost use Rattle.text_rules.specs.Digits.{digit, pad, count, digits, isDigit};
+ghost use Rattle.text_rules.specs.Digits.{digit, pad, count, digits, zeroPadded, isDigit};
 ghost use Rattle.text_rules.specs.DigitSteps.{Led, Ran};
 
 // Ten to the power k.
@@ -208,7 +208,7 @@ fn digit_before(n: u64, k: usize) -> u8
 }
 
 // The w lowest digits of n as far as there is room.
-fn put_padded(buf: &mut [u8], pos: usize, n: u64, w: usize) -> usize
+fn pad_clipped(buf: &mut [u8], pos: usize, n: u64, w: usize) -> usize
     requires { ⌜ pos ≤ limit ⌝ }
     ensures { λ r. ⌜ Wrote (now (buf .entry)) (now (buf .exit)) pos r (pad w n) ⌝ }
 {
@@ -222,7 +222,7 @@ fn put_padded(buf: &mut [u8], pos: usize, n: u64, w: usize) -> usize
 }
 
 // The w lowest digits of n, with leading zeros.
-pub fn write_zero_padded(buf: &mut [u8], pos: usize, n: u64, w: usize) -> usize
+pub fn put_padded(buf: &mut [u8], pos: usize, n: u64, w: usize) -> usize
     requires { ⌜ pos ≤ limit ⌝ }
     ensures { λ r. ⌜ Wrote (now (buf .entry)) (now (buf .exit)) pos r (pad w n) ⌝ }
 {
@@ -232,7 +232,7 @@ pub fn write_zero_padded(buf: &mut [u8], pos: usize, n: u64, w: usize) -> usize
             return pos + w;
         }
     }
-    put_padded(buf, pos, n, w)
+    pad_clipped(buf, pos, n, w)
 }
 
 // Plain decimal.
@@ -246,6 +246,17 @@ pub fn put_digits(buf: &mut [u8], pos: usize, n: u64) -> usize
         }
     }
     let w = digit_count(n);
+    pad_clipped(buf, pos, n, w)
+}
+
+// Plain decimal, left-padded with zeros to at least w digits.
+pub fn write_zero_padded(buf: &mut [u8], pos: usize, n: u64, w: usize) -> usize
+    requires { ⌜ pos ≤ limit ⌝ }
+    ensures { λ r. ⌜ Wrote (now (buf .entry)) (now (buf .exit)) pos r (zeroPadded w n) ⌝ }
+{
+    if w <= digit_count(n) {
+        return put_digits(buf, pos, n);
+    }
     put_padded(buf, pos, n, w)
 }
 

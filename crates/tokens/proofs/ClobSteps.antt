@@ -8,7 +8,7 @@ use lib.ListN.{length, drop}
 use Rattle.output.specs.Logic.{ascii}
 use Rattle.text_rules.specs.Texts.{strip}
 use Rattle.tokens.specs.Quoted.{clobBytes, clob}
-use Rattle.tokens.specs.Steps.{Stripped}
+use Rattle.text_rules.specs.WordSteps.{WordStands}
 
 module _ (t : List ℕ) where
   pub clob-unopened : strip (ascii "{{\"") t ≡ none → clob t ≡ none
@@ -27,8 +27,8 @@ module _ (t : List ℕ) where
   unfolding clob
   clob-whole u x v r e g k = rw (e, g, k)
 
-pub stripped-no : {text : List ℕ} {at : ℕ} {w : List ℕ} {r : Bool} → Stripped text at w r → r ≡ false → strip w (drop at text) ≡ none
+pub stripped-no : {text : List ℕ} {at : ℕ} {w : List ℕ} {r : Bool} → WordStands text at w r → r ≡ false → strip w (drop at text) ≡ none
 stripped-no s e = s .is ∙ rw e
 
-pub stripped-yes : {text : List ℕ} {at : ℕ} {w : List ℕ} {r : Bool} → Stripped text at w r → r ≡ true → (strip w (drop at text) ≡ some (drop (at + length w) text)) × (at + length w ≤ length text)
-stripped-yes s e = (s .is ∙ rw e, s .inside e)
+pub stripped-yes : {text : List ℕ} {at : ℕ} {w : List ℕ} {r : Bool} → WordStands text at w r → r ≡ true → (strip w (drop at text) ≡ some (drop (at + length w) text)) × (at + length w ≤ length text)
+stripped-yes s e = (s .is ∙ rw e, rw e at (s .inside))

@@ -10,7 +10,7 @@ use Rattle.text_rules.specs.Texts.{starts, strip}
 use Rattle.text_rules.specs.Utf8.{charAt, isScalar, utf8}
 use Rattle.text_rules.specs.Escapes.{letter, hex}
 
--- the text behind the byte b that it starts with
+-- the text behind the mark q that it starts with
 unfoldable pub quote : ℕ → List ℕ → Option (List ℕ)
 quote q [] = none
 quote q (c ∷ t) = if (eqb c q) (some t) none
@@ -32,7 +32,8 @@ escape t =
     (if (starts (byte "U") t) (scalarEscape 8 (drop 1 t))
     (letterEscape t)))
 
--- A raw byte that may start a character of quoted text: no LF, no CR. Control characters are accepted because the Rust writes them.
+-- A byte that is no line's end. The mark and the backslash are looked for before, and whether it starts a character is UTF-8's to say.
+-- Control characters are accepted because the Rust writes them.
 unfoldable pub isRaw : ℕ → Bool
 isRaw c = if (eqb c 10 || eqb c 13) false true
 

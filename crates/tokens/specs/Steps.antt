@@ -8,7 +8,6 @@ use lib.Dec.{eqb, leb, ltb}
 use lib.ListN.{length, take, drop, getD}
 use Rattle.output.specs.Logic.{if, byte}
 use Rattle.output.specs.Wrote.{Wrote}
-use Rattle.text_rules.specs.Texts.{strip}
 use Rattle.text_rules.specs.Escapes.{hex}
 use Rattle.tokens.specs.Quoted.{isRaw}
 use Rattle.tokens.specs.declared.quoted.Step.{Step}
@@ -55,8 +54,3 @@ pub record RunTo (p : ℕ → Bool) (text : List ℕ) (at r : ℕ) : Type 0 wher
   pub ahead : at ≤ r
   pub inside : r ≤ length text
   pub each : (k : ℕ) → at ≤ k → k < r → p (getD text k 0) ≡ true
-
--- whether the word w stands at a place
-pub record Stripped (text : List ℕ) (at : ℕ) (w : List ℕ) (r : Bool) : Type 0 where
-  pub is : strip w (drop at text) ≡ if r (some (drop (at + length w) text)) none
-  pub inside : r ≡ true → at + length w ≤ length text

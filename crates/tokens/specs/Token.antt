@@ -31,6 +31,7 @@ bareSymbol t = then (symbolOf (kindOf (word t)) (word t)) (λ s. some (s, behind
 unfoldable pub quotedSymbol : List ℕ → Option (Sym × List ℕ)
 quotedSymbol t = then (quoted (byte "'") t) (λ r. some (Sym.text (r .0), r .1))
 
+-- a symbol. `'''` starting a token is refused because of what would follow: the empty symbol is read, and a quote mark may not stand behind it
 unfoldable pub symbol : List ℕ → Option (Sym × List ℕ)
 symbol t = if (starts (byte "'") t) (quotedSymbol (drop 1 t)) (bareSymbol t)
 

@@ -55,7 +55,7 @@ spelledFloat t =
     (or (spelled (ascii "-inf") 0xFFF0_0000_0000_0000 t)
     (or (spelled (ascii "0e0") 0 t) (spelled (ascii "-0e0") 0x8000_0000_0000_0000 t)))
 
--- A symbol was read up to a place behind lo and its text written at p; or it is a number, and the buffer is as it was; or there is none,
+-- A symbol was read up to a place that is lo at least and its text written at p; or it is a number, and the buffer is as it was; or there is none,
 -- and the buffer keeps its length.
 abbrev pub SymbolTold : List ℕ → ℕ → List ℕ → List ℕ → ℕ → Option (Sym × List ℕ) → SymbolRead → Type 0
 SymbolTold text lo b b' p o (S.Text at pos) = (w : List ℕ) × (o ≡ some (Sym.text w, drop at text)) × (lo ≤ at) × (at ≤ length text) × Wrote b b' p pos w

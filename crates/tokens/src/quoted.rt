@@ -10,7 +10,7 @@ ghost use Rattle.output.specs.Wrote.{Wrote, limit};
 ghost use Rattle.text_rules.specs.Utf8.{utf8};
 ghost use Rattle.text_rules.specs.Escapes.{letter, hexValue, hex};
 ghost use Rattle.tokens.specs.Quoted.{scalarEscape, letterEscape, escape, raw, character, quoted, byteEscape, clobByte, clobBytes, clob};
-ghost use Rattle.tokens.specs.Steps.{Copies, below, ownLetter, HexAt, isPlain, isPlainByte, RunTo, Stripped};
+ghost use Rattle.tokens.specs.Steps.{Copies, below, ownLetter, HexAt, isPlain, isPlainByte, RunTo};
 
 // Something was read up to `at`, and its bytes written up to `pos`; or nothing.
 pub enum Step {
@@ -399,36 +399,18 @@ fn clob_bytes_at(text: &[u8], at: usize, buf: &mut [u8], pos: usize) -> Step
     }
 }
 
-// Whether the bytes of w stand at a place.
-fn follows(text: &[u8], at: usize, w: &[u8]) -> bool
-    requires { ⌜ at ≤ length (now text) ⌝ }
-    ensures { λ r. ⌜ Stripped (now (text .entry)) at (now (w .entry)) r ⌝ }
-{
-    let mut i = 0;
-    while i < w.len() {
-        if text.len() - at <= i {
-            return false;
-        }
-        if text[at + i] != w[i] {
-            return false;
-        }
-        i += 1;
-    }
-    true
-}
-
 // A clob: `{{"`, bytes, `"}}`.
 pub fn clob_at(text: &[u8], at: usize, buf: &mut [u8], pos: usize) -> Step
     requires { ⌜ (at ≤ length (now text)) × (pos ≤ limit) ⌝ }
     ensures { λ r. ⌜ Copies (now (text .entry)) (suc at) (now (buf .entry)) (now (buf .exit)) pos (clob (drop at (now (text .entry)))) r ⌝ }
 {
-    if !follows(text, at, b"{{\"") {
+    if !text_rules::words::word_stands(text, at, b"{{\"") {
         return Step::Bad;
     }
     let Step::Next { at: end, pos: p } = clob_bytes_at(text, at + 3, buf, pos) else {
         return Step::Bad;
     };
-    if !follows(text, end, b"}}") {
+    if !text_rules::words::word_stands(text, end, b"}}") {
         return Step::Bad;
     }
     Step::Next {

@@ -23,8 +23,8 @@ put-digits-requires c κs = search needs
 put-requires : tie.Need-put-requires
 put-requires c κs = search needs
 
-write-zero-padded-requires : tie.Need-write-zero-padded-requires
-write-zero-padded-requires c κs = search needs
+put-padded-requires : tie.Need-put-padded-requires
+put-padded-requires c κs = search needs
 
 same-length : tie.Need-same-length
 same-length c = search needs
@@ -35,7 +35,7 @@ returns c =
     let q = c .before .before .before .before .before .before .before .before .before .before .before .before .before .before .pre in
     let h : x .k + (x .w - x .k) ≡ x .w = omega (arith, q .4) in
     let v = rw (c .before .before .before .before .before .before .before .before .before .before .before .pow10 .ensures .0) at (c .before .before .before .before .before .before .before .before .before .before .put-digits .ensures) in
-    rw (sym (pointed-parts (x .k) (x .w - x .k) (x .n) (omega arith) (q .3) (h ∙ q .1))) (wrote-then v (wrote-then (c .before .before .before .before .before .before .put .ensures) (c .before .before .write-zero-padded .ensures)))
+    rw (sym (pointed-parts (x .k) (x .w - x .k) (x .n) (omega arith) (q .3) (h ∙ q .1))) (wrote-then v (wrote-then (c .before .before .before .before .before .before .put .ensures) (c .before .before .put-padded .ensures)))
 
 pub put-pointed-spec : {M : Type 1} → statement M
 put-pointed-spec =
@@ -46,6 +46,6 @@ put-pointed-spec =
     div-put-digits
     put-digits-requires
     put-requires
-    write-zero-padded-requires
+    put-padded-requires
     same-length
     returns)

@@ -8,11 +8,11 @@ use borrow.Author.Needs.{needs}
 use Rattle.numbers.proofs.timestamp.format.Statement.{statement}
 use Rattle.numbers.proofs.timestamp.format.Tie as tie
 
-cast-write-zero-padded : tie.Need-cast-write-zero-padded
-cast-write-zero-padded c = search needs
+cast-put-padded : tie.Need-cast-put-padded
+cast-put-padded c = search needs
 
-write-zero-padded-requires : tie.Need-write-zero-padded-requires
-write-zero-padded-requires c κs = search needs
+put-padded-requires : tie.Need-put-padded-requires
+put-padded-requires c κs = search needs
 
 put-requires : tie.Need-put-requires
 put-requires c κs = search needs
@@ -22,7 +22,7 @@ same-length c = search needs
 
 returns : tie.Need-returns
 unfolding timestampText
-returns c = rw (eq-eqb _ _ (c .before .before .before .before .before .before .before .before .before .if1 .taken)) (wrote-then (c .before .before .before .before .before .before .write-zero-padded .ensures) (c .before .before .put .ensures))
+returns c = rw (eq-eqb _ _ (c .before .before .before .before .before .before .before .before .before .if1 .taken)) (wrote-then (c .before .before .before .before .before .before .put-padded .ensures) (c .before .before .put .ensures))
 
 format-year-and-month-requires : tie.Need-format-year-and-month-requires
 format-year-and-month-requires c κs = search needs
@@ -69,11 +69,11 @@ returns-4 c =
 put-requires-4 : tie.Need-put-requires-4
 put-requires-4 c κs = search needs
 
-cast-write-zero-padded-2 : tie.Need-cast-write-zero-padded-2
-cast-write-zero-padded-2 c = search needs
+cast-put-padded-2 : tie.Need-cast-put-padded-2
+cast-put-padded-2 c = search needs
 
-write-zero-padded-requires-2 : tie.Need-write-zero-padded-requires-2
-write-zero-padded-requires-2 c κs = search needs
+put-padded-requires-2 : tie.Need-put-padded-requires-2
+put-padded-requires-2 c κs = search needs
 
 format-fractional-seconds-requires : tie.Need-format-fractional-seconds-requires
 format-fractional-seconds-requires c κs = search needs
@@ -91,7 +91,7 @@ returns-5 c =
     rw (ne-eqb _ _ (c .before .before .before .before .before .before .before .before .before .before .before .before .before .before .before .before .before .before .before .before .before .before .before .before .before .before .before .before .if1 .left), ne-eqb _ _ (c .before .before .before .before .before .before .before .before .before .before .before .before .before .before .before .before .before .before .before .before .before .before .before .before .before .before .if2 .left), ne-eqb _ _ (c .before .before .before .before .before .before .before .before .before .before .before .before .before .before .before .before .before .before .before .before .before .before .before .before .if3 .left), ne-eqb _ _ (c .before .before .before .before .before .before .before .before .before .before .before .before .before .before .before .before .before .before .if4 .left))
     (wrote-then
     (wrote-then
-    (wrote-then (c .before .before .before .before .before .before .before .before .before .before .before .before .before .before .before .before .before .before .before .before .before .before .format-date-hour-and-minute .ensures) (wrote-then (c .before .before .before .before .before .before .before .before .before .before .before .before .before .before .before .before .put4 .ensures) (c .before .before .before .before .before .before .before .before .before .before .before .write-zero-padded2 .ensures)))
+    (wrote-then (c .before .before .before .before .before .before .before .before .before .before .before .before .before .before .before .before .before .before .before .before .before .before .format-date-hour-and-minute .ensures) (wrote-then (c .before .before .before .before .before .before .before .before .before .before .before .before .before .before .before .before .put4 .ensures) (c .before .before .before .before .before .before .before .before .before .before .before .put-padded2 .ensures)))
     (c .before .before .before .before .before .before .before .format-fractional-seconds .ensures))
     (rw z at (c .before .before .format-offset2 .ensures)))
 
@@ -99,8 +99,8 @@ pub format-spec : {M : Type 1} → statement M
 format-spec =
     tie.close
     (tie.spec
-    cast-write-zero-padded
-    write-zero-padded-requires
+    cast-put-padded
+    put-padded-requires
     put-requires
     same-length
     returns
@@ -117,8 +117,8 @@ format-spec =
     same-length-4
     returns-4
     put-requires-4
-    cast-write-zero-padded-2
-    write-zero-padded-requires-2
+    cast-put-padded-2
+    put-padded-requires-2
     format-fractional-seconds-requires
     format-offset-requires-2
     same-length-5

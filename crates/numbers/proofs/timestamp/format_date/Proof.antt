@@ -11,15 +11,15 @@ format-year-and-month-requires c κs = search needs
 put-requires : tie.Need-put-requires
 put-requires c κs = search needs
 
-write-zero-padded-requires : tie.Need-write-zero-padded-requires
-write-zero-padded-requires c κs = search needs
+put-padded-requires : tie.Need-put-padded-requires
+put-padded-requires c κs = search needs
 
 same-length : tie.Need-same-length
 same-length c = search needs
 
 returns : tie.Need-returns
 unfolding date
-returns c = wrote-then (c .before .before .before .before .before .before .before .before .before .before .format-year-and-month .ensures) (wrote-then (c .before .before .before .before .before .before .put .ensures) (c .before .before .write-zero-padded .ensures))
+returns c = wrote-then (c .before .before .before .before .before .before .before .before .before .before .format-year-and-month .ensures) (wrote-then (c .before .before .before .before .before .before .put .ensures) (c .before .before .put-padded .ensures))
 
 pub format-date-spec : {M : Type 1} → statement M
 format-date-spec =
@@ -27,6 +27,6 @@ format-date-spec =
     (tie.spec
     format-year-and-month-requires
     put-requires
-    write-zero-padded-requires
+    put-padded-requires
     same-length
     returns)

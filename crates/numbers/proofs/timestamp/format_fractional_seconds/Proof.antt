@@ -13,16 +13,16 @@ returns c = rw (eq-eqb _ _ (c .if1 .taken)) (wrote-none _ _ (search needs) (sear
 put-requires : tie.Need-put-requires
 put-requires c κs = search needs
 
-write-zero-padded-requires : tie.Need-write-zero-padded-requires
-write-zero-padded-requires c κs = search needs
+put-padded-requires : tie.Need-put-padded-requires
+put-padded-requires c κs = search needs
 
 same-length : tie.Need-same-length
 same-length c = search needs
 
 returns-2 : tie.Need-returns-2
 unfolding fractionalSeconds
-returns-2 c = rw (ne-eqb _ _ (c .before .before .before .before .before .before .before .before .if1 .left)) (wrote-then (c .before .before .before .before .before .before .put .ensures) (c .before .before .write-zero-padded .ensures))
+returns-2 c = rw (ne-eqb _ _ (c .before .before .before .before .before .before .before .before .if1 .left)) (wrote-then (c .before .before .before .before .before .before .put .ensures) (c .before .before .put-padded .ensures))
 
 pub format-fractional-seconds-spec : {M : Type 1} → statement M
 format-fractional-seconds-spec =
-    tie.close (tie.spec returns put-requires write-zero-padded-requires same-length returns-2)
+    tie.close (tie.spec returns put-requires put-padded-requires same-length returns-2)

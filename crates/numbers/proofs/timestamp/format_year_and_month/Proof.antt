@@ -5,28 +5,28 @@ use borrow.Author.Needs.{needs}
 use Rattle.numbers.proofs.timestamp.format_year_and_month.Statement.{statement}
 use Rattle.numbers.proofs.timestamp.format_year_and_month.Tie as tie
 
-write-zero-padded-requires : tie.Need-write-zero-padded-requires
-write-zero-padded-requires c κs = search needs
+put-padded-requires : tie.Need-put-padded-requires
+put-padded-requires c κs = search needs
 
 put-requires : tie.Need-put-requires
 put-requires c κs = search needs
 
-write-zero-padded-requires-2 : tie.Need-write-zero-padded-requires-2
-write-zero-padded-requires-2 c κs = search needs
+put-padded-requires-2 : tie.Need-put-padded-requires-2
+put-padded-requires-2 c κs = search needs
 
 same-length : tie.Need-same-length
 same-length c = search needs
 
 returns : tie.Need-returns
 unfolding yearAndMonth
-returns c = wrote-then (c .before .before .before .before .before .before .before .before .before .before .write-zero-padded .ensures) (wrote-then (c .before .before .before .before .before .before .put .ensures) (c .before .before .write-zero-padded2 .ensures))
+returns c = wrote-then (c .before .before .before .before .before .before .before .before .before .before .put-padded .ensures) (wrote-then (c .before .before .before .before .before .before .put .ensures) (c .before .before .put-padded2 .ensures))
 
 pub format-year-and-month-spec : {M : Type 1} → statement M
 format-year-and-month-spec =
     tie.close
     (tie.spec
-    write-zero-padded-requires
+    put-padded-requires
     put-requires
-    write-zero-padded-requires-2
+    put-padded-requires-2
     same-length
     returns)

@@ -27,15 +27,15 @@ returns c =
 digit-count-requires : tie.Need-digit-count-requires
 digit-count-requires c κs = search needs
 
-put-padded-requires : tie.Need-put-padded-requires
-put-padded-requires c κs = search needs
+pad-clipped-requires : tie.Need-pad-clipped-requires
+pad-clipped-requires c κs = search needs
 
 same-length-2 : tie.Need-same-length-2
 same-length-2 c = search needs
 
 returns-2 : tie.Need-returns-2
 unfolding digits
-returns-2 c = rw (c .before .before .before .before .digit-count .ensures .0) at (c .before .before .put-padded .ensures)
+returns-2 c = rw (c .before .before .before .before .digit-count .ensures .0) at (c .before .before .pad-clipped .ensures)
 
 pub put-digits-spec : {M : Type 1} → statement M
 put-digits-spec =
@@ -46,6 +46,6 @@ put-digits-spec =
     same-length
     returns
     digit-count-requires
-    put-padded-requires
+    pad-clipped-requires
     same-length-2
     returns-2)

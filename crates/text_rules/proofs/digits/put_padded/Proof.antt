@@ -1,63 +1,48 @@
--- `digits::put_padded` meets its contract. The invariant: the digits written and the k lowest that are left are the whole. Assumes nothing.
-use mathlib.Core.Path.{_≡_, sym, ap, _∙_}
-use mathlib.Core.List.{List, _∷_}
-use Prim.Native.Nat.{ℕ, suc, _-_}
+-- `digits::put_padded` meets its contract. Assumes nothing.
 use native.Mathlib.Omega.{arith}
-use Rattle.output.proofs.Laws.{Progress, start, more, finish, wrote-length}
-use Rattle.text_rules.specs.Digits.{pad}
-use Rattle.text_rules.proofs.DigitLaws.{pad-first}
+use Rattle.text_rules.proofs.DigitLaws.{length-pad}
 use borrow.Author.Needs.{needs}
 use Rattle.text_rules.proofs.digits.put_padded.Statement.{statement}
 use Rattle.text_rules.proofs.digits.put_padded.Tie as tie
 
-abbrev Inv-loop : tie.InvT-loop
-Inv-loop buf₀ pos n w p₀ k₀ buf p k = Progress buf₀ buf pos p (pad w n) (pad k n)
+sub-if2 : tie.Need-sub-if2
+sub-if2 c = search needs
 
-abbrev μ-loop : tie.MeasureT-loop
-μ-loop buf₀ pos n w p₀ k₀ buf p k = k
+fill-padded-requires : tie.Need-fill-padded-requires
+fill-padded-requires c κs = search needs
 
-loop-holds : tie.Need-loop-holds Inv-loop μ-loop
-loop-holds c = start _ _ _ (search needs) (search needs)
+add-result : tie.Need-add-result
+add-result c = search needs
 
-sub-k : tie.Need-sub-k Inv-loop μ-loop
-sub-k c = search needs
+same-length : tie.Need-same-length
+same-length c = search needs
 
-digit-before-requires : tie.Need-digit-before-requires Inv-loop μ-loop
-digit-before-requires c κs = search needs
-
-put-requires : tie.Need-put-requires Inv-loop μ-loop
-put-requires c κs = search needs
-
-loop-less : tie.Need-loop-less Inv-loop μ-loop
-loop-less c = search needs
-
-loop-again : tie.Need-loop-again Inv-loop μ-loop
-loop-again c =
-    let l = c .before .before .before .before .before .before .loop in
-    let n = c .before .before .before .before .before .before .before .before .args .n in
-    let e : l .k ≡ suc (l .k - 1) = omega arith in
-    more (l .inv) (c .before .before .put .ensures) (ap (λ (k : ℕ). pad k n) e ∙ pad-first (l .k - 1) n ∙ ap (λ (d : ℕ). d ∷ pad (l .k - 1) n) (sym (c .before .before .before .digit-before .ensures)))
-
-same-length : tie.Need-same-length Inv-loop μ-loop
-same-length c = wrote-length (c .before .loop .inv .wrote)
-
-returns : tie.Need-returns Inv-loop μ-loop
-unfolding pad
+returns : tie.Need-returns
 returns c =
-    let z : c .before .loop .k ≡ 0 = omega arith in
-    finish (c .before .loop .inv) (ap (λ (k : ℕ). pad k (c .before .before .before .args .n)) z)
+    record {
+      bytes = c .before .before .fill-padded .ensures;
+      count = omega (arith, length-pad (c .before .before .before .before .before .before .before .args .w) (c .before .before .before .before .before .before .before .args .n));
+      room = search needs;
+    }
+
+pad-clipped-requires : tie.Need-pad-clipped-requires
+pad-clipped-requires c κs = search needs
+
+same-length-2 : tie.Need-same-length-2
+same-length-2 c = search needs
+
+returns-2 : tie.Need-returns-2
+returns-2 c = search needs
 
 pub put-padded-spec : {M : Type 1} → statement M
 put-padded-spec =
     tie.close
     (tie.spec
-    Inv-loop
-    μ-loop
-    loop-holds
-    sub-k
-    digit-before-requires
-    put-requires
-    loop-less
-    loop-again
+    sub-if2
+    fill-padded-requires
+    add-result
     same-length
-    returns)
+    returns
+    pad-clipped-requires
+    same-length-2
+    returns-2)

@@ -1,0 +1,36 @@
+/* Times ion_write over tape files: thread processor time, best of many. Usage: bench LAYOUT FILE.. */
+#include <stdint.h>
+#include <stdio.h>
+#include <stdlib.h>
+#include <time.h>
+
+int64_t ion_write(uint32_t layout, const uint8_t *tape, size_t tape_length, uint8_t *out, size_t out_length);
+
+static double now(void) {
+    struct timespec t;
+    clock_gettime(CLOCK_THREAD_CPUTIME_ID, &t);
+    return t.tv_sec * 1e9 + t.tv_nsec;
+}
+
+static uint8_t tape[1 << 20], out[1 << 24];
+
+int main(int count, char **words) {
+    uint32_t layout = atoi(words[1]);
+    for (int k = 2; k < count; k++) {
+        FILE *f = fopen(words[k], "rb");
+        if (!f) return 1;
+        size_t n = fread(tape, 1, sizeof tape, f);
+        fclose(f);
+        int turns = 1 + 200000 / (int)(n + 20), runs = 300;
+        double best = 1e18;
+        int64_t r = 0;
+        for (int i = 0; i < runs; i++) {
+            double a = now();
+            for (int j = 0; j < turns; j++) r = ion_write(layout, tape, n, out, sizeof out);
+            double d = (now() - a) / turns;
+            if (d < best) best = d;
+        }
+        printf("%s %lld %.1f\n", words[k], (long long)r, best);
+    }
+    return 0;
+}
