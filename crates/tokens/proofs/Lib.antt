@@ -10,3 +10,4 @@ pub mod SymbolBack
 pub mod NullBack
 pub mod FloatBack
 pub mod WordsOther
+pub mod TokenExamples

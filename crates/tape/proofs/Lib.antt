@@ -1,0 +1,15 @@
+pub mod Numbers
+pub mod Parts
+pub mod Reading
+pub mod Walking
+pub mod Ranges
+pub mod Accepted
+pub mod FineBack
+pub mod FineBytes
+pub mod CodeReading
+pub mod CodeFloats
+pub mod CodeChild
+pub mod CodeFacts
+pub mod Turns
+pub mod CodeWalk
+pub mod CodeVerdict

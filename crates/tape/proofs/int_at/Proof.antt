@@ -1,0 +1,45 @@
+-- `tape::int_at` meets its contract. Assumes nothing.
+use mathlib.Core.Path.{sym}
+use native.Mathlib.Omega.{arith}
+use denote.Ref.{now}
+use mir.Syntax.{w64}
+use mir.Val.{SFits}
+use mir.ValLaws.{toZ-ofZ}
+use Rattle.tape.proofs.Parts.{part-length, part-number}
+use Rattle.tape.proofs.CodeReading.{int-short, int-some}
+use borrow.Author.Needs.{needs}
+use Rattle.tape.proofs.int_at.Statement.{statement}
+use Rattle.tape.proofs.int_at.Tie as tie
+
+sub-if1 : tie.Need-sub-if1
+sub-if1 c = search needs
+
+returns : tie.Need-returns
+returns c =
+    let s = c .before .before in
+    let a = s .args in
+    let n = part-length (now (a .tape)) (a .at) (a .end) (s .pre .1) in
+    sym (int-short _ (omega arith))
+
+add-u64-at : tie.Need-add-u64-at
+add-u64-at c = search needs
+
+u64-at-requires : tie.Need-u64-at-requires
+u64-at-requires c κs = search needs
+
+signed64-requires : tie.Need-signed64-requires
+signed64-requires c κs = search needs
+
+returns-2 : tie.Need-returns-2
+returns-2 c =
+    let s = c .before .before .before .before in
+    let a = s .args in
+    let n = part-length (now (a .tape)) (a .at) (a .end) (s .pre .1) in
+    let z = c .signed64 .result in
+    let k : SFits w64 z = search needs in
+    let u = part-number (now (a .tape)) (a .at) (a .end) 8 1 (omega arith) in
+    rw (toZ-ofZ w64 z k, c .signed64 .ensures, c .before .u64-at .ensures, ← u) (sym (int-some _ (omega arith)))
+
+pub int-at-spec : {M : Type 1} → statement M
+int-at-spec =
+    tie.close (tie.spec sub-if1 returns add-u64-at u64-at-requires signed64-requires returns-2)

@@ -1,0 +1,53 @@
+-- `tape::name_end` meets its contract. Assumes nothing.
+use mathlib.Core.Path.{ap, _∙_}
+use native.Mathlib.Omega.{arith}
+use Rattle.tape.specs.Tape.{nameOf}
+use Rattle.tape.specs.declared.Place.the-variants.{At}
+use Rattle.tape.proofs.CodeReading.{name-struct}
+use borrow.Author.Needs.{needs}
+use Rattle.tape.proofs.name_end.Statement.{statement}
+use Rattle.tape.proofs.name_end.Tie as tie
+
+enum-told : tie.Need-enum-told
+enum-told c = search needs
+
+sym-end-requires : tie.Need-sym-end-requires
+sym-end-requires c κs = search needs
+
+enum-told-2 : tie.Need-enum-told-2
+enum-told-2 c = search needs
+
+enum-told-3 : tie.Need-enum-told-3
+enum-told-3 c = search needs
+
+enum-told-4 : tie.Need-enum-told-4
+enum-told-4 c = search needs
+
+returns : tie.Need-returns
+returns c = rw (c .before .enum-told .given .1) (c .sym-end .ensures ∙ name-struct _ _)
+
+returns-2 : tie.Need-returns-2
+unfolding nameOf
+returns-2 c = rw (c .enum-told2 .given .1) (ap At (omega arith))
+
+returns-3 : tie.Need-returns-3
+unfolding nameOf
+returns-3 c = rw (c .enum-told3 .given .1) (ap At (omega arith))
+
+returns-4 : tie.Need-returns-4
+unfolding nameOf
+returns-4 c = rw (c .enum-told4 .given .1) (ap At (omega arith))
+
+pub name-end-spec : {M : Type 1} → statement M
+name-end-spec =
+    tie.close
+    (tie.spec
+    enum-told
+    sym-end-requires
+    enum-told-2
+    enum-told-3
+    enum-told-4
+    returns
+    returns-2
+    returns-3
+    returns-4)

@@ -1,0 +1,27 @@
+-- `tape::signed32` meets its contract: the inverted bits, inverted again. Assumes nothing.
+use mathlib.Core.Path.{sym}
+use native.Mathlib.Omega.{arith}
+use mir.Syntax.{w32}
+use Rattle.tape.proofs.Numbers.{signed-is}
+use Rattle.tape.proofs.CodeReading.{signed-inverted}
+use borrow.Author.Needs.{needs}
+use Rattle.tape.proofs.signed32.Statement.{statement}
+use Rattle.tape.proofs.signed32.Tie as tie
+
+cast-result : tie.Need-cast-result
+cast-result c = search needs
+
+sub-result : tie.Need-sub-result
+sub-result c = search needs
+
+cast-result-2 : tie.Need-cast-result-2
+cast-result-2 c = search needs
+
+returns : tie.Need-returns
+returns c = sym (signed-is w32 (c .before .args .b))
+
+returns-2 : tie.Need-returns-2
+returns-2 c = signed-inverted w32 4294967295 (c .before .args .b) (omega (arith, c .before .fits .b .fits))
+
+pub signed32-spec : {M : Type 1} → statement M
+signed32-spec = tie.close (tie.spec cast-result sub-result cast-result-2 returns returns-2)

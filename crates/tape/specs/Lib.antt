@@ -1,0 +1,9 @@
+pub mod Bytes
+pub mod Tree
+pub mod Tape
+pub mod Verdict
+pub mod Refusal
+pub mod Fine
+pub mod Answer
+pub mod Steps
+pub mod CheckSteps
