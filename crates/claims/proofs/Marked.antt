@@ -1,0 +1,53 @@
+-- Document 01's marked examples (M), under one theorem: `marked`. Assumes nothing.
+use mathlib.Core.Path.{_≡_, refl}
+use mathlib.Core.Bool.{true, false}
+use mathlib.Core.List.{List, [], _∷_, _++_}
+use mathlib.Core.Option.{none}
+use Prim.Native.Nat.{ℕ}
+use lib.IntN.{ℤ, pos, negsuc}
+use Rattle.output.specs.Logic.{ascii}
+use Rattle.text_rules.specs.Texts.{starts, strip, same}
+use Rattle.text_rules.specs.Digits.{pad, count, digits, isDigit, run, past}
+use Rattle.text_rules.specs.Words.{isStart, isPart, behind, allDigits, isKeyword, resemblesSymbolId, version, resemblesVersionMarker, isIdentifier}
+use Rattle.text_rules.specs.Escapes.{textBody, textEscape, hasLetter, letterOf}
+use Rattle.text_rules.specs.Text.{symbolText}
+use Rattle.numbers.specs.Decimal.{intText, pointed, scientific, above, below, form, sign, decimalText}
+use Rattle.numbers.specs.Timestamp.{hourAndMinute, offsetText}
+use Rattle.tape.specs.Tree.{Scalar, Node, Nodes, int, scalar, nest, nil, more}
+use Rattle.tape.specs.declared.Frame.the-variants.{Top, List as ListF}
+use Rattle.writer.specs.Text.{scalarText, nameText, opening, closing, separator, broken, deeper, text, texts, streamText}
+
+-- an int that stands in a list
+abbrev child : ℤ → Nodes → Nodes
+child n ns = more (none, []) (scalar (int n)) ns
+
+pub record Marked : Type 0 where
+  pub empty-symbol : symbolText [] ≡ ascii "''"
+  pub keyword : symbolText (ascii "true") ≡ ascii "'true'"
+  pub identifier-text : symbolText (ascii "$7") ≡ ascii "'$7'"
+  pub no-marker : symbolText (ascii "$ion_1_0_0") ≡ ascii "$ion_1_0_0"
+  pub six-digits : decimalText false 123456 (pos 0) ≡ ascii "123456."
+  pub seven-digits : decimalText false 1234567 (pos 0) ≡ ascii "1.234567d6"
+  pub five-zeros : decimalText false 116 (negsuc 7) ≡ ascii "0.00000116"
+  pub scientific-below : decimalText false 116 (negsuc 8) ≡ ascii "1.16d-7"
+  pub negative-zero : decimalText true 0 (pos 0) ≡ ascii "-0."
+  pub offset-unknown : offsetText (pos 32767) ≡ ascii "-00:00"
+  pub offset-five : offsetText (negsuc 4) ≡ ascii "-00:05"
+  pub compact-list : streamText 0 (more (none, []) (nest ListF (child (pos 1) (child (pos 2) nil))) nil) ≡ ascii "[1, 2, ] "
+
+pub marked : Marked
+unfolding symbolText textBody textEscape hasLetter letterOf isKeyword resemblesSymbolId resemblesVersionMarker version isIdentifier allDigits isStart isPart behind isDigit run past starts strip same pad count digits intText pointed scientific above below form sign decimalText hourAndMinute offsetText scalarText nameText opening closing separator broken deeper text texts streamText
+marked = record {
+  empty-symbol = refl;
+  keyword = refl;
+  identifier-text = refl;
+  no-marker = refl;
+  six-digits = refl;
+  seven-digits = refl;
+  five-zeros = refl;
+  scientific-below = refl;
+  negative-zero = refl;
+  offset-unknown = refl;
+  offset-five = refl;
+  compact-list = refl;
+}

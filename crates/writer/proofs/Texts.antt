@@ -1,0 +1,114 @@
+-- The text of names, of text nodes and of a walk's turns. Assumes nothing.
+use Prim.Native.Nat.{ℕ, zero, suc, _+_, _-_, _<_, _≤_}
+use mathlib.Core.Path.{_≡_, refl, sym, ap, _∙_}
+use mathlib.Core.List.{List, [], _∷_, _++_, append-assoc}
+use mathlib.Core.Option.{Option, none, some}
+use native.Mathlib.Omega.{arith}
+use lib.ListN.{length, take, drop}
+use Rattle.output.specs.Logic.{ascii}
+use Rattle.text_rules.specs.Text.{Sym}
+use Rattle.tape.specs.Bytes.{part}
+use Rattle.tape.specs.Tree.{Scalar, Head, Node, Nodes, symbol, scalar, nest, marker, nil, more, encodeSym}
+use Rattle.tape.specs.Tape.{past, symOf, nameOf, notesOf, headOf, symbolOf, Walked, join, walk}
+use Rattle.tape.specs.Steps.{meantScalar, sizeOf, scanned, headAt}
+use Rattle.tape.specs.declared.Frame.{Frame}
+use Rattle.tape.specs.declared.Frame.the-variants.{Struct}
+use Rattle.tape.specs.declared.Scalar.{Scalar as ScalarC}
+use Rattle.tape.specs.declared.Scanned.the-variants.{Bad as NoScalar, Is}
+use Rattle.tape.proofs.Parts.{part-length}
+use Rattle.tape.proofs.Reading.{Sound, something, nothing, sym-sound}
+use Rattle.tape.proofs.CodeFacts.{part-text}
+use Rattle.tape.proofs.Turns.{LeafTurn, MarkerTurn, TreeTurn}
+use Rattle.writer.specs.Text.{symText, scalarText, nameText, opening, closing, separator, broken, deeper, blanks, text, texts}
+use Rattle.writer.specs.Steps.{nameIn}
+
+-- ---- text nodes
+
+-- the bytes of a text node, as the code cuts them out of the tape
+pub text-at : (s : List ℕ) (at e n : ℕ) → at + (5 + n) ≤ e → take n (drop 5 (part s at e)) ≡ take (at + 5 + n - (at + 5)) (drop (at + 5) s)
+text-at s at e n h =
+    let g : n ≡ at + 5 + n - (at + 5) = omega arith in
+    part-text s at e n (omega arith) ∙ ap (λ (i : ℕ). take i (drop (at + 5) s)) g
+
+-- ---- names
+
+-- a field's bytes do not start with a symbol
+pub name-none : (l : List ℕ) → none ≡ symbolOf l → nameIn Struct l ≡ none
+unfolding nameOf symbolOf
+name-none l e = go (symOf l) e
+  where
+    go : (o : Option (Sym × ℕ)) → none ≡ past {B = Option (Scalar × ℕ)} o none (λ s n. some (symbol s, n))
+        → past (past {B = Option (Option Sym × ℕ)} o none (λ s n. some (some s, n))) none (λ a n. a) ≡ none
+    go none e = refl
+    go (some (s, n)) e = let z : _≡_ {A = ℕ} 0 1 = cc in absurd (omega arith)
+
+-- they start with the symbol x
+pub name-text : (l : List ℕ) (x : ScalarC) → scanned (Is x) l ≡ symbolOf l → nameText (nameIn Struct l) ≡ scalarText (meantScalar x l) ++ ascii ": "
+unfolding nameOf symbolOf nameText scalarText
+name-text l x e = go (symOf l) e
+  where
+    go : (o : Option (Sym × ℕ)) → some (meantScalar x l, sizeOf x) ≡ past {B = Option (Scalar × ℕ)} o none (λ s n. some (symbol s, n))
+        → nameText (past (past {B = Option (Option Sym × ℕ)} o none (λ s n. some (some s, n))) none (λ a n. a)) ≡ scalarText (meantScalar x l) ++ ascii ": "
+    go none e = let z : _≡_ {A = ℕ} 0 1 = cc in absurd (omega arith)
+    go (some (s, n)) e = ap (λ (o : Option (Scalar × ℕ)). past o [] (λ v m. scalarText v ++ ascii ": ")) (sym e)
+
+-- the symbol ends within the body
+pub name-room : (s : List ℕ) (at e : ℕ) (x : ScalarC) → at ≤ e → e ≤ length s → scanned (Is x) (part s at e) ≡ symbolOf (part s at e) → at + sizeOf x ≤ e
+unfolding symbolOf
+name-room s at e x h i m = let g = go (symOf (part s at e)) (sym-sound (part s at e)) m in let n = part-length s at e i in omega arith
+  where
+    go : (o : Option (Sym × ℕ)) → Sound encodeSym (part s at e) o → some (meantScalar x (part s at e), sizeOf x) ≡ past {B = Option (Scalar × ℕ)} o none (λ s n. some (symbol s, n))
+        → sizeOf x ≤ length (part s at e)
+    go none w e = let z : _≡_ {A = ℕ} 0 1 = cc in absurd (omega arith)
+    go (some (a, n)) (something h f) e = let z : sizeOf x ≡ n = ap (λ (o : Option (Scalar × ℕ)). past o 0 (λ v m. m)) e in omega arith
+
+-- the name of a child is the name in its head
+name-head : (k : Frame) (l : List ℕ) (h : Head) (m : ℕ) → headOf k l ≡ some (h, m) → nameIn k l ≡ h .0
+unfolding headOf
+name-head k l h m e = go (nameOf k l) e
+  where
+    behind : (a : Option Sym) (n : ℕ) (o : Option (List Sym × ℕ)) → past {B = Option (Head × ℕ)} o none (λ ss i. some ((a, ss), n + i)) ≡ some (h, m) → a ≡ h .0
+    behind a n none e = let z : _≡_ {A = ℕ} 0 1 = cc in absurd (omega arith)
+    behind a n (some (ss, i)) e = ap (λ (o : Option (Head × ℕ)). past o a (λ g j. g .0)) e
+
+    go : (o : Option (Option Sym × ℕ)) → past {B = Option (Head × ℕ)} o none (λ a n. past (notesOf (drop n l)) none (λ ss i. some ((a, ss), n + i))) ≡ some (h, m)
+        → past {B = Option Sym} o none (λ a n. a) ≡ h .0
+    go none e = let z : _≡_ {A = ℕ} 0 1 = cc in absurd (omega arith)
+    go (some (a, n)) e = behind a n (notesOf (drop n l)) e
+
+-- ---- a turn: the text of the child at a place, and the text of the children behind it
+
+module _ (y : ℕ) (k : Frame) (w : ℕ) (d : ℕ) (s : List ℕ) (at e : ℕ) where
+  abbrev front : Option Sym → List ℕ
+  front a = blanks w ++ nameText a
+
+  -- the text of the children from a place on
+  abbrev left : ℕ → List ℕ
+  left p = texts y k w (walk d k (part s p e) .0)
+
+  pub text-leaf : (p : ℕ) (x : ScalarC) (r : ℕ) → LeafTurn d k s at e p x r
+      → left at ≡ (blanks w ++ nameText (nameIn k (part s at e)) ++ scalarText (meantScalar x (part s p e)) ++ separator y k) ++ left r
+  unfolding texts text
+  text-leaf p x r u =
+      ap (λ (v : Walked). texts y k w (v .0)) (u .step)
+      ∙ ap (λ (a : Option Sym). (front a ++ scalarText (meantScalar x (part s p e)) ++ separator y k) ++ left r) (sym (name-head k _ _ _ (u .read)))
+
+  pub text-marker : (r : ℕ) → MarkerTurn d k s at e r → left at ≡ (blanks w ++ nameText (nameIn k (part s at e)) ++ ascii "$ion_1_0" ++ separator y k) ++ left r
+  unfolding texts text
+  text-marker r u =
+      ap (λ (v : Walked). texts y k w (v .0)) (u .step)
+      ∙ ap (λ (a : Option Sym). (front a ++ ascii "$ion_1_0" ++ separator y k) ++ left r) (sym (name-head k _ _ _ (u .read)))
+
+  -- a container is written in three parts
+  glue : (F O B I W C S : List ℕ) → (F ++ (O ++ B ++ I ++ W ++ C)) ++ S ≡ ((F ++ (O ++ B)) ++ I) ++ (W ++ C ++ S)
+  glue F O B I W C S = simp append-assoc
+
+  pub text-tree : (f : Frame) (q r : ℕ) → TreeTurn d k s at e f q r
+      → left at
+      ≡ ((blanks w ++ nameText (nameIn k (part s at e)) ++ (opening f ++ broken y)) ++ texts y f (deeper y w) (walk (d - 1) f (part s q r) .0) ++ (blanks w ++ closing f ++ separator y k)) ++ left r
+  unfolding texts text
+  text-tree f q r u =
+      let i : List ℕ = texts y f (deeper y w) (walk (d - 1) f (part s q r) .0) in
+      ap (λ (v : Walked). texts y k w (v .0)) (u .step)
+      ∙ ap (λ (a : Option Sym). (front a ++ (opening f ++ broken y ++ i ++ blanks w ++ closing f) ++ separator y k) ++ left r) (sym (name-head k _ _ _ (u .read)))
+      ∙ ap (λ (x : List ℕ). x ++ left r) (glue (front (nameIn k (part s at e))) (opening f) (broken y) i (blanks w) (closing f) (separator y k))
