@@ -1,0 +1,39 @@
+// The same calls for C and Rust: numbers and byte slices. A `&[u8]` passes as a pointer and a length. A call answers the count of finished
+// bytes, or minus the number of a refusal of document 01's table.
+ghost use mathlib.Core.Path.{_≡_};
+ghost use lib.ListN.{length};
+ghost use Rattle.tape.specs.Answer.{outcome};
+ghost use Rattle.writer.specs.Outcome.{streamed, leaves};
+ghost use Rattle.ion_c.specs.Code.{code, Small};
+use tape::answer::Answer;
+
+// An answer as one number.
+fn code_of(a: Answer) -> i64
+    requires { ⌜ Small (outcome a) ⌝ }
+    ensures { λ r. ⌜ r ≡ code (outcome a) ⌝ }
+{
+    match a {
+        Answer::Count(n) => n as i64,
+        Answer::End => 0,
+        Answer::Misfit => -1,
+        Answer::BadNode => -2,
+        Answer::TooDeep => -3,
+        Answer::FiniteFloat => -4,
+        Answer::Unsuited => -5,
+        Answer::TextTooLong => -6,
+        Answer::NoLayout => -7,
+        Answer::OutsideGrammar => -8,
+        Answer::TapeTooLong => -9,
+        Answer::PastText => -10,
+    }
+}
+
+// The text of a tape in a layout: 0 Compact, 1 Lines, 2 Pretty.
+#[no_mangle]
+pub extern "C" fn ion_write(layout: u32, tape: &[u8], out: &mut [u8]) -> i64
+    ensures answer { λ r. ⌜ r ≡ code (streamed layout (now (tape .entry)) (length (now (out .entry)))) ⌝ }
+    ensures buffer { λ _. ⌜ now (out .exit) ≡ leaves layout (now (tape .entry)) (now (out .entry)) ⌝ }
+{
+    let a = writer::writer::write_stream(layout, tape, out);
+    code_of(a)
+}
