@@ -1,1 +1,11 @@
+pub mod FirstBytes
+pub mod NumbersApart
+pub mod ScalarBack
+pub mod NoteBack
+pub mod StreamBack
+pub mod NoLineFeed
+pub mod LineBack
+pub mod TokensRead
+pub mod WellRead
+pub mod TapeBack
 pub mod Marked

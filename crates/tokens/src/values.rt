@@ -103,7 +103,7 @@ fn type_of(w: &[u8]) -> u8
 }
 
 // The type behind `null` at a place, and where it ends.
-fn null_behind(text: &[u8], at: usize) -> NullRead
+pub fn null_behind(text: &[u8], at: usize) -> NullRead
     requires { ⌜ at ≤ length (now text) ⌝ }
     ensures { λ r. ⌜ Reads (now (text .entry)) at (nullBehind (drop at (now (text .entry)))) (nullRead r) ⌝ }
 {

@@ -1,0 +1,88 @@
+-- In layout 1, Lines, each top-level node is one line: its text has no LF, one LF follows, and the line means that node. Assumes nothing.
+use Prim.Native.Nat.{ℕ, zero, suc, _*_, _≤_}
+use mathlib.Core.Path.{_≡_, refl, sym, ap, _∙_}
+use mathlib.Core.List.{List, [], _∷_, _++_, append-nil}
+use mathlib.Core.Bool.{false}
+use mathlib.Core.Option.{some}
+use native.Mathlib.Omega.{arith}
+use lib.ListN.{length, length-append}
+use Rattle.text_rules.specs.Texts.{strip, ended}
+use Rattle.tape.specs.Tree.{Head, Node, Nodes, nil, more}
+use Rattle.tape.specs.Refusal.{annotated, noted, noteds}
+use Rattle.tape.specs.Fine.{Fine, Fines}
+use Rattle.tape.specs.declared.Frame.the-variants.{Top}
+use Rattle.reader.specs.Grammar.{skip, closes, gap, sequence, meaning}
+use Rattle.writer.specs.Text.{nameText, separator, blanks, text, streamText}
+use Rattle.claims.proofs.FirstBytes.{first-long}
+use Rattle.claims.proofs.NoteBack.{node-leads}
+use Rattle.claims.proofs.StreamBack.{Parts, no-notes, three-false, child-back, body-back, sequence-end, stream-back}
+use Rattle.claims.proofs.NoLineFeed.{NoLf, no-lf-both, no-lf-name, no-lf-text}
+
+-- the text of a top-level node, without its LF
+unfoldable pub lineBody : Head → Node → List ℕ
+lineBody h n = nameText (h .0) ++ text 1 0 n
+
+-- with it
+unfoldable pub line : Head → Node → List ℕ
+line h n = lineBody h n ++ (10 ∷ [])
+
+-- the Lines text is one line for each top-level node
+pub lines-more : (h : Head) (n : Node) (ns : Nodes) → streamText 1 (more h n ns) ≡ line h n ++ streamText 1 ns
+unfolding streamText text line lineBody separator
+lines-more h n ns = refl
+
+pub lines-none : streamText 1 nil ≡ []
+unfolding streamText text
+lines-none = refl
+
+pub line-alone : (h : Head) (n : Node) → streamText 1 (more h n nil) ≡ line h n
+line-alone h n = lines-more h n nil ∙ ap (λ (t : List ℕ). line h n ++ t) lines-none ∙ append-nil (line h n)
+
+-- a well-formed top-level node without annotations, by itself
+abbrev pub Alone : Head → Node → Type 0
+Alone h n = Fines 64 Top (more h n nil) × (noteds (more h n nil) ≡ false)
+
+-- each node of a tree is one
+pub alone-first : (h : Head) (n : Node) (ns : Nodes) → Fines 64 Top (more h n ns) → noteds (more h n ns) ≡ false → Alone h n
+unfolding Fine noted
+alone-first h n ns f q = let z = three-false (annotated (h .1)) (noted n) (noteds ns) q in ((f .0, f .1, tt), rw (z .0, z .1))
+
+pub alone-rest : (h : Head) (n : Node) (ns : Nodes) → Fines 64 Top (more h n ns) → noteds (more h n ns) ≡ false → Fines 64 Top ns × (noteds ns ≡ false)
+unfolding Fine noted
+alone-rest h n ns f q = (f .2, three-false (annotated (h .1)) (noted n) (noteds ns) q .2)
+
+-- its only LF is the last byte
+pub line-body : (h : Head) (n : Node) → Fines 64 Top (more h n nil) → NoLf (lineBody h n)
+unfolding lineBody Fine
+line-body h n f = no-lf-both (no-lf-name (h .0)) (no-lf-text n 0 64 Top (h .1) (f .1))
+
+-- the line means the node
+pub line-back : (h : Head) (n : Node) → Fines 64 Top (more h n nil) → noteds (more h n nil) ≡ false → meaning (line h n) ≡ some (more h n nil)
+line-back h n f q = ap meaning (sym (line-alone h n)) ∙ stream-back 1 (more h n nil) f q
+
+-- so does the line without its LF
+parts-end : Parts Top [] []
+unfolding gap ended strip
+parts-end = record { delimits = record { ends = refl; no-colons = refl }; next = []; gap-is = refl; next-is = refl }
+
+end-back : (f l : ℕ) → 1 ≤ f → sequence f Top l [] ≡ some (nil, [])
+end-back zero l h = absurd (omega arith)
+end-back (suc f) l h = sequence-end f l Top [] [] (unfold closes skip in refl)
+
+bare-back : (h : Head) (n : Node) → Fines 64 Top (more h n nil) → noteds (more h n nil) ≡ false → sequence (suc (2 * length (lineBody h n))) Top 64 (lineBody h n) ≡ some (more h n nil, [])
+unfolding lineBody Fine noted
+bare-back h n g q =
+    let z = three-false (annotated (h .1)) (noted n) (noteds nil) q in
+    let f : ℕ = 2 * length (nameText (h .0) ++ text 1 0 n) in
+    let len = length-append (nameText (h .0)) (text 1 0 n) in
+    let some-byte = first-long (text 1 0 n ++ ([] ++ [])) (node-leads n 1 0 64 Top (h .1) ([] ++ []) (g .1) (parts-end .delimits) .begins) in
+    let long : 1 ≤ length (text 1 0 n) = omega (arith, length-append (text 1 0 n) []) in
+    let e : (blanks 0 ++ nameText (h .0) ++ text 1 0 n ++ []) ++ [] ≡ nameText (h .0) ++ text 1 0 n = append-nil _ ∙ append-nil _ in
+    ap (sequence (suc f) Top 64) (sym e)
+    ∙ child-back Top h n nil 1 0 64 f 64 [] [] [] (g .0) (no-notes (h .1) (z .0)) (g .1) parts-end
+    (body-back n 1 0 f 64 Top (h .1) [] (g .1) (z .1) (parts-end .delimits) (omega arith))
+    (end-back f 64 (omega arith))
+
+pub line-body-back : (h : Head) (n : Node) → Fines 64 Top (more h n nil) → noteds (more h n nil) ≡ false → meaning (lineBody h n) ≡ some (more h n nil)
+unfolding meaning
+line-body-back h n f q = rw (bare-back h n f q)

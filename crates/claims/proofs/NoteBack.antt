@@ -1,0 +1,123 @@
+-- What stands before a written value is read back: its name in a struct, and no annotation. Assumes nothing.
+use Prim.Native.Nat.{ℕ, zero, suc}
+use mathlib.Core.Path.{_≡_, refl, sym, ap, _∙_}
+use mathlib.Core.List.{List, [], _∷_, _++_, append-assoc}
+use mathlib.Core.Bool.{true, false}
+use mathlib.Core.Option.{Option, none, some}
+use lib.Dec.{eqb}
+use Rattle.output.specs.Logic.{then, byte, ascii}
+use Rattle.text_rules.specs.Digits.{isDigit}
+use Rattle.text_rules.specs.Texts.{strip, ended, delimiter, blank}
+use Rattle.text_rules.specs.Words.{isStart}
+use Rattle.text_rules.specs.Text.{Sym}
+use Rattle.tokens.specs.Token.{symbol}
+use Rattle.tape.specs.Tree.{Scalar, Head, Node, scalar, nest, marker}
+use Rattle.tape.specs.Fine.{FineSym, FineScalar, FineName, FineHead, Inner, Fine}
+use Rattle.tape.specs.declared.Frame.{Frame}
+use Rattle.tape.specs.declared.Frame.the-variants.{Top, List as ListF, Sexp, Struct}
+use Rattle.reader.specs.Grammar.{skip, note, notes, field, name, head, numeric}
+use Rattle.writer.specs.Text.{symText, scalarText, nameText, opening, text}
+use Rattle.tokens.proofs.SymbolBack.{Begins, symbol-back, symbol-id-back, symbol-begins, id-begins}
+use Rattle.claims.proofs.FirstBytes.{First, startsSymbol, first-more, first-is, first-as, leads, start-leads, symbol-leads, no-blank}
+use Rattle.claims.proofs.ScalarBack.{no-symbol, marker-first, marker-symbol, scalar-told}
+
+-- ---- names
+
+begins-first : {t : List ℕ} → Begins t → First startsSymbol t
+unfolding startsSymbol
+begins-first b = record { byte₀ = b .first; rest = b .rest; is = b .is; tells = b .tells }
+
+-- a written symbol starts with a quote mark or as an identifier does
+pub sym-first : (s : Sym) → First startsSymbol (symText s)
+unfolding symText
+sym-first (Sym.text s) = begins-first (symbol-begins s)
+sym-first (Sym.id n) = begins-first (id-begins n)
+
+pub sym-back : (s : Sym) (r : List ℕ) → FineSym s → ended r ≡ true → symbol (symText s ++ r) ≡ some (s, r)
+unfolding symText
+sym-back (Sym.text s) r h e = symbol-back s r (h .utf8) e
+sym-back (Sym.id n) r h e = symbol-id-back n r h e
+
+field-here : (t u v : List ℕ) (s : Sym) → symbol t ≡ some (s, byte ":" ∷ byte " " ∷ u) → skip u ≡ v → field t ≡ some (s, v)
+unfolding field skip blank strip
+field-here t u v s h e = rw (h, e)
+
+-- a name, written and read, before a value
+pub name-back : (k : Frame) (x : Option Sym) (u : List ℕ) → FineName k x → First leads u → name k (nameText x ++ u) ≡ some (x, u)
+unfolding name nameText
+name-back Top none u h e = refl
+name-back Top (some s) u h e = absurd h
+name-back ListF none u h e = refl
+name-back ListF (some s) u h e = absurd h
+name-back Sexp none u h e = refl
+name-back Sexp (some s) u h e = absurd h
+name-back Struct none u h e = absurd h
+name-back Struct (some s) u h e =
+    rw (append-assoc (symText s) (ascii ": ") u, field-here (symText s ++ (byte ":" ∷ byte " " ∷ u)) u u s (sym-back s (byte ":" ∷ byte " " ∷ u) h (unfold ended delimiter blank in refl)) (no-blank u e))
+
+pub name-first : (k : Frame) (x : Option Sym) (u : List ℕ) → FineName k x → First leads u → First leads (nameText x ++ u)
+unfolding nameText
+name-first k none u h f = f
+name-first k (some s) u h f = first-is (append-assoc (symText s) (ascii ": ") u) (first-more (ascii ": " ++ u) (first-as symbol-leads (sym-first s)))
+
+-- ---- no annotation
+
+note-other : (t : List ℕ) → symbol t ≡ none → note t ≡ none
+unfolding note
+note-other t h = rw h
+
+note-alone : (t u : List ℕ) (s : Sym) → symbol t ≡ some (s, u) → strip (ascii "::") u ≡ none → note t ≡ none
+unfolding note
+note-alone t u s h e = rw (h, e)
+
+pub notes-end : (n : ℕ) (t : List ℕ) → note t ≡ none → notes n t ≡ some ([], t)
+unfolding notes
+notes-end zero t h = rw h
+notes-end (suc n) t h = rw h
+
+-- what stands behind a value: it ends a token, and is no `::`
+pub record Delimits (r : List ℕ) : Type 0 where
+  pub ends : ended r ≡ true
+  pub no-colons : strip (ascii "::") r ≡ none
+
+note-symbol : (t r : List ℕ) (x : Option Sym) → symbol t ≡ then x (λ y. some (y, r)) → strip (ascii "::") r ≡ none → note t ≡ none
+note-symbol t r none h e = note-other t h
+note-symbol t r (some s) h e = note-alone t r s h e
+
+-- a written value starts so, and with no annotation
+pub record Leads (t : List ℕ) : Type 0 where
+  pub begins : First leads t
+  pub no-note : note t ≡ none
+
+pub scalar-leads : (s : Scalar) (r : List ℕ) → FineScalar s → Delimits r → Leads (scalarText s ++ r)
+scalar-leads s r h d =
+    let t = scalar-told true s r h (d .ends) in
+    record { begins = t .begins; no-note = note-symbol (scalarText s ++ r) r (t .as-symbol) (t .symbol-is) (d .no-colons) }
+
+marker-leads : (r : List ℕ) → Delimits r → Leads (ascii "$ion_1_0" ++ r)
+marker-leads r d = record { begins = first-more r (first-as start-leads marker-first); no-note = note-other (ascii "$ion_1_0" ++ r) (marker-symbol r (d .ends)) }
+
+bracket-leads : (c : ℕ) (t : List ℕ) → leads c ≡ true → isStart c ≡ false → eqb c (byte "'") ≡ false → Leads (c ∷ t)
+bracket-leads c t h i q = record { begins = record { byte₀ = c; rest = t; is = refl; tells = h }; no-note = note-other (c ∷ t) (no-symbol c t i q) }
+
+opening-leads : (k : Frame) (t : List ℕ) → Inner k → Leads (opening k ++ t)
+unfolding opening leads numeric isDigit isStart
+opening-leads Top t h = absurd h
+opening-leads ListF t h = bracket-leads (byte "[") t refl refl refl
+opening-leads Sexp t h = bracket-leads (byte "(") t refl refl refl
+opening-leads Struct t h = bracket-leads (byte "{") t refl refl refl
+
+pub node-leads : (n : Node) (y w d : ℕ) (k : Frame) (ss : List Sym) (r : List ℕ) → Fine d k ss n → Delimits r → Leads (text y w n ++ r)
+unfolding text Fine
+node-leads (scalar s) y w d k ss r h e = scalar-leads s r h e
+node-leads (nest f ns) y w zero k ss r h e = absurd h
+node-leads (nest f ns) y w (suc d) k ss r h e = simp append-assoc (opening-leads f _ (h .0))
+node-leads marker y w d k ss r h e = marker-leads r e
+
+-- ---- a head without annotations
+
+pub head-back : (k : Frame) (h : Head) (u : List ℕ) → FineHead k h → h .1 ≡ [] → Leads u → head k (nameText (h .0) ++ u) ≡ some (h, u)
+head-back k h u f e l = there ∙ ap (λ (ss : List Sym). some ((h .0, ss), u)) (sym e)
+  where
+    there : head k (nameText (h .0) ++ u) ≡ some ((h .0, []), u)
+    there = unfold head in rw (name-back k (h .0) u (f .name) (l .begins), notes-end 16 u (l .no-note))

@@ -1,0 +1,112 @@
+-- The round trip from tape to tape: the text of a tape that is let through, read back with room, is that tape again; and what is read is a
+-- tape that is let through. Assumes nothing.
+use Prim.Native.Nat.{ℕ, _≤_, min}
+use mathlib.Core.Path.{_≡_, refl, ap, _∙_}
+use mathlib.Core.List.{List, [], _∷_, _++_}
+use mathlib.Core.Bool.{Bool, true, false}
+use mathlib.Core.Option.{some}
+use native.Mathlib.Omega.{arith}
+use lib.Dec.{ltb}
+use lib.ListN.{length, drop, length-append}
+use borrow.Author.Tests.{le-leb}
+use Rattle.output.specs.Logic.{if}
+use Rattle.tape.specs.Bytes.{first}
+use Rattle.tape.specs.Tree.{Head, Node, Nodes, nil, more, encodeHead, encode, encodes, tape}
+use Rattle.tape.specs.Tape.{nodesOf}
+use Rattle.tape.specs.Verdict.{verdict}
+use Rattle.tape.specs.Refusal.{noteds}
+use Rattle.tape.specs.Answer.{counted}
+use Rattle.tape.specs.Fine.{Bytes, Fines}
+use Rattle.tape.specs.declared.Frame.the-variants.{Top}
+use Rattle.reader.specs.Grammar.{meaning}
+use Rattle.reader.specs.Outcome.{fits, tapeAnswer, tapeLeaves, answer, leaves}
+use Rattle.writer.specs.Outcome.{refusal}
+use Rattle.writer.specs.Text.{streamText}
+use Rattle.tape.proofs.Walking.{first-zero, verdict-told, tape-back}
+use Rattle.tape.proofs.FineBack.{tape-fine}
+use Rattle.tape.proofs.Accepted.{tape-length, tape-accepted, tape-nodes}
+use Rattle.claims.proofs.StreamBack.{stream-back}
+use Rattle.claims.proofs.NoLineFeed.{lfs}
+use Rattle.claims.proofs.LineBack.{lineBody, line, line-body, line-back, alone-first, alone-rest}
+use Rattle.claims.proofs.WellRead.{well-read}
+
+-- ---- from a tape to its text and back
+
+-- a tape that is not refused before measuring is accepted and has no annotations
+through : (y : ℕ) (t : List ℕ) → refusal y t ≡ 0 → (verdict t ≡ 0) × (noteds (nodesOf t) ≡ false)
+unfolding refusal
+through y t e = layout (ltb 2 y) e
+  where
+    flag : (b : Bool) → if {A = ℕ} b 5 0 ≡ 0 → b ≡ false
+    flag true h = absurd (omega arith)
+    flag false h = refl
+
+    layout : (b : Bool) → if b 7 (first (verdict t) (if (noteds (nodesOf t)) 5 0)) ≡ 0 → (verdict t ≡ 0) × (noteds (nodesOf t) ≡ false)
+    layout true h = absurd (omega arith)
+    layout false h = let z = first-zero (verdict t) (if (noteds (nodesOf t)) 5 0) h in (z .0, flag (noteds (nodesOf t)) (z .1))
+
+-- For every layout and every tape that is let through: its text means its nodes.
+pub written-means : (y : ℕ) (t : List ℕ) → Bytes t → refusal y t ≡ 0 → meaning (streamText y (nodesOf t)) ≡ some (nodesOf t)
+written-means y t b e = let z = through y t e in stream-back y (nodesOf t) (tape-fine t b (z .0)) (z .1)
+
+-- what the reader answers and leaves for a text, by its meaning
+answer-some : (s : List ℕ) (n : ℕ) (ns : Nodes) → meaning s ≡ some ns → length (tape ns) ≤ n → length (tape ns) ≤ 1048576 → answer s n ≡ counted (length (tape ns))
+unfolding answer tapeAnswer fits
+answer-some s n ns e l m = rw (e, le-leb (length (tape ns)) (min n 1048576) (omega arith))
+
+leaves-some : (s b : List ℕ) (ns : Nodes) → meaning s ≡ some ns → length (tape ns) ≤ length b → length (tape ns) ≤ 1048576 → leaves s b ≡ tape ns ++ drop (length (tape ns)) b
+unfolding leaves tapeLeaves fits
+leaves-some s b ns e l m = rw (e, le-leb (length (tape ns)) (min (length b) 1048576) (omega arith))
+
+-- Reading it back with room gives the tape itself: its length is answered, and it lies at the buffer's start, the rest kept.
+pub round-trip : (y : ℕ) (t b : List ℕ) → Bytes t → refusal y t ≡ 0 → length t ≤ length b
+    → (answer (streamText y (nodesOf t)) (length b) ≡ counted (length t)) × (leaves (streamText y (nodesOf t)) b ≡ t ++ drop (length t) b)
+round-trip y t b h e l =
+    let z = through y t e in
+    let m = written-means y t h e in
+    let same : tape (nodesOf t) ≡ t = tape-back t h (z .0) in
+    let most = verdict-told t (z .0) .most in
+    let n : length (tape (nodesOf t)) ≡ length t = ap length same in (
+      answer-some _ (length b) (nodesOf t) m (omega arith) (omega arith) ∙ ap counted n,
+      leaves-some _ b (nodesOf t) m (omega arith) (omega arith) ∙ ap (λ (x : List ℕ). x ++ drop (length x) b) same,
+    )
+
+-- ---- from a text to its tape
+
+-- What is read is let through by the writers' check, and is the tape of what the text means.
+pub read-accepted : (s : List ℕ) (ns : Nodes) → meaning s ≡ some ns → length (tape ns) ≤ 1048576 → (verdict (tape ns) ≡ 0) × (nodesOf (tape ns) ≡ ns)
+read-accepted s ns e l =
+    let n = tape-length ns in
+    let f : Fines 64 Top ns = well-read s ns e (omega arith) in
+    (tape-accepted ns f l, tape-nodes ns f)
+
+-- ---- Lines, node by node
+
+-- what is said of each top-level node
+pub data Each (P : Head → Node → Type 0) : Nodes → Type 0 where
+  each-nil : Each P nil
+  each-more : {h : Head} {n : Node} {ns : Nodes} → P h n → Each P ns → Each P (more h n ns)
+
+-- its line has one LF, the last byte; it means that node; and the node's own tape is no longer than `room`
+pub record WrittenLine (room : ℕ) (h : Head) (n : Node) : Type 0 where
+  pub only : lfs (lineBody h n) ≡ 0
+  pub reads : meaning (line h n) ≡ some (more h n nil)
+  pub room-enough : length (tape (more h n nil)) ≤ room
+
+first-shorter : (h : Head) (n : Node) (ns : Nodes) → (length (tape (more h n nil)) ≤ length (tape (more h n ns))) × (length (tape ns) ≤ length (tape (more h n ns)))
+unfolding encode
+first-shorter h n ns =
+    let a = tape-length (more h n nil) in
+    let b = tape-length (more h n ns) in
+    let c = tape-length ns in
+    let d = length-append (encodeHead h ++ encode n) [] in
+    let e = length-append (encodeHead h ++ encode n) (encodes ns) in
+    (omega arith, omega arith)
+
+pub lines-written : (ns : Nodes) (room : ℕ) → Fines 64 Top ns → noteds ns ≡ false → length (tape ns) ≤ room → Each (WrittenLine room) ns
+lines-written nil room f q l = each-nil
+lines-written (more h n ns) room f q l =
+    let a = alone-first h n ns f q in
+    let r = alone-rest h n ns f q in
+    let s = first-shorter h n ns in
+    each-more record { only = line-body h n (a .0) .count; reads = line-back h n (a .0) (a .1); room-enough = omega arith } (lines-written ns room (r .0) (r .1) (omega arith))

@@ -1,0 +1,54 @@
+-- `nodes::put_header` meets its contract. Assumes nothing.
+use native.Mathlib.Omega.{arith}
+use Rattle.output.proofs.Laws.{wrote-then, length-le}
+use borrow.Author.Needs.{needs}
+use Rattle.reader.proofs.nodes.put_header.Statement.{statement}
+use Rattle.reader.proofs.nodes.put_header.Tie as tie
+
+sub-if2 : tie.Need-sub-if2
+sub-if2 c = search needs
+
+header-at-requires : tie.Need-header-at-requires
+header-at-requires c κs = search needs
+
+add-result : tie.Need-add-result
+add-result c = search needs
+
+same-length : tie.Need-same-length
+same-length c = search needs
+
+returns : tie.Need-returns
+returns c =
+    let x = c .before .before .before .before .before .before .before .args in
+    let n = length-le 4 (x .n) in
+    record { bytes = c .before .before .header-at .ensures; count = omega arith; room = search needs }
+
+put-requires : tie.Need-put-requires
+put-requires c κs = search needs
+
+far-requires : tie.Need-far-requires
+far-requires c κs = search needs
+
+put-le-requires : tie.Need-put-le-requires
+put-le-requires c κs = search needs
+
+same-length-2 : tie.Need-same-length-2
+same-length-2 c = search needs
+
+returns-2 : tie.Need-returns-2
+returns-2 c = wrote-then (c .before .before .before .before .before .before .before .put .ensures) (rw (c .before .before .before .far .ensures) at (c .before .before .put-le .ensures))
+
+pub put-header-spec : {M : Type 1} → statement M
+put-header-spec =
+    tie.close
+    (tie.spec
+    sub-if2
+    header-at-requires
+    add-result
+    same-length
+    returns
+    put-requires
+    far-requires
+    put-le-requires
+    same-length-2
+    returns-2)

@@ -1,0 +1,189 @@
+// Values that are no containers, told by their first byte.
+use crate::heads;
+use crate::nodes;
+use numbers::numeral::NumeralRead;
+use numbers::timestamp::TimestampRead;
+use text_rules::words::Kind;
+use tokens::quoted::Step;
+use tokens::values::FloatRead;
+use tokens::values::NullRead;
+ghost use mathlib.Core.Path.{_≡_};
+ghost use Prim.Native.Nat.{suc, _≤_, _<_};
+ghost use lib.ListN.{length, drop, getD};
+ghost use Rattle.output.specs.Wrote.{limit};
+ghost use Rattle.tokens.specs.Quoted.{string, clob};
+ghost use Rattle.tokens.specs.Token.{nullBehind};
+ghost use Rattle.numbers.specs.Numeral.{numeral};
+ghost use Rattle.tape.specs.Tree.{encode};
+ghost use Rattle.reader.specs.Grammar.{taken, words, numeralNode, number, numeric, scalar};
+ghost use Rattle.reader.specs.Steps.{Read, stringNode, clobNode, nullNode, timedNumber};
+
+// A string: its text is written first, its length before it then.
+fn string_at(text: &[u8], at: usize, buf: &mut [u8], pos: usize) -> Step
+    requires { ⌜ (at < length (now text)) × (pos ≤ limit) × (getD (now text) at 0 ≡ 34) ⌝ }
+    ensures { λ r. ⌜ Read encode (now (text .entry)) (suc at) (now (buf .entry)) (now (buf .exit)) pos (taken stringNode (string (drop at (now (text .entry))))) r ⌝ }
+{
+    let s = nodes::ahead(pos, 5);
+    let Step::Next { at: a, pos: e } = tokens::quoted::characters_at(text, at + 1, b'"', buf, s)
+    else {
+        return Step::Bad;
+    };
+    nodes::put_header(buf, pos, 8, e - s);
+    Step::Next { at: a, pos: e }
+}
+
+// A clob, in the same way.
+fn clob_at(text: &[u8], at: usize, buf: &mut [u8], pos: usize) -> Step
+    requires { ⌜ (at ≤ length (now text)) × (pos ≤ limit) ⌝ }
+    ensures { λ r. ⌜ Read encode (now (text .entry)) (suc at) (now (buf .entry)) (now (buf .exit)) pos (taken clobNode (clob (drop at (now (text .entry))))) r ⌝ }
+{
+    let s = nodes::ahead(pos, 5);
+    let Step::Next { at: a, pos: e } = tokens::quoted::clob_at(text, at, buf, s) else {
+        return Step::Bad;
+    };
+    nodes::put_header(buf, pos, 9, e - s);
+    Step::Next { at: a, pos: e }
+}
+
+// The type behind `null`, and a null of it.
+fn null_at(text: &[u8], at: usize, buf: &mut [u8], pos: usize) -> Step
+    requires { ⌜ at ≤ length (now text) ⌝ }
+    ensures { λ r. ⌜ Read encode (now (text .entry)) at (now (buf .entry)) (now (buf .exit)) pos (taken nullNode (nullBehind (drop at (now (text .entry))))) r ⌝ }
+{
+    let NullRead::Is(t, e) = tokens::values::null_behind(text, at) else {
+        return Step::Bad;
+    };
+    let p = nodes::put2(buf, pos, 0, t);
+    Step::Next { at: e, pos: p }
+}
+
+// A bare word; `m`: a marker may stand here.
+fn word_at(text: &[u8], at: usize, m: bool, buf: &mut [u8], pos: usize) -> Step
+    requires { ⌜ (at ≤ length (now text)) × (pos ≤ limit) ⌝ }
+    ensures { λ r. ⌜ Read encode (now (text .entry)) (suc at) (now (buf .entry)) (now (buf .exit)) pos (words m (drop at (now (text .entry)))) r ⌝ }
+{
+    let w = text_rules::words::word_at(text, at);
+    let k = w.kind;
+    let e = w.end;
+    match k {
+        Kind::Null => null_at(text, e, buf, pos),
+        Kind::True => {
+            let p = nodes::put2(buf, pos, 1, 1);
+            Step::Next { at: e, pos: p }
+        }
+        Kind::False => {
+            let p = nodes::put2(buf, pos, 1, 0);
+            Step::Next { at: e, pos: p }
+        }
+        Kind::Nan => {
+            let p = nodes::put_wide(buf, pos, 3, 0x7FF8_0000_0000_0000);
+            Step::Next { at: e, pos: p }
+        }
+        Kind::Marker => {
+            if m {
+                let p = output::put(buf, pos, 14);
+                Step::Next { at: e, pos: p }
+            } else {
+                Step::Bad
+            }
+        }
+        Kind::Number(n) => {
+            let p = nodes::put_header(buf, pos, 7, n as usize);
+            Step::Next { at: e, pos: p }
+        }
+        Kind::Text => {
+            let p = nodes::put_text(buf, pos, &text[at..e]);
+            Step::Next { at: e, pos: p }
+        }
+        Kind::Refused => Step::Bad,
+    }
+}
+
+// An int or a decimal.
+fn numeral_at(text: &[u8], at: usize, buf: &mut [u8], pos: usize) -> Step
+    requires { ⌜ (at ≤ length (now text)) × (pos ≤ limit) ⌝ }
+    ensures { λ r. ⌜ Read encode (now (text .entry)) (suc at) (now (buf .entry)) (now (buf .exit)) pos (taken numeralNode (numeral (drop at (now (text .entry))))) r ⌝ }
+{
+    let n = numbers::numeral::numeral_at(text, at);
+    match n {
+        NumeralRead::Int(z, e) => {
+            let p = nodes::put_int(buf, pos, z);
+            Step::Next { at: e, pos: p }
+        }
+        NumeralRead::Decimal(neg, m, x, e) => {
+            let p = nodes::put_decimal(buf, pos, neg, m, x);
+            Step::Next { at: e, pos: p }
+        }
+        NumeralRead::Bad => Step::Bad,
+    }
+}
+
+// A timestamp, or else an int or a decimal.
+fn timed_at(text: &[u8], at: usize, buf: &mut [u8], pos: usize) -> Step
+    requires { ⌜ (at ≤ length (now text)) × (pos ≤ limit) ⌝ }
+    ensures { λ r. ⌜ Read encode (now (text .entry)) (suc at) (now (buf .entry)) (now (buf .exit)) pos (timedNumber (drop at (now (text .entry)))) r ⌝ }
+{
+    let TimestampRead::Is(x, e) = numbers::timestamp::timestamp_at(text, at) else {
+        return numeral_at(text, at, buf, pos);
+    };
+    let p = nodes::put_timestamp(buf, pos, x);
+    Step::Next { at: e, pos: p }
+}
+
+// A float as printed, a timestamp, an int or a decimal. No float starts with a digit but 0.
+fn number_at(text: &[u8], at: usize, buf: &mut [u8], pos: usize) -> Step
+    requires { ⌜ (at < length (now text)) × (pos ≤ limit) ⌝ }
+    ensures { λ r. ⌜ Read encode (now (text .entry)) (suc at) (now (buf .entry)) (now (buf .exit)) pos (number (drop at (now (text .entry)))) r ⌝ }
+{
+    let b = text[at];
+    if b'0' < b {
+        if b <= b'9' {
+            return timed_at(text, at, buf, pos);
+        }
+    }
+    let FloatRead::Is(x, e) = tokens::values::float_at(text, at) else {
+        return timed_at(text, at, buf, pos);
+    };
+    let p = nodes::put_float(buf, pos, x);
+    Step::Next { at: e, pos: p }
+}
+
+// A digit or a sign.
+fn is_numeric(b: u8) -> bool
+    ensures { λ r. ⌜ r ≡ numeric b ⌝ }
+{
+    if b'9' < b {
+        return false;
+    }
+    if b'0' <= b {
+        return true;
+    }
+    if b == b'-' {
+        return true;
+    }
+    b == b'+'
+}
+
+// A value that is no container; `m`: a marker may stand here.
+pub fn scalar_at(text: &[u8], at: usize, m: bool, buf: &mut [u8], pos: usize) -> Step
+    requires { ⌜ (at ≤ length (now text)) × (pos ≤ limit) ⌝ }
+    ensures { λ r. ⌜ Read encode (now (text .entry)) (suc at) (now (buf .entry)) (now (buf .exit)) pos (scalar m (drop at (now (text .entry)))) r ⌝ }
+{
+    if at == text.len() {
+        return Step::Bad;
+    }
+    let b = text[at];
+    if b == b'"' {
+        return string_at(text, at, buf, pos);
+    }
+    if b == b'\'' {
+        return heads::symbol_at(text, at, buf, pos);
+    }
+    if b == b'{' {
+        return clob_at(text, at, buf, pos);
+    }
+    if is_numeric(b) {
+        return number_at(text, at, buf, pos);
+    }
+    word_at(text, at, m, buf, pos)
+}

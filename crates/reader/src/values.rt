@@ -1,0 +1,87 @@
+// Values and sequences, which call each other: a value passes its bracket before its sequence, so the text that is left falls.
+use crate::blanks;
+use crate::blanks::Opener;
+use crate::heads;
+use crate::heads::Run;
+use crate::nodes;
+use crate::scalars;
+use tape::Frame;
+use tape::Place;
+use tokens::quoted::Step;
+ghost use Prim.Native.Nat.{_≤_};
+ghost use lib.ListN.{length};
+ghost use Rattle.output.specs.Wrote.{limit};
+ghost use Rattle.reader.specs.Steps.{ValueAt, RunAt};
+
+// Reads the value at `at` in `frame`, in which `left` more containers may be open together, and writes its nodes at `pos`. A container's
+// children are written first, their length before them then.
+pub fn value(text: &[u8], at: usize, frame: Frame, left: usize, buf: &mut [u8], pos: usize) -> Step
+    requires { ⌜ (at ≤ length (now text)) × (pos ≤ limit) ⌝ }
+    ensures { λ r. ⌜ ValueAt (now (text .entry)) at frame left (now (buf .entry)) (now (buf .exit)) pos r ⌝ }
+{
+    let Run::Whole {
+        at: a,
+        pos: p,
+        count,
+    } = heads::head_at(text, at, frame, buf, pos)
+    else {
+        return Step::Bad;
+    };
+    let Opener::Opens(inner) = blanks::opener_at(text, a) else {
+        return scalars::scalar_at(text, a, heads::free_of(frame, count), buf, p);
+    };
+    if left == 0 {
+        return Step::Bad;
+    }
+    let s = nodes::ahead(p, 5);
+    let Run::Whole {
+        at: z,
+        pos: e,
+        count: _,
+    } = sequence(text, a + 1, inner, left - 1, buf, s)
+    else {
+        return Step::Bad;
+    };
+    nodes::put_header(buf, p, blanks::tag_of(inner), e - s);
+    Step::Next { at: z, pos: e }
+}
+
+// Reads the children from `from` through the frame's end, and writes their nodes from `start` on.
+pub fn sequence(
+    text: &[u8],
+    from: usize,
+    frame: Frame,
+    left: usize,
+    buf: &mut [u8],
+    start: usize,
+) -> Run
+    requires { ⌜ (from ≤ length (now text)) × (start ≤ limit) ⌝ }
+    ensures { λ r. ⌜ RunAt (now (text .entry)) from frame left (now (buf .entry)) (now (buf .exit)) start 0 r ⌝ }
+{
+    let mut at = from;
+    let mut pos = start;
+    let mut count: usize = 0;
+    loop {
+        let first = blanks::skip_blanks(text, at);
+        if let Place::At(end) = blanks::close_at(text, first, frame) {
+            return Run::Whole {
+                at: end,
+                pos,
+                count,
+            };
+        }
+        let Step::Next {
+            at: behind,
+            pos: next,
+        } = value(text, first, frame, left, buf, pos)
+        else {
+            return Run::Broken;
+        };
+        let Place::At(on) = blanks::gap_at(text, behind, frame) else {
+            return Run::Broken;
+        };
+        at = on;
+        pos = next;
+        count += 1;
+    }
+}
