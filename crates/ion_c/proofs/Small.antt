@@ -1,14 +1,18 @@
 -- A count fits across the border. Assumes nothing.
 use mathlib.Core.Bool.{Bool, true, false}
 use mathlib.Core.List.{List}
-use Prim.Native.Nat.{ℕ, zero, suc, _^_, _<_, _≤_}
+use mathlib.Core.Option.{Option, none, some}
+use Prim.Native.Nat.{ℕ, zero, suc, _^_, _<_, _≤_, min}
 use mathlib.Core.Path.{_≡_, refl}
 use native.Mathlib.Omega.{arith}
 use lib.Dec.{leb}
 use lib.ListN.{length}
 use borrow.Author.Tests.{leb-true}
-use Rattle.output.specs.Logic.{if}
+use Rattle.output.specs.Logic.{if, on}
 use Rattle.tape.specs.Answer.{Outcome, counted, refused}
+use Rattle.tape.specs.Tree.{Nodes, tape}
+use Rattle.reader.specs.Grammar.{meaning}
+use Rattle.reader.specs.Outcome.{fits, tapeAnswer, answer}
 use Rattle.writer.specs.Text.{streamText}
 use Rattle.writer.specs.Outcome.{refusal, measured, answered, streamed}
 use Rattle.tape.specs.Tape.{nodesOf}
@@ -29,3 +33,19 @@ streamed-small y t n h = go (refusal y t)
     go : (k : ℕ) → Small (answered k (measured (streamText y (nodesOf t)) n))
     go zero = measured-small (streamText y (nodesOf t)) n h
     go (suc k) = tt
+
+tape-small : (t : List ℕ) (n : ℕ) → Small (tapeAnswer t n)
+unfolding tapeAnswer fits
+tape-small t n = go (leb (length t) (min n 1_048_576)) refl
+  where
+    go : (b : Bool) → leb (length t) (min n 1_048_576) ≡ b → Small (if b (counted (length t)) (refused 9))
+    go true e = omega (arith, leb-true (length t) (min n 1_048_576) e)
+    go false e = tt
+
+pub answer-small : (t : List ℕ) (n : ℕ) → Small (answer t n)
+unfolding answer
+answer-small t n = go (meaning t)
+  where
+    go : (m : Option Nodes) → Small (on m (λ ns. tapeAnswer (tape ns) n) (refused 8))
+    go none = tt
+    go (some ns) = tape-small (tape ns) n

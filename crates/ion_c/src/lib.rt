@@ -4,6 +4,7 @@ ghost use mathlib.Core.Path.{_≡_};
 ghost use lib.ListN.{length};
 ghost use Rattle.tape.specs.Answer.{outcome};
 ghost use Rattle.writer.specs.Outcome.{streamed, leaves};
+ghost use Rattle.reader.specs.Outcome as read;
 ghost use Rattle.ion_c.specs.Code.{code, Small};
 use tape::answer::Answer;
 
@@ -35,5 +36,15 @@ pub extern "C" fn ion_write(layout: u32, tape: &[u8], out: &mut [u8]) -> i64
     ensures buffer { λ _. ⌜ now (out .exit) ≡ leaves layout (now (tape .entry)) (now (out .entry)) ⌝ }
 {
     let a = writer::writer::write_stream(layout, tape, out);
+    code_of(a)
+}
+
+// The tape of a text.
+#[no_mangle]
+pub extern "C" fn ion_read(text: &[u8], out: &mut [u8]) -> i64
+    ensures answer { λ r. ⌜ r ≡ code (read.answer (now (text .entry)) (length (now (out .entry)))) ⌝ }
+    ensures buffer { λ _. ⌜ now (out .exit) ≡ read.leaves (now (text .entry)) (now (out .entry)) ⌝ }
+{
+    let a = reader::read_text(text, out);
     code_of(a)
 }
