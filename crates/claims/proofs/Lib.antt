@@ -8,4 +8,5 @@ pub mod LineBack
 pub mod TokensRead
 pub mod WellRead
 pub mod TapeBack
+pub mod Reread
 pub mod Marked

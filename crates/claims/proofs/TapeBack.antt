@@ -33,7 +33,7 @@ use Rattle.claims.proofs.WellRead.{well-read}
 -- ---- from a tape to its text and back
 
 -- a tape that is not refused before measuring is accepted and has no annotations
-through : (y : ℕ) (t : List ℕ) → refusal y t ≡ 0 → (verdict t ≡ 0) × (noteds (nodesOf t) ≡ false)
+pub through : (y : ℕ) (t : List ℕ) → refusal y t ≡ 0 → (verdict t ≡ 0) × (noteds (nodesOf t) ≡ false)
 unfolding refusal
 through y t e = layout (ltb 2 y) e
   where

@@ -1,0 +1,79 @@
+-- Writing and then reading: what the writer finished is its text, and that text reads as the tape. Assumes nothing.
+use Prim.Native.Nat.{ℕ, zero, suc, _≤_}
+use mathlib.Core.Path.{_≡_, refl, ap, sym, _∙_}
+use mathlib.Core.List.{List, [], _∷_, _++_}
+use mathlib.Core.Bool.{Bool, true, false}
+use native.Mathlib.Omega.{arith}
+use lib.Dec.{leb}
+use lib.ListN.{length, take, drop}
+use lib.Seq.{take-take, take-append-seam}
+use types.Run.{OneOf, miss}
+use denote.Enum.Declared.{tagOf}
+use Rattle.tape.proofs.answer.Answer.{the-type}
+use borrow.Author.Tests.{leb-true}
+use Rattle.output.specs.Logic.{if}
+use Rattle.tape.specs.Tape.{nodesOf}
+use Rattle.tape.specs.Fine.{Bytes}
+use Rattle.tape.specs.Answer.{Outcome, counted, ended, refused, outcome}
+use Rattle.tape.specs.declared.answer.Answer.{Answer}
+use Rattle.tape.specs.declared.answer.Answer.the-variants as A
+use Rattle.reader.specs.Outcome.{tapeAnswer, tapeLeaves, answer}
+use Rattle.reader.specs.Outcome as read
+use Rattle.writer.specs.Outcome.{laid, refusal, measured, answered, left, streamed, leaves}
+use Rattle.writer.specs.Text.{streamText}
+use Rattle.tape.proofs.Walking.{tape-back}
+use Rattle.claims.specs.Back.{backAnswer, backLeaves}
+use Rattle.claims.proofs.TapeBack.{through, written-means}
+
+abbrev count : Outcome → ℕ
+count (counted n) = suc n
+count ended = 0
+count (refused n) = 0
+
+-- where the writer counts n bytes, nothing was refused and the buffer's first n bytes are the text
+pub record Finished (y : ℕ) (t b : List ℕ) (n : ℕ) : Type 0 where
+  pub let-through : refusal y t ≡ 0
+  pub room : n ≤ length b
+  pub is-text : take n (leaves y t b) ≡ streamText y (nodesOf t)
+
+pub finished : (y : ℕ) (t b : List ℕ) (n : ℕ) → streamed y t (length b) ≡ counted n → Finished y t b n
+unfolding streamed measured leaves laid
+finished y t b n e = refused-or (refusal y t) refl (ap count e)
+  where
+    s : List ℕ
+    s = streamText y (nodesOf t)
+
+    text : length s ≡ n → length s ≤ length b → take n (take (length b) (s ++ drop (length s) b)) ≡ s
+    text k l = sym (ap (λ (i : ℕ). take i (take (length b) (s ++ drop (length s) b))) k) ∙ take-take (length s) (length b) (s ++ drop (length s) b) l ∙ take-append-seam s (drop (length s) b)
+
+    fits : (g : Bool) → leb (length s) (length b) ≡ g → count (if g (counted (length s)) (refused 6)) ≡ suc n → (n ≤ length b) × (take n (take (length b) (s ++ drop (length s) b)) ≡ s)
+    fits true q h = let l = leb-true (length s) (length b) q in (omega arith, text (omega arith) l)
+    fits false q h = absurd (omega arith)
+
+    refused-or : (f : ℕ) → refusal y t ≡ f → count (answered f (if (leb (length s) (length b)) (counted (length s)) (refused 6))) ≡ suc n → Finished y t b n
+    refused-or zero r h = let z = fits (leb (length s) (length b)) refl h in record { let-through = r; room = z .0; is-text = rw r (z .1) }
+    refused-or (suc f) r h = absurd (omega arith)
+
+-- what the reader answers and leaves for the text of a tape is what it does for that very tape
+pub text-answer : (y : ℕ) (t : List ℕ) (n : ℕ) → Bytes t → refusal y t ≡ 0 → answer (streamText y (nodesOf t)) n ≡ tapeAnswer t n
+unfolding answer
+text-answer y t n b e = rw (written-means y t b e) (ap (λ (x : List ℕ). tapeAnswer x n) (tape-back t b (through y t e .0)))
+
+pub text-leaves : (y : ℕ) (t o : List ℕ) → Bytes t → refusal y t ≡ 0 → read.leaves (streamText y (nodesOf t)) o ≡ tapeLeaves t o
+unfolding read.leaves
+text-leaves y t o b e = rw (written-means y t b e) (ap (λ (x : List ℕ). tapeLeaves x o) (tape-back t b (through y t e .0)))
+
+-- an answer that is no count is handed on
+pub handed-on : (a : Answer) → OneOf (1 ∷ 2 ∷ 3 ∷ 4 ∷ 5 ∷ 6 ∷ 7 ∷ 8 ∷ 9 ∷ 10 ∷ 11 ∷ []) (tagOf the-type a) → (t o : List ℕ) → (backAnswer (outcome a) t (length o) ≡ outcome a) × (backLeaves (outcome a) t o ≡ o)
+handed-on (A.Count n) h t o = absurd (miss (1 ∷ 2 ∷ 3 ∷ 4 ∷ 5 ∷ 6 ∷ 7 ∷ 8 ∷ 9 ∷ 10 ∷ 11 ∷ []) 0 tt h)
+handed-on A.End h t o = (refl, refl)
+handed-on A.Misfit h t o = (refl, refl)
+handed-on A.BadNode h t o = (refl, refl)
+handed-on A.TooDeep h t o = (refl, refl)
+handed-on A.FiniteFloat h t o = (refl, refl)
+handed-on A.Unsuited h t o = (refl, refl)
+handed-on A.TextTooLong h t o = (refl, refl)
+handed-on A.NoLayout h t o = (refl, refl)
+handed-on A.OutsideGrammar h t o = (refl, refl)
+handed-on A.TapeTooLong h t o = (refl, refl)
+handed-on A.PastText h t o = (refl, refl)
