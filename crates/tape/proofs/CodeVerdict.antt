@@ -11,7 +11,7 @@ use borrow.Author.Tests.{lt-ltb, le-ltb, eq-eqb, ne-eqb}
 use Rattle.tape.specs.Bytes.{leNumber, part, first}
 use Rattle.tape.specs.Tape.{walk, bodyOf}
 use Rattle.tape.specs.Verdict.{misfit, countFault, verdict}
-use Rattle.tape.specs.CheckSteps.{Checks, TapeChecks}
+use Rattle.tape.specs.CheckSteps.{Checks, Refuses, TapeChecks}
 use Rattle.tape.specs.declared.Frame.the-variants.{Top}
 use Rattle.tape.specs.declared.check.Checked.{Checked}
 use Rattle.tape.proofs.Walking.{first-zero}
@@ -35,9 +35,9 @@ module _ (t : List ℕ) where
   unfolding misfit
   fits h g e = simp (le-ltb _ _ h, le-ltb _ _ g, eq-eqb _ _ e)
 
-  pub refuse-misfit : misfit t ≡ true → (r : Checked) → r .fault ≡ 1 → TapeChecks t r
+  pub refuse-misfit : misfit t ≡ true → (r : Checked) → Refuses 1 r → TapeChecks t r
   unfolding verdict
-  refuse-misfit e r f = record { fault = f ∙ rw e; counts = λ z. absurd (omega arith) }
+  refuse-misfit e r f = let one = f .fault in record { fault = one ∙ rw e; counts = λ z. absurd (omega arith); nothing = λ z. rw e f }
 
 -- ---- the nodes, then their number
 
@@ -67,10 +67,10 @@ module _ (t : List ℕ) (h : 8 ≤ length t) (g : length t ≤ 1_048_576) (e : l
       go (suc f) z = sym (verdict-is ∙ ap (λ (i : ℕ). first i (countFault t)) (sym (whole .fault) ∙ z))
 
   module _ (f : ℕ) (is : f ≡ first (w .fault) (if (eqb (leNumber 4 (drop (length t - 8 + 4) t)) (w .count)) 0 2)) where
-    pub refuse-nodes : (f ≡ 0 → ⊥) → (r : Checked) → r .fault ≡ f → TapeChecks t r
-    refuse-nodes nz r e = record { fault = e ∙ is ∙ faults; counts = λ z. absurd (nz (sym e ∙ z)) }
+    pub refuse-nodes : (f ≡ 0 → ⊥) → (r : Checked) → Refuses f r → TapeChecks t r
+    refuse-nodes nz r e = record { fault = e .fault ∙ is ∙ faults; counts = λ z. absurd (nz (sym (e .fault) ∙ z)); nothing = λ z. subst (λ (i : ℕ). Refuses i r) (is ∙ faults) e }
 
     pub accept : f ≡ 0 → TapeChecks t w
     accept z =
         let y : w .fault ≡ 0 = first-zero _ _ (sym is ∙ z) .0 in
-        record { fault = y ∙ sym z ∙ is ∙ faults; counts = whole .counts }
+        record { fault = y ∙ sym z ∙ is ∙ faults; counts = whole .counts; nothing = λ n. absurd (n y) }

@@ -2,6 +2,7 @@
 use Prim.Native.Nat.{ℕ}
 use mathlib.Core.Path.{_≡_}
 use mathlib.Core.List.{List}
+use mathlib.Core.Bool.{false}
 use mathlib.Core.Option.{Option, none, some}
 use Rattle.text_rules.specs.Text.{Sym}
 use Rattle.tape.specs.Tree.{Head, Nodes, size}
@@ -11,6 +12,8 @@ use Rattle.tape.specs.Verdict.{verdict}
 use Rattle.tape.specs.declared.Frame.{Frame}
 use Rattle.tape.specs.declared.check.Facts.{Facts}
 use Rattle.tape.specs.declared.check.Checked.{Checked}
+
+-- These speak of a head that is there: where it is broken the walk answers 2 before it looks at them.
 
 -- the problem of a symbol that the bytes l start with, and whether it is an identifier but 0
 pub record SymFacts (l : List ℕ) (r : Facts) : Type 0 where
@@ -31,12 +34,20 @@ pub record Counts (ns : Nodes) (r : Checked) : Type 0 where
   pub noted : r .noted ≡ noteds ns
   pub numbered : r .numbered ≡ numbereds ns
 
--- the walk of a body
+-- the walk of a body; what it says beside a problem is read by nobody
 pub record Checks (w : Walked) (r : Checked) : Type 0 where
   pub fault : r .fault ≡ w .1
   pub counts : r .fault ≡ 0 → Counts (w .0) r
+
+-- a problem, and nothing told of nodes
+pub record Refuses (f : ℕ) (r : Checked) : Type 0 where
+  pub fault : r .fault ≡ f
+  pub count : r .count ≡ 0
+  pub noted : r .noted ≡ false
+  pub numbered : r .numbered ≡ false
 
 -- the whole tape
 pub record TapeChecks (t : List ℕ) (r : Checked) : Type 0 where
   pub fault : r .fault ≡ verdict t
   pub counts : r .fault ≡ 0 → Counts (bodyOf t .0) r
+  pub nothing : (r .fault ≡ 0 → ⊥) → Refuses (verdict t) r

@@ -10,7 +10,7 @@ ghost use Rattle.tape.specs.Bytes.{part, first};
 ghost use Rattle.tape.specs.Tape.{textFault, floatFault, scalarFault, walk};
 ghost use Rattle.tape.specs.Refusal.{scalarNumbered};
 ghost use Rattle.tape.specs.Steps.{meantScalar, sizeOf};
-ghost use Rattle.tape.specs.CheckSteps.{SymFacts, SymsFacts, NotesFacts, HeadFacts, Checks, TapeChecks};
+ghost use Rattle.tape.specs.CheckSteps.{SymFacts, SymsFacts, NotesFacts, HeadFacts, Checks, Refuses, TapeChecks};
 ghost use Rattle.tape.specs.declared.Frame.the-variants.{Struct};
 use crate::Child;
 use crate::Frame;
@@ -253,8 +253,9 @@ fn head_facts(tape: &[u8], at: usize, end: usize, frame: Frame) -> Facts
 
 // ---- bodies
 
+// A problem, and nothing told of nodes.
 fn refused(fault: u8) -> Checked
-    ensures { λ r. ⌜ r .fault ≡ fault ⌝ }
+    ensures { λ r. ⌜ Refuses fault r ⌝ }
 {
     Checked {
         fault,

@@ -52,7 +52,7 @@ module _ (t : ℕ) where
   refused-requires c κs = search needs
 
   returns : lts.Need-returns (callees t) (at t) own.Post Inv μ-loop
-  returns c = rw (c .before .if1 .taken) (refuse-deep _ _ _ (c .refused .ensures))
+  returns c = rw (c .before .if1 .taken) (refuse-deep _ _ _ (c .refused .ensures .fault))
 
   loop-holds : lts.Need-loop-holds (callees t) (at t) own.Post Inv μ-loop
   loop-holds c = (c .before .before .pre .1 .0, omega arith, passed-none _)
@@ -74,7 +74,7 @@ module _ (t : ℕ) where
       let s = c .before .before .before .before .before .before .before .before .before in
       let a = s .args in
       let l = c .before .before .before .before .before .before .loop in
-      refuse (l .inv .2) _ 2 (ap (λ (w : Walked). w .1) (bad-turn (a .depth) (a .frame) (now (a .tape)) (l .at) (a .end) (c .before .before .before .before .before .before .before .if1 .left) (c .before .before .before .before .before .loop-test .taken) (s .pre .1 .1) (rw (c .before .enum-told .given .1) at (c .before .before .before .child-at .ensures)))) (λ e. omega arith) (c .refused2 .ensures)
+      refuse (l .inv .2) _ 2 (ap (λ (w : Walked). w .1) (bad-turn (a .depth) (a .frame) (now (a .tape)) (l .at) (a .end) (c .before .before .before .before .before .before .before .if1 .left) (c .before .before .before .before .before .loop-test .taken) (s .pre .1 .1) (rw (c .before .enum-told .given .1) at (c .before .before .before .child-at .ensures)))) (λ e. omega arith) (c .refused2 .ensures .fault)
 
   enum-known-c : lts.Need-enum-known-c (callees t) (at t) own.Post Inv μ-loop
   enum-known-c c = search needs
@@ -101,7 +101,7 @@ module _ (t : ℕ) where
       let l = c .before .before .before .before .before .before .before .before .before .before .loop in let h = headAt (a .frame) (part (now (a .tape)) (l .at) (a .end)) in
       let u = leaf-turn (a .depth) (a .frame) (now (a .tape)) (l .at) (a .end) (c .before .before .before .before .before .before .before .before .before .before .before .if1 .left) (c .before .before .before .before .before .before .before .before .before .loop-test .taken) (s .pre .1 .1) _ _ _ (rw (c .before .before .before .before .before .c .given .1) at (c .before .before .before .before .before .before .before .child-at .ensures)) in
       let t = c .before .before .before .before .before .before .before .before .head-facts .ensures .told h _ (u .read) in let e = c .before .before .first-of .ensures ∙ ap (λ (i : ℕ). first i (c .before .before .before .scalar-fault .result)) (t .0) ∙ ap (first (headFault h)) (c .before .before .before .scalar-fault .ensures) in
-      refuse-child (l .inv .2) _ _ _ _ (u .step) _ (λ z. c .before .if2 .taken (e ∙ z)) (c .refused3 .ensures ∙ e)
+      refuse-child (l .inv .2) _ _ _ _ (u .step) _ (λ z. c .before .if2 .taken (e ∙ z)) (c .refused3 .ensures .fault ∙ e)
 
   either-requires : lts.Need-either-requires (callees t) (at t) own.Post Inv μ-loop
   either-requires c κs = search needs
@@ -167,7 +167,7 @@ module _ (t : ℕ) where
       let l = c .before .before .before .before .before .before .before .before .before .loop in let h = headAt (a .frame) (part (now (a .tape)) (l .at) (a .end)) in
       let u = marker-turn (a .depth) (a .frame) (now (a .tape)) (l .at) (a .end) (c .before .before .before .before .before .before .before .before .before .before .if1 .left) (c .before .before .before .before .before .before .before .before .loop-test .taken) (s .pre .1 .1) _ (rw (c .before .before .before .before .c2 .given .1) at (c .before .before .before .before .before .before .child-at .ensures)) in
       let t = c .before .before .before .before .before .before .before .head-facts .ensures .told h _ (u .read) in
-      refuse-head (l .inv .2) _ _ _ _ (u .step) _ (λ z. c .before .if3 .taken (t .0 ∙ z)) (c .refused4 .ensures ∙ t .0)
+      refuse-head (l .inv .2) _ _ _ _ (u .step) _ (λ z. c .before .if3 .taken (t .0 ∙ z)) (c .refused4 .ensures .fault ∙ t .0)
 
   either-requires-4 : lts.Need-either-requires-4 (callees t) (at t) own.Post Inv μ-loop
   either-requires-4 c κs = search needs
@@ -228,7 +228,7 @@ module _ (t : ℕ) where
       let l = c .before .before .before .before .before .before .before .before .before .loop in let h = headAt (a .frame) (part (now (a .tape)) (l .at) (a .end)) in
       let u = tree-turn (a .depth) (a .frame) (now (a .tape)) (l .at) (a .end) (c .before .before .before .before .before .before .before .before .before .before .if1 .left) (c .before .before .before .before .before .before .before .before .loop-test .taken) (s .pre .1 .1) _ _ _ (rw (c .before .before .before .before .c3 .given .1) at (c .before .before .before .before .before .before .child-at .ensures)) in
       let t = c .before .before .before .before .before .before .before .head-facts .ensures .told h _ (u .read) in
-      refuse-head (l .inv .2) _ _ _ _ (u .step) _ (λ z. c .before .if4 .taken (t .0 ∙ z)) (c .refused5 .ensures ∙ t .0)
+      refuse-head (l .inv .2) _ _ _ _ (u .step) _ (λ z. c .before .if4 .taken (t .0 ∙ z)) (c .refused5 .ensures .fault ∙ t .0)
 
   sub-check-nodes : lts.Need-sub-check-nodes (callees t) (at t) own.Post Inv μ-loop
   sub-check-nodes c = search needs
@@ -257,7 +257,7 @@ module _ (t : ℕ) where
       let u = tree-turn (a .depth) (a .frame) (now (a .tape)) (l .at) (a .end) (c .before .before .before .before .before .before .before .before .before .before .before .before .before .if1 .left) (c .before .before .before .before .before .before .before .before .before .before .before .loop-test .taken) (s .pre .1 .1) _ _ _ (rw (c .before .before .before .before .before .before .before .c3 .given .1) at (c .before .before .before .before .before .before .before .before .before .child-at .ensures)) in
       let t = c .before .before .before .before .before .before .before .before .before .before .head-facts .ensures .told h _ (u .read) in
       let r = c .before .before .before .check-nodes .ensures in
-      refuse-node (l .inv .2) _ _ _ _ (u .step) _ (sym (t .0) ∙ c .before .before .before .before .if4 .left) (λ z. c .before .if5 .taken (r .fault ∙ z)) (c .refused6 .ensures ∙ r .fault)
+      refuse-node (l .inv .2) _ _ _ _ (u .step) _ (sym (t .0) ∙ c .before .before .before .before .if4 .left) (λ z. c .before .if5 .taken (r .fault ∙ z)) (c .refused6 .ensures .fault ∙ r .fault)
 
   either-requires-6 : lts.Need-either-requires-6 (callees t) (at t) own.Post Inv μ-loop
   either-requires-6 c κs = search needs
