@@ -1,14 +1,14 @@
 -- The round trip from tape to tape: the text of a tape that is let through, read back with room, is that tape again; and what is read is a
 -- tape that is let through. Assumes nothing.
 use Prim.Native.Nat.{ℕ, _≤_, min}
-use mathlib.Core.Path.{_≡_, refl, ap, _∙_}
+use mathlib.Core.Path.{_≡_, refl, ap, sym, _∙_}
 use mathlib.Core.List.{List, [], _∷_, _++_}
 use mathlib.Core.Bool.{Bool, true, false}
 use mathlib.Core.Option.{some}
 use native.Mathlib.Omega.{arith}
 use lib.Dec.{ltb}
 use lib.ListN.{length, drop, length-append}
-use borrow.Author.Tests.{le-leb}
+use borrow.Author.Tests.{le-leb, le-ltb}
 use Rattle.output.specs.Logic.{if}
 use Rattle.tape.specs.Bytes.{first}
 use Rattle.tape.specs.Tree.{Head, Node, Nodes, nil, more, encodeHead, encode, encodes, tape}
@@ -20,7 +20,7 @@ use Rattle.tape.specs.Fine.{Bytes, Fines}
 use Rattle.tape.specs.declared.Frame.the-variants.{Top}
 use Rattle.reader.specs.Grammar.{meaning}
 use Rattle.reader.specs.Outcome.{fits, tapeAnswer, tapeLeaves, answer, leaves}
-use Rattle.writer.specs.Outcome.{refusal}
+use Rattle.writer.specs.Outcome.{refusal, measured, streamed}
 use Rattle.writer.specs.Text.{streamText}
 use Rattle.tape.proofs.Walking.{first-zero, verdict-told, tape-back}
 use Rattle.tape.proofs.FineBack.{tape-fine}
@@ -70,6 +70,28 @@ round-trip y t b h e l =
       answer-some _ (length b) (nodesOf t) m (omega arith) (omega arith) ∙ ap counted n,
       leaves-some _ b (nodesOf t) m (omega arith) (omega arith) ∙ ap (λ (x : List ℕ). x ++ drop (length x) b) same,
     )
+
+-- ---- which tapes are let through
+
+-- a tape of well-formed nodes, at most 64 containers deep, that is not too long
+pub record TapeOf (t : List ℕ) : Type 0 where
+  pub nodes : Nodes
+  pub fine : Fines 64 Top nodes
+  pub is : t ≡ tape nodes
+  pub short : length t ≤ 1048576
+
+-- Bytes pass 1 to 4 and the count exactly where they are such a tape.
+pub accepted-exactly : (t : List ℕ) → Bytes t → (verdict t ≡ 0 → TapeOf t) × (TapeOf t → verdict t ≡ 0)
+accepted-exactly t b = (
+  λ e. record { nodes = nodesOf t; fine = tape-fine t b e; is = sym (tape-back t b e); short = verdict-told t e .most },
+  λ o. let s = o .short in let m = ap length (o .is) in ap verdict (o .is) ∙ tape-accepted (o .nodes) (o .fine) (omega arith),
+)
+
+-- The tape of well-formed nodes without annotations is written as the text of these nodes.
+pub tree-written : (y : ℕ) (ns : Nodes) (n : ℕ) → y ≤ 2 → Fines 64 Top ns → noteds ns ≡ false → length (tape ns) ≤ 1048576
+    → streamed y (tape ns) n ≡ measured (streamText y ns) n
+unfolding streamed refusal
+tree-written y ns n l f q m = rw (le-ltb 2 y l, tape-accepted ns f m, tape-nodes ns f, q)
 
 -- ---- from a text to its tape
 
