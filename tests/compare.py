@@ -53,6 +53,11 @@ def special():
         for total in range(-30, 31):
             m = int('9876543210' * 2) // 10**(20 - length) if length < 20 else 2**64 - 1
             yield [('dec', 0, m, total - length)], [('dec', 1, 10**(length - 1), total - length)]
+    for kind in ('list', 'sexp', 'struct'):
+        deep = ('int', 1)
+        for _ in range(64):
+            deep = (kind, [(('sym', b'k'), deep)] if kind == 'struct' else [deep])
+        yield ([deep],)
 
 
 def against_rust(r, lists):
@@ -124,6 +129,17 @@ def against_model(r, lists):
     print('%d damaged tapes against the model, %s: no difference' % (len(frames), told))
 
 
+def limits():
+    """Tapes of 1,048,576 bytes and one more: 1 from the writer, 9 from the reader, however ample the room."""
+    fits, over = (b'a' * (model.LONGEST + more - 13) for more in (0, 1))
+    kept, refused = tape([('str', fits)]), tape([('str', over)])
+    text = b'"' + fits + b'"\n'
+    room = 2 * model.LONGEST
+    same([(1, room, kept), (1, 9, kept), (1, room, refused)], [(len(text), text), (-6, text[:9]), (-1, b'')])
+    same([(READ, room, text), (READ, room, b'"' + over + b'"')], [(len(kept), kept), (-9, b'')])
+    print('tapes at and past 1,048,576 bytes: no difference')
+
+
 def main():
     count = int(sys.argv[1]) if len(sys.argv) > 1 else 10000
     r = random.Random(int(sys.argv[2]) if len(sys.argv) > 2 else 1)
@@ -131,6 +147,7 @@ def main():
     pairs, texts = against_rust(r, lists)
     read_back(r, pairs, texts)
     against_model(r, [stream(r) for _ in range(4 * count)])
+    limits()
 
 
 if __name__ == '__main__':

@@ -23,22 +23,19 @@ def row(layout, t, room):
     return answer, buffer
 
 
-def gives(layout, values, text, spare=3):
-    """A text, with `spare` bytes of the room kept behind it; and the same in just its length."""
-    t, text = tape(values), text.encode() if isinstance(text, str) else text
-    assert row(layout, t, len(text) + spare) == (len(text), text + b'#' * spare), (layout, values, text)
-    assert row(layout, t, len(text)) == (len(text), text)
+def gives(layout, values, text, spares=(3, 0)):
+    """A text, in rooms with so many bytes to spare behind it, which are kept."""
+    text = text.encode()
+    for spare in spares:
+        assert row(layout, tape(values), len(text) + spare) == (len(text), text + b'#' * spare), (layout, values, text)
 
 
 def gives_lines(*pairs):
     """Values at top level, each with its text; a blank (Compact) or LF follows every one."""
     for v, text in pairs:
-        text = text.encode() if isinstance(text, str) else text
-        gives(LINES, [v], text + b'\n', 2)
-        rows.pop()
-    for layout, end in (COMPACT, b' '), (PRETTY, b'\n'):
-        joined = b''.join((x.encode() if isinstance(x, str) else x) + end for _, x in pairs)
-        gives(layout, [v for v, _ in pairs], joined, 1)
+        gives(LINES, [v], text + '\n', spares=(2,))
+    for layout, end in (COMPACT, ' '), (PRETTY, '\n'):
+        gives(layout, [v for v, _ in pairs], ''.join(text + end for _, text in pairs))
 
 
 def refuses(number, *tapes, layouts=LAYOUTS, rooms=(12,)):
