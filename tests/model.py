@@ -1,8 +1,9 @@
-"""Document 01's streaming writer, modelled in Python from the document alone: `stream` gives a tape's text or refusal, `expect` the
-answer and the whole buffer.
+"""Document 01's streaming writer, modelled in Python from the document: `stream` gives a tape's text or refusal, `expect` the answer
+and the whole buffer.
 
-It was written by a reviewer who had not read our code, and shares nothing with it or with the Rust: Python's own UTF-8 decoder,
-calendar and regular expressions judge the tape. Values are the tuples of tapes.py.
+A reviewer wrote it. No code is shared with our crates or with the Rust: Python's own UTF-8 decoder, calendar and regular expressions
+judge the tape. Only the lone digit of `write_scientific` (`7.d-29`), which the document leaves to the source, is the source's.
+Values are the tuples of tapes.py.
 """
 import calendar
 import re

@@ -2,8 +2,8 @@
 """The writer on worked tapes: a table of tapes and what document 01 says they give.
 
 `gives(layout, values, text)` has its text written down here by hand, from the document's examples and sentences. `refuses(number, tape)`
-has its number so. `row(layout, tape, room)` is left to tests/model.py, which was made from the document alone; the rows written by hand
-are held against it too. Nothing expected here was ever asked of the program or of the Rust.
+has its number so. `row(layout, tape, room)` is left to tests/model.py, which was made from the document; the rows written by hand are
+held against it too. Nothing expected here was ever asked of the program or of the Rust.
 Run it to write crates/writings/stdin (frames: layout, u32 room, u32 length, tape) and crates/writings/stdout (answer and whole buffer).
 """
 import os
