@@ -1,31 +1,46 @@
-"""Compares our texts with the Rust's over random accepted tapes.
+"""Compares our texts with the Rust's over random accepted tapes, in full and cut short by the room; reads each text back, which must
+give the tape itself; and compares answer and buffer on damaged tapes with tests/model.py. The driver checks what it does not send: all
+of the buffer that a call must leave alone or zero.
 
     rt staticlib ion_c && gcc -O2 -o target/driver tests/driver.c target/staticlib/libion_c.a
     ORACLE=path/to/oracle python3 tests/compare.py [TAPES [SEED]]
 
 Prints the first difference in hex and exits 1, or what was compared.
 """
+import collections
 import random
 import struct
 import subprocess
 import sys
 
-from random_tapes import stream
-from tapes import ask, tape
+import model
+from random_tapes import nested, stream, value
+from tapes import ask, node, tape
 
 DRIVER = 'target/driver'
+READ = 16
+AMPLE = 1 << 16
 
 
-def ours(frames, room=1 << 20):
-    said = b''.join(bytes([m]) + struct.pack('<II', room, len(t)) + t for m, t in frames)
+def ours(frames):
+    """The answers to (mode, room, bytes) frames, each with the bytes that count: up to the count, or all of the room behind -6."""
+    said = b''.join(bytes([m]) + struct.pack('<II', room, len(t)) + t for m, room, t in frames)
     out = subprocess.run([DRIVER], input=said, stdout=subprocess.PIPE, check=True).stdout
-    texts, at = [], 0
-    for _ in frames:
+    answers, at = [], 0
+    for _, room, _ in frames:
         n = struct.unpack_from('<q', out, at)[0]
-        at += 8
-        texts.append(out[at:at + n] if n >= 0 else n)
-        at += max(n, 0)
-    return texts
+        shown = room if n == -6 else max(n, 0)
+        answers.append((n, out[at + 8:at + 8 + shown]))
+        at += 8 + shown
+    assert at == len(out)
+    return answers
+
+
+def same(frames, expected):
+    for (mode, room, t), due, own in zip(frames, expected, ours(frames)):
+        if due != own:
+            print('mode', mode, 'room', room, 'given', t.hex(), 'expected', due, 'ours', own)
+            sys.exit(1)
 
 
 def special():
@@ -38,18 +53,101 @@ def special():
         for total in range(-30, 31):
             m = int('9876543210' * 2) // 10**(20 - length) if length < 20 else 2**64 - 1
             yield [('dec', 0, m, total - length)], [('dec', 1, 10**(length - 1), total - length)]
+    for kind in ('list', 'sexp', 'struct'):
+        deep = ('int', 1)
+        for _ in range(64):
+            deep = (kind, [(('sym', b'k'), deep)] if kind == 'struct' else [deep])
+        yield ([deep],)
+
+
+def against_rust(r, lists):
+    """Each text in full, and the start of it where the room is short."""
+    pairs = [(y, tape(v)) for v in lists for y in (0, 1, 2)]
+    texts = ask(pairs)
+    same([(y, AMPLE, t) for y, t in pairs], [(len(s), s) for s in texts])
+    cut = [(y, r.randrange(len(s)), t, s) for (y, t), s in zip(pairs, texts) if s]
+    same([(y, room, t) for y, room, t, _ in cut], [(-6, s[:room]) for _, room, _, s in cut])
+    print('%d tapes in each of three layouts: no difference' % len(lists))
+    print('%d of the texts in a room cut short: no difference' % len(cut))
+    return pairs, texts
+
+
+def read_back(r, pairs, texts):
+    """Every text gives its tape, in just the tape's room too; one byte less is refusal 9."""
+    same([(READ, AMPLE, s) for s in texts], [(len(t), t) for _, t in pairs])
+    same([(READ, len(t), s) for (_, t), s in zip(pairs, texts)], [(len(t), t) for _, t in pairs])
+    same([(READ, r.randrange(len(t)), s) for (_, t), s in zip(pairs, texts)], [(-9, b'')] * len(pairs))
+    print('%d texts read back: each gives its tape, or 9 where the room is short' % len(texts))
+
+
+# Nodes that one refusal or another waits for.
+ODD = [b'\x0f', b'\x0e', b'\x0d\0', b'\x0d\x11', node(('notes', [('sym', b'a')], ('int', 1)))]
+ODD += [node(('float', bits)) for bits in (0x3FF0 << 48, 1, 0x7FEFFFFFFFFFFFFF, 0x7FF8000000000001, 0xFFF8 << 48)]
+
+
+def damaged(r, values):
+    """A tape with a byte changed, cut out or put in, its trailer then made to fit or left alone; or a trailer that does not fit."""
+    body, count = bytearray(tape(values)[:-8]), len(values)
+    way = r.randrange(6)
+    at = r.randrange(len(body) + 1)
+    if way == 0 and at < len(body):
+        body[at] = r.choice([r.randrange(256), r.randrange(16), (body[at] + r.choice([1, 255])) % 256])
+    elif way == 1:
+        del body[at:at + r.choice([1, 1, 2, 5])]
+    elif way == 2:
+        body[at:at] = bytes(r.choice([r.randrange(16), r.randrange(256)]) for _ in range(r.choice([1, 2, 5])))
+    elif way == 3:
+        body, count = r.choice([r.choice(ODD) + body, body + r.choice(ODD)]), count + r.choice([0, 1, 1])
+    elif way == 4:
+        count = r.choice([count + 1, 0, 2**32 - 1])
+    else:
+        t = bytearray(tape(values))
+        at = r.randrange(len(t))
+        change = r.randrange(3)
+        t[at:at + (change != 2)] = [r.randrange(256)] * (change != 1)
+        return bytes(t)
+    return bytes(body) + struct.pack('<II', len(body), count)
+
+
+def against_model(r, lists):
+    """Damaged tapes, annotated ones, depths around 64 and layouts past 2: answer and buffer."""
+    frames = []
+    for v in lists:
+        if r.random() < .1:
+            v = [nested(r, r.choice([63, 64, 65, 66]), value(r, r.randrange(2), True, True))]
+        elif r.random() < .1:
+            v = v + [value(r, 2, True, True)]
+        t = damaged(r, v)
+        y = r.choice([0, 1, 2, 0, 1, 2, 3, 15])
+        text = model.stream(y, t)
+        length = 20 if isinstance(text, int) else len(text)
+        frames.append((y, r.choice([0, length // 2, max(length - 1, 0), length, length + 1, length + 100]), t))
+    expected = [model.expect(y, t, b'\xa5' * room) for y, room, t in frames]
+    same(frames, [(n, buffer[:len(buffer) if n == -6 else max(n, 0)]) for n, buffer in expected])
+    seen = collections.Counter(min(n, 0) for n, _ in expected)
+    told = ', '.join('%d of %s' % (seen[n], 'refusal %d' % -n if n else 'a text') for n in sorted(seen, reverse=True))
+    print('%d damaged tapes against the model, %s: no difference' % (len(frames), told))
+
+
+def limits():
+    """Tapes of 1,048,576 bytes and one more: 1 from the writer, 9 from the reader, however ample the room."""
+    fits, over = (b'a' * (model.LONGEST + more - 13) for more in (0, 1))
+    kept, refused = tape([('str', fits)]), tape([('str', over)])
+    text = b'"' + fits + b'"\n'
+    room = 2 * model.LONGEST
+    same([(1, room, kept), (1, 9, kept), (1, room, refused)], [(len(text), text), (-6, text[:9]), (-1, b'')])
+    same([(READ, room, text), (READ, room, b'"' + over + b'"')], [(len(kept), kept), (-9, b'')])
+    print('tapes at and past 1,048,576 bytes: no difference')
 
 
 def main():
     count = int(sys.argv[1]) if len(sys.argv) > 1 else 10000
     r = random.Random(int(sys.argv[2]) if len(sys.argv) > 2 else 1)
     lists = [v for vs in special() for v in vs] + [stream(r) for _ in range(count)]
-    frames = [(y, tape(v)) for v in lists for y in (0, 1, 2)]
-    for (y, t), rust, own in zip(frames, ask(frames), ours(frames)):
-        if rust != own:
-            print('layout', y, 'tape', t.hex(), 'rust', rust, 'ours', own)
-            sys.exit(1)
-    print('%d tapes in each of three layouts: no difference' % len(lists))
+    pairs, texts = against_rust(r, lists)
+    read_back(r, pairs, texts)
+    against_model(r, [stream(r) for _ in range(4 * count)])
+    limits()
 
 
 if __name__ == '__main__':

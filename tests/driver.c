@@ -1,30 +1,52 @@
-/* Answers frames through libion_c.a. A frame is a byte (0, 1, 2: ion_write in that layout), u32 room, u32 length and bytes; the answer
-   is i64 and, where it is a count, that many bytes. Beside the room stand guard bytes; a changed one ends the driver. */
+/* Answers frames through libion_c.a. A frame is a byte (0..15: ion_write in that layout, 16: ion_read), u32 room, u32 length and bytes.
+   The answer is i64; behind a count come that many bytes, behind -6 all of the room's. The driver itself checks the rest of the buffer,
+   which is 0xA5 before the call, and ends with 2 to 7 where something is wrong: guard bytes beside the room, bytes past the count, a
+   refusal's buffer (untouched by ion_write but for -6, all zero by ion_read) and the input. */
 #include <stdint.h>
 #include <stdio.h>
 #include <stdlib.h>
 #include <string.h>
 
 int64_t ion_write(uint32_t layout, const uint8_t *tape, size_t tape_length, uint8_t *out, size_t out_length);
+int64_t ion_read(const uint8_t *text, size_t text_length, uint8_t *out, size_t out_length);
+
+enum { READ = 16, GUARD = 8, OLD = 0xA5 };
 
 static int take(void *p, size_t n) { return fread(p, 1, n, stdin) == n; }
+
+static int all(const uint8_t *p, size_t n, uint8_t b) {
+    for (size_t i = 0; i < n; i++)
+        if (p[i] != b) return 0;
+    return 1;
+}
+
+/* What must stand behind the first bytes that the caller compares; 0 if it does. */
+static int rest(uint8_t mode, int64_t r, const uint8_t *room, size_t n) {
+    if (r > (int64_t)n) return 4;
+    if (r >= 0) return all(room + r, n - (size_t)r, OLD) ? 0 : 5;
+    if (mode == READ) return r == -8 || r == -9 ? (all(room, n, 0) ? 0 : 6) : 4;
+    if (r == -6) return 0;
+    return r >= -7 ? (all(room, n, OLD) ? 0 : 6) : 4;
+}
 
 int main(void) {
     uint8_t mode;
     uint32_t room, length;
     while (take(&mode, 1) && take(&room, 4) && take(&length, 4)) {
-        uint8_t *in = malloc(length + 1), *out = malloc((size_t)room + 16);
-        if (!in || !out || !take(in, length)) return 2;
-        memset(out, 0xA5, (size_t)room + 16);
-        int64_t r = ion_write(mode, in, length, out + 8, room);
-        for (int i = 0; i < 8; i++)
-            if (out[i] != 0xA5 || out[8 + room + i] != 0xA5) return 3;
-        if (r > (int64_t)room) return 4;
-        for (size_t i = r < 0 ? room : (size_t)r; r >= 0 && i < room; i++)
-            if (out[8 + i] != 0xA5) return 5;
+        uint8_t *in = malloc(length + 1), *was = malloc(length + 1), *out = malloc((size_t)room + 2 * GUARD);
+        if (!in || !was || !out || !take(in, length)) return 2;
+        memcpy(was, in, length);
+        memset(out, OLD, (size_t)room + 2 * GUARD);
+        int64_t r = mode == READ ? ion_read(in, length, out + GUARD, room) : ion_write(mode, in, length, out + GUARD, room);
+        if (!all(out, GUARD, OLD) || !all(out + GUARD + room, GUARD, OLD)) return 3;
+        if (memcmp(in, was, length)) return 7;
+        int wrong = rest(mode, r, out + GUARD, room);
+        if (wrong) return wrong;
+        size_t shown = r >= 0 ? (size_t)r : r == -6 ? room : 0;
         fwrite(&r, 8, 1, stdout);
-        if (r > 0) fwrite(out + 8, 1, r, stdout);
+        fwrite(out + GUARD, 1, shown, stdout);
         free(in);
+        free(was);
         free(out);
     }
     return 0;
