@@ -1,0 +1,62 @@
+"""The reader's time on texts of 100 KiB and of 1 MiB, which must grow in line with the length, and beside jansson's on the same records.
+
+    python3 tests/bench_read.py
+
+Needs Debian's libjansson-dev. Processor time, best of many, all in one run.
+"""
+import os
+import subprocess
+import tempfile
+
+subprocess.run(['rt', 'staticlib', 'ion_c'], check=True, stdout=subprocess.DEVNULL)
+subprocess.run(['gcc', '-O2', '-o', 'target/bench_read', 'tests/bench_read.c', 'target/staticlib/libion_c.a', '-ljansson'], check=True)
+
+
+def filled(unit, size, before='', behind=''):
+    """A text of about `size` bytes: `unit` repeated."""
+    return before + unit * ((size - len(before) - len(behind)) // len(unit)) + behind
+
+
+PASS = '{name: "COSMOS 2251", norad: 22675, rise: 2026-11-15T02:14:07Z, peak: 61.25, sunlit: true}'
+PASS_JSON = '{"name": "COSMOS 2251", "norad": 22675, "rise": "2026-11-15T02:14:07Z", "peak": 61.25, "sunlit": true}'
+NEST = '[' * 60 + '1' + ']' * 60 + ' '
+SHAPES = {
+    'flat ints': lambda n: filled('1234 ', n),
+    'symbols': lambda n: filled('abcdef ', n),
+    'pass list': lambda n: filled(PASS + '\n', n),
+    'one list of records': lambda n: filled(PASS + ',\n', n, '[', ']'),
+    'nested to 60': lambda n: filled(NEST, n),
+    'annotations': lambda n: filled('a::b::c::d::1 ', n),
+    'opening brackets': lambda n: filled('[', n),
+    'opening braces': lambda n: filled('{a:', n),
+    'one digit run': lambda n: filled('7', n),
+    'one decimal 0.000…': lambda n: filled('0', n, '0.'),
+    'one string': lambda n: filled('x', n, '"', '"'),
+    'one string of escapes': lambda n: filled('\\n', n, '"', '"'),
+    'an unclosed string': lambda n: filled('x', n, '"'),
+    'many strings': lambda n: filled('"pass of the night" ', n),
+    'many unclosed marks': lambda n: filled("' ", n),
+    'blanks': lambda n: filled(' ', n),
+    'one clob': lambda n: filled('x', n, '{{"', '"}}'),
+}
+
+
+def measured(kind, text):
+    with tempfile.NamedTemporaryFile() as f:
+        f.write(text.encode())
+        f.flush()
+        said = subprocess.run(['target/bench_read', kind, f.name], stdout=subprocess.PIPE, check=True).stdout.split()
+    return int(said[-3]), int(said[-2]), float(said[-1])
+
+
+print('%-24s %12s %12s %7s %10s' % ('text', '100 KiB ns', '1 MiB ns', 'ratio', 'MB/s'))
+for name, make in SHAPES.items():
+    _, _, small = measured('ion', make(100 << 10))
+    answer, n, large = measured('ion', make(1 << 20))
+    print('%-24s %12.0f %12.0f %7.2f %10.0f  answers %d' % (name, small, large, large / small, n / large * 1e3, answer))
+ion = '[' + ',\n'.join([PASS] * 5000) + ']'
+json = '[' + ',\n'.join([PASS_JSON] * 5000) + ']'
+answer, _, ours = measured('ion', ion)
+parsed, _, theirs = measured('json', json)
+assert answer > 0 and parsed > 0, (answer, parsed)
+print('5,000 records: ours %.0f ns, jansson %.0f ns, ratio %.2f' % (ours, theirs, ours / theirs))
