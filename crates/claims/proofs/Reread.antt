@@ -1,29 +1,33 @@
 -- Writing and then reading: what the writer finished is its text, and that text reads as the tape. Assumes nothing.
-use Prim.Native.Nat.{ℕ, zero, suc, _≤_}
+use Prim.Native.Nat.{ℕ, zero, suc, _≤_, min}
 use mathlib.Core.Path.{_≡_, refl, ap, sym, _∙_}
 use mathlib.Core.List.{List, [], _∷_, _++_}
 use mathlib.Core.Bool.{Bool, true, false}
+use mathlib.Core.Option.{Option, none, some}
 use native.Mathlib.Omega.{arith}
 use lib.Dec.{leb}
 use lib.ListN.{length, take, drop}
-use lib.Seq.{take-take, take-append-seam}
+use lib.Seq.{take-take, take-at, take-append-seam}
 use types.Run.{OneOf, miss}
 use denote.Enum.Declared.{tagOf}
 use Rattle.tape.proofs.answer.Answer.{the-type}
 use borrow.Author.Tests.{leb-true}
-use Rattle.output.specs.Logic.{if}
+use Rattle.output.specs.Logic.{if, on}
+use Rattle.tape.specs.Tree.{Nodes, tape}
 use Rattle.tape.specs.Tape.{nodesOf}
+use Rattle.tape.specs.Verdict.{verdict}
 use Rattle.tape.specs.Fine.{Bytes}
 use Rattle.tape.specs.Answer.{Outcome, counted, ended, refused, outcome}
 use Rattle.tape.specs.declared.answer.Answer.{Answer}
 use Rattle.tape.specs.declared.answer.Answer.the-variants as A
-use Rattle.reader.specs.Outcome.{tapeAnswer, tapeLeaves, answer}
+use Rattle.reader.specs.Grammar.{meaning}
+use Rattle.reader.specs.Outcome.{fits, zeros, tapeAnswer, tapeLeaves, answer}
 use Rattle.reader.specs.Outcome as read
 use Rattle.writer.specs.Outcome.{laid, refusal, measured, answered, left, streamed, leaves}
 use Rattle.writer.specs.Text.{streamText}
 use Rattle.tape.proofs.Walking.{tape-back}
 use Rattle.claims.specs.Back.{backAnswer, backLeaves}
-use Rattle.claims.proofs.TapeBack.{through, written-means}
+use Rattle.claims.proofs.TapeBack.{through, written-means, read-accepted}
 
 abbrev count : Outcome → ℕ
 count (counted n) = suc n
@@ -46,12 +50,12 @@ finished y t b n e = refused-or (refusal y t) refl (ap count e)
     text : length s ≡ n → length s ≤ length b → take n (take (length b) (s ++ drop (length s) b)) ≡ s
     text k l = sym (ap (λ (i : ℕ). take i (take (length b) (s ++ drop (length s) b))) k) ∙ take-take (length s) (length b) (s ++ drop (length s) b) l ∙ take-append-seam s (drop (length s) b)
 
-    fits : (g : Bool) → leb (length s) (length b) ≡ g → count (if g (counted (length s)) (refused 6)) ≡ suc n → (n ≤ length b) × (take n (take (length b) (s ++ drop (length s) b)) ≡ s)
-    fits true q h = let l = leb-true (length s) (length b) q in (omega arith, text (omega arith) l)
-    fits false q h = absurd (omega arith)
+    in-room : (g : Bool) → leb (length s) (length b) ≡ g → count (if g (counted (length s)) (refused 6)) ≡ suc n → (n ≤ length b) × (take n (take (length b) (s ++ drop (length s) b)) ≡ s)
+    in-room true q h = let l = leb-true (length s) (length b) q in (omega arith, text (omega arith) l)
+    in-room false q h = absurd (omega arith)
 
     refused-or : (f : ℕ) → refusal y t ≡ f → count (answered f (if (leb (length s) (length b)) (counted (length s)) (refused 6))) ≡ suc n → Finished y t b n
-    refused-or zero r h = let z = fits (leb (length s) (length b)) refl h in record { let-through = r; room = z .0; is-text = rw r (z .1) }
+    refused-or zero r h = let z = in-room (leb (length s) (length b)) refl h in record { let-through = r; room = z .0; is-text = rw r (z .1) }
     refused-or (suc f) r h = absurd (omega arith)
 
 -- what the reader answers and leaves for the text of a tape is what it does for that very tape
@@ -77,3 +81,21 @@ handed-on A.NoLayout h t o = (refl, refl)
 handed-on A.OutsideGrammar h t o = (refl, refl)
 handed-on A.TapeTooLong h t o = (refl, refl)
 handed-on A.PastText h t o = (refl, refl)
+
+-- What the reader counts is a tape that the writers let through: its limit is the tape's own.
+pub counted-accepted : (s b : List ℕ) (n : ℕ) → answer s (length b) ≡ counted n → verdict (take n (read.leaves s b)) ≡ 0
+unfolding answer read.leaves tapeAnswer tapeLeaves fits
+counted-accepted s b n e = by-meaning (meaning s) refl (ap count e)
+  where
+    by-room : (ns : Nodes) → meaning s ≡ some ns → (g : Bool) → leb (length (tape ns)) (min (length b) 1_048_576) ≡ g → count (if g (counted (length (tape ns))) (refused 9)) ≡ suc n
+        → verdict (take n (if g (tape ns ++ drop (length (tape ns)) b) (zeros b))) ≡ 0
+    by-room ns m true q h =
+        let l = leb-true (length (tape ns)) (min (length b) 1_048_576) q in
+        let k : length (tape ns) ≡ n = omega arith in
+        ap verdict (take-at (tape ns) (drop (length (tape ns)) b) n k) ∙ read-accepted s ns m (omega arith) .0
+    by-room ns m false q h = absurd (omega arith)
+
+    by-meaning : (o : Option Nodes) → meaning s ≡ o → count (on o (λ ns. if (leb (length (tape ns)) (min (length b) 1_048_576)) (counted (length (tape ns))) (refused 9)) (refused 8)) ≡ suc n
+        → verdict (take n (on o (λ ns. if (leb (length (tape ns)) (min (length b) 1_048_576)) (tape ns ++ drop (length (tape ns)) b) (zeros b)) (zeros b))) ≡ 0
+    by-meaning none m h = absurd (omega arith)
+    by-meaning (some ns) m h = by-room ns m (leb (length (tape ns)) (min (length b) 1_048_576)) refl h

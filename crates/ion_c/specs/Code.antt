@@ -3,7 +3,8 @@ use Prim.Native.Nat.{ℕ, zero, suc, _^_, _<_}
 use lib.IntN.{ℤ, pos, negsuc}
 use Rattle.tape.specs.Answer.{Outcome, counted, ended, refused}
 
--- the count; 0 for the end mark; minus the refusal's number
+-- the count; 0 for the end mark; minus the refusal's number. No refusal has the number 0. A count of 0 is an empty text; a call that
+-- may answer the end mark never counts 0, since a tape has at least 8 bytes
 abbrev pub code : Outcome → ℤ
 code (counted n) = pos n
 code ended = pos 0

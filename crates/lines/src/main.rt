@@ -16,6 +16,7 @@ fn show(tape: &[u8]) {
     let a = writer::writer::write_stream(1, tape, &mut out);
     match a {
         Answer::Count(n) => {
+            // a count is no more than the buffer has
             if n <= 65536 {
                 io::write_all(STDOUT_FILENO, &out[0..n]);
             }
@@ -34,6 +35,7 @@ fn main() {
             return;
         }
     }
+    // no more is read than the buffer has
     if n <= 65536 {
         show(&tape[0..n]);
     }

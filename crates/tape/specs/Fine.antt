@@ -1,4 +1,5 @@
--- The well-formed trees: those that have a tape. Assumes nothing: these are definitions.
+-- The well-formed trees: those whose tape, unless it is too long, is refused by nothing of 1 to 4 (`Fines 64 Top`, theorem
+-- `accepted-exactly` of the claims). Assumes nothing: these are definitions.
 use Prim.Native.Nat.{ℕ, zero, suc, _^_, _≤_, _<_}
 use mathlib.Core.Path.{_≡_}
 use mathlib.Core.List.{List, [], _∷_}

@@ -31,7 +31,7 @@ pub data Scalar : Type 0 where
 abbrev pub Head : Type 0
 Head = Option Sym × List Sym
 
--- a node behind its head: a scalar, a container with its children, or the version marker
+-- a node behind its head: a scalar, a container with its children, or the version marker. `nest Top` is no node of a tape (`Inner`)
 mutual
   pub data Node : Type 0 where
     scalar : Scalar → Node

@@ -1,4 +1,5 @@
--- The streaming text of nodes. The layout y is 0 Compact, 1 Lines or 2 Pretty. Assumes nothing: these are definitions.
+-- The streaming text of nodes. The layout y is 0 Compact, 1 Lines or 2 Pretty; any other is refused by 7 before its text is asked for.
+-- Assumes nothing: these are definitions.
 use Prim.Native.Nat.{ℕ, _+_}
 use mathlib.Core.List.{List, [], _∷_, _++_}
 use mathlib.Core.Bool.{Bool, true, false}
