@@ -35,7 +35,7 @@ SHAPES = {
     'one string of escapes': lambda n: filled('\\n', n, '"', '"'),
     'an unclosed string': lambda n: filled('x', n, '"'),
     'many strings': lambda n: filled('"pass of the night" ', n),
-    'many unclosed marks': lambda n: filled("' ", n),
+    'quoted blanks': lambda n: filled("' ", n),
     'blanks': lambda n: filled(' ', n),
     'one clob': lambda n: filled('x', n, '{{"', '"}}'),
 }
