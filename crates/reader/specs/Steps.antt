@@ -121,7 +121,7 @@ pub record ValueAt (text : List ℕ) (from : ℕ) (k : Frame) (left : ℕ) (b b'
 pub record RunAt (text : List ℕ) (from : ℕ) (k : Frame) (left : ℕ) (b b' : List ℕ) (p m : ℕ) (r : Run) : Type 0 where
   pub told : (f : ℕ) → suc (2 * (length text - from)) ≤ f → Counted encodes size text from b b' p m (sequence f k left (drop from text)) r
 
--- a whole text was read, and its tape written from the buffer's start
+-- a whole text was read, its top-level nodes counted, and its tape written from the buffer's start
 abbrev pub ReadTape : List ℕ → List ℕ → List ℕ → Made → Type 0
-ReadTape text b b' (Length n) = (ns : Nodes) × (meaning text ≡ some ns) × Laid b b' 0 n (tape ns)
+ReadTape text b b' (Length n count) = (ns : Nodes) × (meaning text ≡ some ns) × (count ≡ size ns) × Laid b b' 0 n (tape ns)
 ReadTape text b b' Nothing = (meaning text ≡ none) × (length b' ≡ length b)

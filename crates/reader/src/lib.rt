@@ -16,14 +16,14 @@ ghost use Rattle.tape.specs.Answer.{outcome};
 ghost use Rattle.reader.specs.Outcome.{answer, leaves};
 ghost use Rattle.reader.specs.Steps.{ReadTape};
 
-// The length of a whole tape, or none.
+// The length of a whole tape and the number of its top-level nodes, or none.
 pub enum Made {
-    Length(usize),
+    Length(usize, usize),
     Nothing,
 }
 
 // Reads a whole text, and writes its tape at the buffer's start: the nodes, their length and their number.
-fn write_tape(text: &[u8], buf: &mut [u8]) -> Made
+pub fn write_tape(text: &[u8], buf: &mut [u8]) -> Made
     ensures { λ r. ⌜ ReadTape (now (text .entry)) (now (buf .entry)) (now (buf .exit)) r ⌝ }
 {
     let Run::Whole { at: _, pos, count } = values::sequence(text, 0, Frame::Top, 64, buf, 0) else {
@@ -31,11 +31,11 @@ fn write_tape(text: &[u8], buf: &mut [u8]) -> Made
     };
     let p = output::put_le(buf, pos, numbers::int::far(pos), 4);
     let q = output::put_le(buf, p, numbers::int::far(count), 4);
-    Made::Length(q)
+    Made::Length(q, count)
 }
 
 // How much of a buffer of n bytes a tape may fill.
-fn limit_of(n: usize) -> usize
+pub fn limit_of(n: usize) -> usize
     ensures { λ r. ⌜ r ≡ min n 1048576 ⌝ }
 {
     if 1048576 < n { 1048576 } else { n }
@@ -47,7 +47,7 @@ pub fn read_text(text: &[u8], out: &mut [u8]) -> Answer
     ensures buffer { λ _. ⌜ now (out .exit) ≡ leaves (now (text .entry)) (now (out .entry)) ⌝ }
 {
     let limit = limit_of(out.len());
-    let Made::Length(n) = write_tape(text, &mut out[..limit]) else {
+    let Made::Length(n, _) = write_tape(text, &mut out[..limit]) else {
         output::zero(out);
         return Answer::OutsideGrammar;
     };

@@ -58,7 +58,7 @@ returns-2 c =
     let l = c .before .before .before .before .before .before .before .before .before .before .before .before .limit-of in
     let w = c .before .before .before .before .before .before .before .before .before .before .write-tape in
     let e = rw (c .before .before .before .before .before .before .n .given .1) at (w .ensures) in
-    let r = whole-long t b (l .result) _ _ (e .0) (l .ensures) (e .1) (e .2) (c .before .before .before .before .if1 .taken) in
+    let r = whole-long t b (l .result) _ _ (e .0) (l .ensures) (e .1) (e .3) (c .before .before .before .before .if1 .taken) in
     (r .0, c .before .before .zero2 .ensures ∙ ap (λ (n : ℕ). replicate n 0) (length-front b (w .last .1 .0) (l .result) (w .kept .1 .0)) ∙ r .1)
 
 same-length-3 : tie.Need-same-length-3
@@ -71,7 +71,7 @@ returns-3 c =
     let l = c .before .before .before .before .before .before .before .before .limit-of in
     let w = c .before .before .before .before .before .before .write-tape in
     let e = rw (c .before .before .n .given .1) at (w .ensures) in
-    whole-fits t b (l .result) _ _ (e .0) (l .ensures) (e .1) (e .2) (c .if1 .left)
+    whole-fits t b (l .result) _ _ (e .0) (l .ensures) (e .1) (e .3) (c .if1 .left)
 
 pub read-text-spec : {M : Type 1} → statement M
 read-text-spec =
