@@ -1,8 +1,88 @@
 // Line reading: a text line by line, so that a line that was damaged costs no other.
+use reader::Made;
 use tape::answer::Answer;
+ghost use mathlib.Core.Path.{_≡_};
+ghost use Prim.Native.Nat.{ℕ, _+_, _≤_};
+ghost use lib.ListN.{length, drop};
+ghost use Rattle.line_reader.specs.Cut.{toFirst};
+ghost use Rattle.line_reader.specs.Book.{endsInLf, byBook};
+ghost use Rattle.line_reader.specs.Steps.{step, called};
 
 // What a call answers, and the next offset.
 pub struct Called {
     pub answer: Answer,
     pub at: usize,
+}
+
+// The offset behind the next LF, or the text's end.
+fn line_end(text: &[u8], at: usize) -> usize
+    requires { ⌜ at ≤ length (now text) ⌝ }
+    ensures { λ r. ⌜ r ≡ at + length (toFirst (drop at (now (text .entry)))) ⌝ }
+{
+    let mut i = at;
+    while i < text.len() {
+        if text[i] == b'\n' {
+            return i + 1;
+        }
+        i += 1;
+    }
+    i
+}
+
+// A line's last byte is LF.
+fn ends_in_lf(line: &[u8]) -> bool
+    ensures { λ r. ⌜ r ≡ endsInLf (now (line .entry)) ⌝ }
+{
+    let n = line.len();
+    if n == 0 {
+        return false;
+    }
+    line[n - 1] == b'\n'
+}
+
+// Reads a line: exactly one value or marker, then LF, whose tape is laid at the buffer's start. Refusals 8 and 9 zero the buffer.
+pub fn read_line(line: &[u8], out: &mut [u8]) -> Answer
+    ensures { λ r. ⌜ ((at : ℕ) → byBook (now (line .entry)) at (now (out .entry)) ≡ called r (at + length (now (line .entry))) (now (out .exit))) ⌝ }
+{
+    if !ends_in_lf(line) {
+        output::zero(out);
+        return Answer::OutsideGrammar;
+    }
+    let end = line.len() - 1;
+    let limit = reader::limit_of(out.len());
+    let Made::Length(n, count) = reader::write_tape(&line[..end], &mut out[..limit]) else {
+        output::zero(out);
+        return Answer::OutsideGrammar;
+    };
+    if count != 1 {
+        output::zero(out);
+        return Answer::OutsideGrammar;
+    }
+    if limit < n {
+        output::zero(out);
+        return Answer::TapeTooLong;
+    }
+    Answer::Count(n)
+}
+
+// One call, by the text and an offset: 10 past the text, the end mark at its end, else the bytes through the next LF are read.
+pub fn line_at(text: &[u8], at: usize, out: &mut [u8]) -> Called
+    ensures { λ r. ⌜ called (r .answer) (r .at) (now (out .exit)) ≡ step (now (text .entry)) at (now (out .entry)) ⌝ }
+{
+    let n = text.len();
+    if n < at {
+        return Called {
+            answer: Answer::PastText,
+            at,
+        };
+    }
+    if at == n {
+        return Called {
+            answer: Answer::End,
+            at,
+        };
+    }
+    let end = line_end(text, at);
+    let answer = read_line(&text[at..end], out);
+    Called { answer, at: end }
 }
