@@ -86,3 +86,34 @@ pub fn line_at(text: &[u8], at: usize, out: &mut [u8]) -> Called
     let answer = read_line(&text[at..end], out);
     Called { answer, at: end }
 }
+
+// A session: the lent text and the next offset.
+pub struct Session<'a> {
+    pub text: &'a [u8],
+    pub at: usize,
+}
+
+// A fresh session.
+pub fn new<'a>(text: &'a [u8]) -> Session<'a>
+    ensures { λ r. ⌜ (r .text ≡ text .entry) × (r .at ≡ 0) ⌝ }
+{
+    Session { text, at: 0 }
+}
+
+// The session's next call.
+pub fn next<'s, 'a, 'b>(s: &'s mut Session<'a>, out: &'b mut [u8]) -> Answer
+    ensures { λ r. ⌜ (now (s .exit) .text ≡ now (s .entry) .text) × (called r (now (s .exit) .at) (now (out .exit)) ≡ step (now (now (s .entry) .text)) (now (s .entry) .at) (now (out .entry))) ⌝ }
+{
+    let c = line_at(s.text, s.at, out);
+    s.at = c.at;
+    c.answer
+}
+
+// A call from any offset, by a session of its own: its parameters are plain.
+pub fn call_at(text: &[u8], at: usize, out: &mut [u8]) -> Called
+    ensures { λ r. ⌜ called (r .answer) (r .at) (now (out .exit)) ≡ step (now (text .entry)) at (now (out .entry)) ⌝ }
+{
+    let mut s = Session { text, at };
+    let answer = next(&mut s, out);
+    Called { answer, at: s.at }
+}
