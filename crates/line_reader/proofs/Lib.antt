@@ -1,2 +1,4 @@
 pub mod LineLaws
 pub mod Ported
+pub mod RunLaws
+pub mod Again

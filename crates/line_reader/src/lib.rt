@@ -5,8 +5,8 @@ ghost use mathlib.Core.Path.{_≡_};
 ghost use Prim.Native.Nat.{ℕ, _+_, _≤_};
 ghost use lib.ListN.{length, drop};
 ghost use Rattle.line_reader.specs.Cut.{toFirst};
-ghost use Rattle.line_reader.specs.Book.{endsInLf, byBook};
-ghost use Rattle.line_reader.specs.Steps.{step, called};
+ghost use Rattle.line_reader.specs.Book.{endsInLf, byBook, book};
+ghost use Rattle.line_reader.specs.Steps.{step, called, Ran};
 
 // What a call answers, and the next offset.
 pub struct Called {
@@ -116,4 +116,17 @@ pub fn call_at(text: &[u8], at: usize, out: &mut [u8]) -> Called
     let mut s = Session { text, at };
     let answer = next(&mut s, out);
     Called { answer, at: s.at }
+}
+
+// As many calls as there is room for answers, from a fresh session, each from what the last one left. Returns the last offset.
+pub fn read_lines(text: &[u8], out: &mut [u8], answers: &mut [Answer]) -> usize
+    ensures { λ r. ⌜ Ran (book (length (now (answers .entry))) (now (text .entry)) (now (out .entry))) (now (out .entry)) (now (answers .exit)) r (now (out .exit)) ⌝ }
+{
+    let mut s = new(text);
+    let mut i = 0;
+    while i < answers.len() {
+        answers[i] = next(&mut s, out);
+        i += 1;
+    }
+    s.at
 }
