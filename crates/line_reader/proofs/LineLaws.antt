@@ -1,8 +1,8 @@
 -- What `line_end`, `ends_in_lf`, `read_line` and `line_at` need: the next LF from a place on, and the book's turn for a line, by its ways. Assumes nothing.
-use Prim.Native.Nat.{ℕ, suc, _+_, _-_, _≤_, _<_, min}
-use mathlib.Core.Path.{_≡_, refl, sym, _∙_, ap}
+use Prim.Native.Nat.{ℕ, _+_, _-_, _≤_, _<_, min}
+use mathlib.Core.Path.{_≡_, refl, sym}
 use mathlib.Core.List.{List, [], _∷_, _++_}
-use mathlib.Core.Bool.{Bool, true, false}
+use mathlib.Core.Bool.{true, false}
 use mathlib.Core.Option.{none, some}
 use native.Mathlib.Numerals.{add-one}
 use native.Mathlib.Omega.{arith}
@@ -13,7 +13,7 @@ use Rattle.tape.specs.Tree.{Nodes, nil, more, size, tape}
 use Rattle.tape.specs.declared.answer.Answer.{Answer}
 use Rattle.tape.specs.declared.answer.Answer.the-variants.{Count, OutsideGrammar, TapeTooLong}
 use Rattle.reader.specs.Grammar.{meaning}
-use Rattle.reader.specs.Outcome.{fits, zeros}
+use Rattle.reader.specs.Outcome.{zeros}
 use Rattle.reader.specs.Steps.{Laid}
 use Rattle.reader.proofs.Whole.{tape-long, tape-fits}
 use Rattle.line_reader.specs.Cut.{lf, toFirst}

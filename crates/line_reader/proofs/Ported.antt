@@ -10,7 +10,7 @@ use lib.Dec.{eqb}
 use lib.ListN.{length, take, drop, length-append, length-drop}
 use lib.Seq.{drop-drop, drop-append-seam, take-append-seam}
 use Rattle.output.specs.Logic.{if, on}
-use Rattle.reader.specs.Outcome.{fits, zeros}
+use Rattle.reader.specs.Outcome.{fits}
 use Rattle.line_reader.specs.Cut.{lf, grow, linesOf, toFirst}
 use Rattle.line_reader.specs.Book.{Call, success, failure, endMark, lineTape, room, byBook, play, book}
 use Rattle.line_reader.specs.Steps.{past, step, calls}

@@ -75,7 +75,7 @@ module _ (text buf₀ : List ℕ) (room : List Answer) where
 
     pub next-answers : map outcome (u .made ++ (r ∷ [])) ≡ map answerOf (calls (u .count + 1) text 0 buf₀)
     unfolding called
-    next-answers = rw (calls-next, map-append, map-append) (ap (λ (os : List Outcome). os ++ (outcome r ∷ [])) (u .made-are))
+    next-answers = rw (calls-next, map-append outcome (u .made) (r ∷ []), map-append answerOf (calls (u .count) text 0 buf₀) (called r at buf ∷ [])) (ap (λ (os : List Outcome). os ++ (outcome r ∷ [])) (u .made-are))
 
     pub next-at : at ≡ lastAt 0 (calls (u .count + 1) text 0 buf₀)
     unfolding called

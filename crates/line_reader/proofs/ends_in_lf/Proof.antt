@@ -1,7 +1,6 @@
 -- `line_reader::ends_in_lf` meets its contract. Assumes nothing.
 use mathlib.Core.Path.{refl}
 use borrow.Author.Needs.{needs}
-use lib.ListN.{length}
 use Rattle.line_reader.specs.Book.{endsInLf}
 use Rattle.line_reader.proofs.LineLaws.{ends-none}
 use Rattle.line_reader.proofs.ends_in_lf.Statement.{statement}
