@@ -15,13 +15,13 @@ returns : tie.Need-returns
 unfolding called past
 returns c =
     let a = c .before .before .before .args in
-    sym (step-past (a .text .now) (a .at) (a .out .now) (c .if1 .taken))
+    sym (step-past (a .text .now) (a .at) (a .out .now) (omega arith))
 
 returns-2 : tie.Need-returns-2
 unfolding called endMark
 returns-2 c =
     let a = c .before .before .before .before .args in
-    sym (step-end (a .text .now) (a .at) (a .out .now) (c .if2 .taken))
+    sym (step-end (a .text .now) (a .at) (a .out .now) (omega arith))
 
 line-end-requires : tie.Need-line-end-requires
 line-end-requires c κs = search needs
