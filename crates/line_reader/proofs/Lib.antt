@@ -1,0 +1,3 @@
+pub mod CutLaws
+pub mod BookLaws
+pub mod Demand
