@@ -20,13 +20,13 @@ use Rattle.tape.specs.Fine.{Bytes, Fines}
 use Rattle.tape.specs.declared.Frame.the-variants.{Top}
 use Rattle.reader.specs.Grammar.{meaning}
 use Rattle.reader.specs.Outcome.{fits, tapeAnswer, tapeLeaves, answer, leaves}
+use Rattle.line_reader.specs.Cut.{lfs}
 use Rattle.writer.specs.Outcome.{refusal, measured, streamed}
 use Rattle.writer.specs.Text.{streamText}
 use Rattle.tape.proofs.Walking.{first-zero, verdict-told, tape-back}
 use Rattle.tape.proofs.FineBack.{tape-fine}
 use Rattle.tape.proofs.Accepted.{tape-length, tape-accepted, tape-nodes}
 use Rattle.claims.proofs.StreamBack.{stream-back}
-use Rattle.claims.proofs.NoLineFeed.{lfs}
 use Rattle.claims.proofs.LineBack.{lineBody, line, line-body, line-back, alone-first, alone-rest}
 use Rattle.claims.proofs.WellRead.{well-read}
 
