@@ -10,3 +10,4 @@ pub mod WellRead
 pub mod TapeBack
 pub mod Reread
 pub mod Marked
+pub mod Demand3

@@ -115,7 +115,7 @@ pub record WrittenLine (room : ℕ) (h : Head) (n : Node) : Type 0 where
   pub reads : meaning (line h n) ≡ some (more h n nil)
   pub room-enough : length (tape (more h n nil)) ≤ room
 
-first-shorter : (h : Head) (n : Node) (ns : Nodes) → (length (tape (more h n nil)) ≤ length (tape (more h n ns))) × (length (tape ns) ≤ length (tape (more h n ns)))
+pub first-shorter : (h : Head) (n : Node) (ns : Nodes) → (length (tape (more h n nil)) ≤ length (tape (more h n ns))) × (length (tape ns) ≤ length (tape (more h n ns)))
 unfolding encode
 first-shorter h n ns =
     let a = tape-length (more h n nil) in

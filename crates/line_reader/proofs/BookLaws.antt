@@ -7,11 +7,12 @@ use mathlib.Core.Bool.{Bool, true, false}
 use native.Mathlib.Omega.{arith}
 use borrow.Author.Tests.{lt-ltb, le-ltb, eq-eqb, ne-eqb, leb-true}
 use lib.ListN.{length, drop, length-append, length-drop, length-replicate}
-use lib.Seq.{drop-drop, drop-append-seam}
-use Rattle.output.specs.Logic.{if, on}
+use lib.Seq.{drop-drop, drop-append-seam, take-at, getD-at}
+use Rattle.output.specs.Logic.{if, on, then}
+use Rattle.reader.specs.Grammar.{meaning}
 use Rattle.reader.specs.Outcome.{fits, zeros}
-use Rattle.line_reader.specs.Cut.{linesOf, toFirst}
-use Rattle.line_reader.specs.Book.{Call, success, failure, endMark, lineTape, room, byBook, play, book}
+use Rattle.line_reader.specs.Cut.{lf, linesOf, toFirst}
+use Rattle.line_reader.specs.Book.{Call, success, failure, endMark, endsInLf, single, lineTape, room, byBook, play, book}
 use Rattle.line_reader.specs.Steps.{past, step, calls}
 use Rattle.line_reader.proofs.CutLaws.{afterFirst, cut-first, first-after}
 
@@ -30,6 +31,13 @@ unfolding step
 step-line text at buf h = rw (le-ltb (length text) at (omega arith), ne-eqb at (length text) (λ z. omega arith))
 
 -- ---- the book's turn for a line
+
+-- bytes and LF: the line's tape is that of the one node that the bytes mean
+pub line-tape : (u : List ℕ) → lineTape (u ++ lf ∷ []) ≡ then (meaning u) single
+unfolding lineTape endsInLf
+line-tape u =
+    let n : length u ≡ length (u ++ lf ∷ []) - 1 = omega (arith, length-append u (lf ∷ [])) in
+    rw (getD-at u lf [] 0 (length (u ++ lf ∷ []) - 1) n, take-at u (lf ∷ []) (length (u ++ lf ∷ []) - 1) n)
 
 -- it steps past the line
 pub book-at : (l : List ℕ) (at : ℕ) (buf : List ℕ) → byBook l at buf .at ≡ at + length l

@@ -100,6 +100,11 @@ like-written n (w ∷ ws) a = like-more record { same = book-written n w (a .0);
 
 -- ---- demand 3
 
+-- A text of written values is answered as written, line by line.
+pub undamaged : (ws : List Written) (buf : List ℕ) → All (Reads (length buf)) ws → (n : ℕ) → book n (joined ws) buf ≡ play n (map asWritten ws) 0 buf
+unfolding book
+undamaged ws buf a n = rw (cut-joined (length buf) ws a) (play-like n 0 buf refl (like-written (length buf) ws a))
+
 -- Of a text of written values one run is replaced: every list of calls is answered, by the book, as `damaged` says.
 pub demand : (ws : List Written) (buf : List ℕ) → All (Reads (length buf)) ws → (head run new tail : List ℕ) → joined ws ≡ head ++ run ++ tail
     → (n : ℕ) → book n (head ++ new ++ tail) buf ≡ play n (damaged ws head run new tail) 0 buf
