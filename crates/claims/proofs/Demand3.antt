@@ -1,22 +1,21 @@
 -- DEMAND 3: `demand-3`, of the book, and `demand-3-calls`, of the calls by offsets. Assumes nothing.
 use Prim.Native.Nat.{ℕ, suc, _≤_, min}
 use mathlib.Core.Path.{_≡_, refl, sym, _∙_, ap}
-use mathlib.Core.List.{List, [], _∷_, _++_, map, append-assoc}
+use mathlib.Core.List.{List, [], _∷_, _++_, map, append-assoc, flatten}
 use mathlib.Core.Bool.{true, false}
 use mathlib.Core.Option.{some}
 use native.Mathlib.Omega.{arith}
 use lib.ListN.{length}
 use borrow.Author.Tests.{le-leb}
-use Rattle.output.specs.Logic.{then}
 use Rattle.tape.specs.Tree.{Head, Node, Nodes, nil, more, size, tape}
 use Rattle.tape.specs.Tape.{nodesOf}
 use Rattle.tape.specs.Refusal.{noteds}
 use Rattle.tape.specs.Fine.{Bytes, Fines}
 use Rattle.tape.specs.declared.Frame.the-variants.{Top}
 use Rattle.reader.specs.Outcome.{fits}
-use Rattle.line_reader.specs.Cut.{lf, linesOf}
+use Rattle.line_reader.specs.Cut.{lf, linesOf, toFirst, fromLast}
 use Rattle.line_reader.specs.Book.{single, lineTape, play, book}
-use Rattle.line_reader.specs.Damage.{Written, damaged}
+use Rattle.line_reader.specs.Damage.{Written, asWritten, before, behind, damaged}
 use Rattle.line_reader.specs.Steps.{calls}
 use Rattle.writer.specs.Outcome.{refusal}
 use Rattle.writer.specs.Text.{streamText}
@@ -24,7 +23,7 @@ use Rattle.tape.proofs.Walking.{verdict-told, tape-back}
 use Rattle.tape.proofs.FineBack.{tape-fine}
 use Rattle.line_reader.proofs.CutLaws.{cut-line}
 use Rattle.line_reader.proofs.BookLaws.{line-tape, calls-book}
-use Rattle.line_reader.proofs.Demand.{Reads, All, joined, demand}
+use Rattle.line_reader.proofs.Demand.{Reads, All, joined, before-behind, undamaged, demand}
 use Rattle.claims.specs.Demand3.{writtenAs, linesEach}
 use Rattle.claims.proofs.LineBack.{lineBody, line, lines-more, lines-none, line-alone, alone-first, alone-rest, line-body, line-body-back}
 use Rattle.claims.proofs.TapeBack.{through, first-shorter}
@@ -38,16 +37,16 @@ written (more h n ns) = record { line = line h n; tape = tape (more h n nil) } �
 
 -- these lines joined are the Lines text
 written-text : (ns : Nodes) → joined (written ns) ≡ streamText 1 ns
-unfolding written joined
+unfolding written flatten
 written-text nil = sym lines-none
 written-text (more h n ns) = ap (λ (t : List ℕ). line h n ++ t) (written-text ns) ∙ sym (lines-more h n ns)
 
 -- a line is read to its node's tape
-line-reads : (h : Head) (n : Node) → Fines 64 Top (more h n nil) → noteds (more h n nil) ≡ false → lineTape (line h n) ≡ some (tape (more h n nil))
+pub line-reads : (h : Head) (n : Node) → Fines 64 Top (more h n nil) → noteds (more h n nil) ≡ false → lineTape (line h n) ≡ some (tape (more h n nil))
 unfolding line single
 line-reads h n f q = line-tape (lineBody h n) ∙ rw (line-body-back h n f q)
 
-tape-fits : (t : List ℕ) (n : ℕ) → length t ≤ n → length t ≤ 1048576 → fits t n ≡ true
+pub tape-fits : (t : List ℕ) (n : ℕ) → length t ≤ n → length t ≤ 1048576 → fits t n ≡ true
 unfolding fits
 tape-fits t n l m = le-leb (length t) (min n 1048576) (omega arith)
 
@@ -83,8 +82,7 @@ lines-each (more h n ns) f q =
     let r = alone-rest h n ns f q in
     rw (lines-more h n ns, line-alone h n, line-first h n (streamText 1 ns) (alone-first h n ns f q .0)) (ap (λ (ls : List (List ℕ)). line h n ∷ ls) (lines-each ns (r .0) (r .1)))
 
--- There are as many lines as nodes.
-pub lines-size : (ns : Nodes) → length (linesEach ns) ≡ size ns
+lines-size : (ns : Nodes) → length (linesEach ns) ≡ size ns
 unfolding linesEach size
 lines-size nil = refl
 lines-size (more h n ns) = ap suc (lines-size ns)
@@ -128,3 +126,26 @@ demand-3 t head run new tail buf n b e s l =
 pub demand-3-calls : (t head run new tail buf : List ℕ) (n : ℕ) → Bytes t → refusal 1 t ≡ 0 → streamText 1 (nodesOf t) ≡ head ++ run ++ tail → length t ≤ length buf
     → calls n (head ++ new ++ tail) 0 buf ≡ play n (damaged (writtenAs (linesOf (head ++ run ++ tail)) (nodesOf t)) head run new tail) 0 buf
 demand-3-calls t head run new tail buf n b e s l = calls-book n (head ++ new ++ tail) buf ∙ demand-3 t head run new tail buf n b e s l
+
+-- Which lines these are: before, joined, the head up to its last LF; behind, joined, the tail from behind its first LF.
+pub before-and-behind : (t head run tail : List ℕ) → Bytes t → refusal 1 t ≡ 0 → streamText 1 (nodesOf t) ≡ head ++ run ++ tail
+    → (joined (before (writtenAs (linesOf (head ++ run ++ tail)) (nodesOf t)) head) ++ fromLast head ≡ head)
+    × (toFirst tail ++ joined (behind (writtenAs (linesOf (head ++ run ++ tail)) (nodesOf t)) head run) ≡ tail)
+before-and-behind t head run tail b e s =
+    let w = lines-of t (length t) b e (omega arith) in
+    rw (← s, w .each) (before-behind (length t) (written (nodesOf t)) (w .reads) head run tail (w .text ∙ s))
+
+-- One line for each top-level node: the lines are the nodes' own Lines texts, and as many.
+pub one-line-each : (t : List ℕ) → Bytes t → refusal 1 t ≡ 0
+    → (linesOf (streamText 1 (nodesOf t)) ≡ linesEach (nodesOf t)) × (length (linesOf (streamText 1 (nodesOf t))) ≡ size (nodesOf t))
+one-line-each t b e =
+    let z = through 1 t e in
+    let l = lines-each (nodesOf t) (tape-fine t b (z .0)) (z .1) in
+    (l, ap length l ∙ lines-size (nodesOf t))
+
+-- With nothing replaced, each call gives its value as written, then come end marks.
+pub lines-read : (t buf : List ℕ) (n : ℕ) → Bytes t → refusal 1 t ≡ 0 → length t ≤ length buf
+    → calls n (streamText 1 (nodesOf t)) 0 buf ≡ play n (map asWritten (writtenAs (linesOf (streamText 1 (nodesOf t))) (nodesOf t))) 0 buf
+lines-read t buf n b e l =
+    let w = lines-of t (length buf) b e l in
+    calls-book n (streamText 1 (nodesOf t)) buf ∙ rw (w .each, ← w .text) (undamaged (written (nodesOf t)) buf (w .reads) n)

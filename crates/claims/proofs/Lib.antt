@@ -11,3 +11,4 @@ pub mod TapeBack
 pub mod Reread
 pub mod Marked
 pub mod Demand3
+pub mod DamagedExamples

@@ -1,9 +1,10 @@
 -- Laws of cutting a text into lines. The cut distributes over `++` at a LF: `cut-head`, `cut-tail`, and of both `cut-damaged`. Assumes nothing.
 use Prim.Native.Nat.{ℕ, zero, suc, _+_, _≤_}
 use mathlib.Core.Path.{_≡_, refl, sym, _∙_, ap}
-use mathlib.Core.List.{List, [], _∷_, _++_, append-assoc, cons≢nil}
+use mathlib.Core.List.{List, [], _∷_, _++_, append-assoc, append-nil, flatten, cons≢nil}
 use mathlib.Core.Bool.{Bool, true, false}
 use native.Mathlib.Omega.{arith}
+use borrow.Author.Tests.{eqb-true}
 use lib.Dec.{eqb, eqb·suc-zero}
 use lib.ListN.{length, take, drop, length-append}
 use lib.Seq.{drop-nil, take-append-seam}
@@ -140,3 +141,44 @@ lfs-append (c ∷ s) t = go (eqb c lf) (lfs (s ++ t)) (lfs s) (lfs t) (lfs-appen
     go : (b : Bool) (m n k : ℕ) → m ≡ n + k → if b (suc m) m ≡ if b (suc n) n + k
     go true m n k e = omega arith
     go false m n k e = e
+
+-- behind the last LF there is none
+pub lfs-last : (p : List ℕ) → lfs (fromLast p) ≡ 0
+unfolding lfs fromLast
+lfs-last [] = refl
+lfs-last (b ∷ p) = go (lfs-last p) (eqb (lfs (b ∷ p)) 0) refl
+  where
+    go : lfs (fromLast p) ≡ 0 → (q : Bool) → eqb (lfs (b ∷ p)) 0 ≡ q → lfs (if q (b ∷ p) (fromLast p)) ≡ 0
+    go ih true e = eqb-true (lfs (b ∷ p)) 0 e
+    go ih false e = ih
+
+-- ---- the lines joined again
+
+flatten-append : (ls ms : List (List ℕ)) → flatten (ls ++ ms) ≡ flatten ls ++ flatten ms
+unfolding flatten
+flatten-append [] ms = refl
+flatten-append (l ∷ ls) ms = ap (λ (t : List ℕ). l ++ t) (flatten-append ls ms) ∙ sym (append-assoc l (flatten ls) (flatten ms))
+
+flatten-grow : (b : ℕ) (ls : List (List ℕ)) → flatten (grow b ls) ≡ b ∷ flatten ls
+unfolding grow flatten
+flatten-grow b [] = refl
+flatten-grow b (l ∷ ls) = refl
+
+pub flatten-lines : (t : List ℕ) → flatten (linesOf t) ≡ t
+unfolding linesOf flatten
+flatten-lines [] = refl
+flatten-lines (b ∷ t) = go (flatten-lines t) (eqb b lf)
+  where
+    go : flatten (linesOf t) ≡ t → (q : Bool) → flatten (if q ((b ∷ []) ∷ linesOf t) (grow b (linesOf t))) ≡ b ∷ t
+    go ih true = ap (λ (u : List ℕ). b ∷ u) ih
+    go ih false = flatten-grow b (linesOf t) ∙ ap (λ (u : List ℕ). b ∷ u) ih
+
+-- as many lines as the head has LFs: they are the head, up to its last LF
+pub lines-lie : (head y : List ℕ) → flatten (take (lfs head) (linesOf (head ++ y))) ++ fromLast head ≡ head
+lines-lie head y =
+    let e : linesOf head ≡ take (lfs head) (linesOf (head ++ y)) ++ linesOf (fromLast head) = rw (append-nil head, append-nil (fromLast head)) at (cut-head head [] y) in
+    sym (sym (flatten-lines head) ∙ ap flatten e ∙ flatten-append (take (lfs head) (linesOf (head ++ y))) (linesOf (fromLast head)) ∙ rw (flatten-lines (fromLast head)))
+
+-- and those past the line where the tail begins: they are the tail, from behind its first LF
+pub lines-follow : (p tail : List ℕ) → toFirst tail ++ flatten (drop (suc (lfs p)) (linesOf (p ++ tail))) ≡ tail
+lines-follow p tail = rw (past-tail p tail, flatten-lines (afterFirst tail)) (first-after tail)

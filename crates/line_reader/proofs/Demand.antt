@@ -1,7 +1,7 @@
 -- Demand 3 over any written values that the grammar reads, by the book: `demand`. Assumes nothing.
 use Prim.Native.Nat.{ℕ, zero, suc}
 use mathlib.Core.Path.{_≡_, refl, sym, _∙_, ap}
-use mathlib.Core.List.{List, [], _∷_, _++_, map, append-assoc, map-append}
+use mathlib.Core.List.{List, [], _∷_, _++_, map, append-assoc, map-append, flatten}
 use mathlib.Core.Option.{some}
 use mathlib.Core.Bool.{true}
 use lib.ListN.{length, take, drop}
@@ -9,7 +9,7 @@ use Rattle.reader.specs.Outcome.{fits}
 use Rattle.line_reader.specs.Cut.{lf, linesOf, lfs, toFirst, fromLast}
 use Rattle.line_reader.specs.Book.{Call, Turn, lineTape, room, byBook, play, book}
 use Rattle.line_reader.specs.Damage.{Written, asWritten, before, between, behind, damaged}
-use Rattle.line_reader.proofs.CutLaws.{cut-line, cut-damaged}
+use Rattle.line_reader.proofs.CutLaws.{cut-line, cut-damaged, lines-lie, lines-follow}
 use Rattle.line_reader.proofs.BookLaws.{book-length}
 
 -- ---- written values
@@ -50,18 +50,27 @@ abbrev pub lineOf : Written → List ℕ
 lineOf w = w .line
 
 -- their text: the lines joined
-unfoldable pub joined : List Written → List ℕ
-joined [] = []
-joined (w ∷ ws) = w .line ++ joined ws
+abbrev pub joined : List Written → List ℕ
+joined ws = flatten (map lineOf ws)
 
 -- which is cut into these lines again
 pub cut-joined : (n : ℕ) (ws : List Written) → All (Reads n) ws → linesOf (joined ws) ≡ map lineOf ws
-unfolding joined linesOf
+unfolding flatten linesOf
 cut-joined n [] a = refl
 cut-joined n (w ∷ ws) a =
     let r = a .0 in
     rw (r .is, append-assoc (r .body) (lf ∷ []) (joined ws), cut-line (r .body) (joined ws) (r .only))
     (ap (λ (ls : List (List ℕ)). (r .body ++ lf ∷ []) ∷ ls) (cut-joined n ws (a .1)))
+
+-- The lines before, joined, are the head up to its last LF; those behind are the tail from behind its first.
+pub before-behind : (n : ℕ) (ws : List Written) → All (Reads n) ws → (head run tail : List ℕ) → joined ws ≡ head ++ run ++ tail
+    → (joined (before ws head) ++ fromLast head ≡ head) × (toFirst tail ++ joined (behind ws head run) ≡ tail)
+unfolding before behind
+before-behind n ws a head run tail e =
+    let lines : map lineOf ws ≡ linesOf (head ++ run ++ tail) = sym (cut-joined n ws a) ∙ ap linesOf e in (
+      rw (← map-take lineOf (lfs head) ws, lines, append-assoc head run tail) (lines-lie head (run ++ tail)),
+      rw (← map-drop lineOf (suc (lfs (head ++ run))) ws, lines) (lines-follow (head ++ run) tail),
+    )
 
 -- ---- turns that agree
 
