@@ -13,7 +13,7 @@ use Rattle.tape.specs.Refusal.{noteds}
 use Rattle.tape.specs.Fine.{Bytes, Fines}
 use Rattle.tape.specs.declared.Frame.the-variants.{Top}
 use Rattle.reader.specs.Outcome.{fits}
-use Rattle.line_reader.specs.Cut.{lf, linesOf, toFirst, fromLast}
+use Rattle.line_reader.specs.Cut.{lf, linesOf, lfs, toFirst, fromLast}
 use Rattle.line_reader.specs.Book.{single, lineTape, play, book}
 use Rattle.line_reader.specs.Damage.{Written, asWritten, before, behind, damaged}
 use Rattle.line_reader.specs.Steps.{calls}
@@ -21,10 +21,10 @@ use Rattle.writer.specs.Outcome.{refusal}
 use Rattle.writer.specs.Text.{streamText}
 use Rattle.tape.proofs.Walking.{verdict-told, tape-back}
 use Rattle.tape.proofs.FineBack.{tape-fine}
-use Rattle.line_reader.proofs.CutLaws.{cut-line}
+use Rattle.line_reader.proofs.CutLaws.{cut-line, lfs-last}
 use Rattle.line_reader.proofs.BookLaws.{line-tape, calls-book}
 use Rattle.line_reader.proofs.Demand.{Reads, All, joined, before-behind, undamaged, demand}
-use Rattle.claims.specs.Demand3.{writtenAs, linesEach}
+use Rattle.claims.specs.Demand3.{writtenAs, linesEach, textOf}
 use Rattle.claims.proofs.LineBack.{lineBody, line, lines-more, lines-none, line-alone, alone-first, alone-rest, line-body, line-body-back}
 use Rattle.claims.proofs.TapeBack.{through, first-shorter}
 
@@ -127,13 +127,15 @@ pub demand-3-calls : (t head run new tail buf : List ℕ) (n : ℕ) → Bytes t 
     → calls n (head ++ new ++ tail) 0 buf ≡ play n (damaged (writtenAs (linesOf (head ++ run ++ tail)) (nodesOf t)) head run new tail) 0 buf
 demand-3-calls t head run new tail buf n b e s l = calls-book n (head ++ new ++ tail) buf ∙ demand-3 t head run new tail buf n b e s l
 
--- Which lines these are: before, joined, the head up to its last LF; behind, joined, the tail from behind its first LF.
+-- Which lines these are: before, joined, the head up to its last LF; behind, joined, the tail from behind its first.
 pub before-and-behind : (t head run tail : List ℕ) → Bytes t → refusal 1 t ≡ 0 → streamText 1 (nodesOf t) ≡ head ++ run ++ tail
-    → (joined (before (writtenAs (linesOf (head ++ run ++ tail)) (nodesOf t)) head) ++ fromLast head ≡ head)
-    × (toFirst tail ++ joined (behind (writtenAs (linesOf (head ++ run ++ tail)) (nodesOf t)) head run) ≡ tail)
+    → (textOf (before (writtenAs (linesOf (head ++ run ++ tail)) (nodesOf t)) head) ++ fromLast head ≡ head)
+    × (lfs (fromLast head) ≡ 0)
+    × (toFirst tail ++ textOf (behind (writtenAs (linesOf (head ++ run ++ tail)) (nodesOf t)) head run) ≡ tail)
 before-and-behind t head run tail b e s =
     let w = lines-of t (length t) b e (omega arith) in
-    rw (← s, w .each) (before-behind (length t) (written (nodesOf t)) (w .reads) head run tail (w .text ∙ s))
+    let p = before-behind (length t) (written (nodesOf t)) (w .reads) head run tail (w .text ∙ s) in
+    rw (← s, w .each) (p .0, lfs-last head, p .1)
 
 -- One line for each top-level node: the lines are the nodes' own Lines texts, and as many.
 pub one-line-each : (t : List ℕ) → Bytes t → refusal 1 t ≡ 0
