@@ -10,3 +10,5 @@ pub mod WellRead
 pub mod TapeBack
 pub mod Reread
 pub mod Marked
+pub mod Demand3
+pub mod DamagedExamples

@@ -23,18 +23,15 @@ use Rattle.tape.specs.Tree.{Scalar, Node, Nodes, null, bool, int, float, decima
 use Rattle.tape.specs.Fine.{Inner, Fine, Fines}
 use Rattle.tape.specs.declared.Frame.{Frame}
 use Rattle.tape.specs.declared.Frame.the-variants.{Top, List as ListF, Sexp, Struct}
+use Rattle.line_reader.specs.Cut.{lfs}
 use Rattle.writer.specs.Text.{symText, scalarText, nameText, opening, closing, separator, broken, deeper, blanks, text, texts}
 use Rattle.text_rules.proofs.DigitLaws.{never, Digits, digit-range, digits-take, digits-drop, digits-zeros, digits-pad, digits-digits}
 use Rattle.text_rules.proofs.WordsBack.{identifier-word, unlike}
+use Rattle.line_reader.proofs.CutLaws.{lfs-append}
 use Rattle.claims.proofs.FirstBytes.{word-all}
 use Rattle.text_rules.proofs.SymbolsText.{bare-is, symbol-bare, symbol-marked}
 
 -- ---- texts without LF
-
--- how many LFs a text has
-unfoldable pub lfs : List ℕ → ℕ
-lfs [] = 0
-lfs (c ∷ t) = if (eqb c 10) (suc (lfs t)) (lfs t)
 
 pub record NoLf (t : List ℕ) : Type 0 where
   pub count : lfs t ≡ 0
@@ -46,15 +43,6 @@ no-lf-nil = record { count = refl }
 pub no-lf-byte : {t : List ℕ} (c : ℕ) → eqb c 10 ≡ false → NoLf t → NoLf (c ∷ t)
 unfolding lfs
 no-lf-byte c h n = record { count = rw h (n .count) }
-
-pub lfs-append : (s t : List ℕ) → lfs (s ++ t) ≡ lfs s + lfs t
-unfolding lfs
-lfs-append [] t = omega arith
-lfs-append (c ∷ s) t = go (eqb c 10) (lfs (s ++ t)) (lfs s) (lfs t) (lfs-append s t)
-  where
-    go : (b : Bool) (m n k : ℕ) → m ≡ n + k → if b (suc m) m ≡ if b (suc n) n + k
-    go true m n k e = omega arith
-    go false m n k e = e
 
 pub no-lf-both : {s t : List ℕ} → NoLf s → NoLf t → NoLf (s ++ t)
 no-lf-both {s} {t} a b = record { count = lfs-append s t ∙ omega (arith, a .count, b .count) }

@@ -20,13 +20,13 @@ use Rattle.tape.specs.Fine.{Bytes, Fines}
 use Rattle.tape.specs.declared.Frame.the-variants.{Top}
 use Rattle.reader.specs.Grammar.{meaning}
 use Rattle.reader.specs.Outcome.{fits, tapeAnswer, tapeLeaves, answer, leaves}
+use Rattle.line_reader.specs.Cut.{lfs}
 use Rattle.writer.specs.Outcome.{refusal, measured, streamed}
 use Rattle.writer.specs.Text.{streamText}
 use Rattle.tape.proofs.Walking.{first-zero, verdict-told, tape-back}
 use Rattle.tape.proofs.FineBack.{tape-fine}
 use Rattle.tape.proofs.Accepted.{tape-length, tape-accepted, tape-nodes}
 use Rattle.claims.proofs.StreamBack.{stream-back}
-use Rattle.claims.proofs.NoLineFeed.{lfs}
 use Rattle.claims.proofs.LineBack.{lineBody, line, line-body, line-back, alone-first, alone-rest}
 use Rattle.claims.proofs.WellRead.{well-read}
 
@@ -115,7 +115,7 @@ pub record WrittenLine (room : ℕ) (h : Head) (n : Node) : Type 0 where
   pub reads : meaning (line h n) ≡ some (more h n nil)
   pub room-enough : length (tape (more h n nil)) ≤ room
 
-first-shorter : (h : Head) (n : Node) (ns : Nodes) → (length (tape (more h n nil)) ≤ length (tape (more h n ns))) × (length (tape ns) ≤ length (tape (more h n ns)))
+pub first-shorter : (h : Head) (n : Node) (ns : Nodes) → (length (tape (more h n nil)) ≤ length (tape (more h n ns))) × (length (tape ns) ≤ length (tape (more h n ns)))
 unfolding encode
 first-shorter h n ns =
     let a = tape-length (more h n nil) in

@@ -74,10 +74,10 @@ bytes-append [] y b c k = c k
 bytes-append (a ∷ v) y b c zero = b 0
 bytes-append (a ∷ v) y b c (suc k) = bytes-append v y (λ j. b (suc j)) c k
 
-bytes-none : Bytes []
+pub bytes-none : Bytes []
 bytes-none k = omega arith
 
-bytes-more : (a : ℕ) (l : List ℕ) → a < 256 → Bytes l → Bytes (a ∷ l)
+pub bytes-more : (a : ℕ) (l : List ℕ) → a < 256 → Bytes l → Bytes (a ∷ l)
 bytes-more a l h b zero = h
 bytes-more a l h b (suc k) = b k
 

@@ -1,5 +1,7 @@
+pub mod CutLaws
+pub mod BookLaws
+pub mod Demand
 pub mod LineLaws
-pub mod Ported
 pub mod RunLaws
 pub mod Again
 pub mod Placed

@@ -19,7 +19,8 @@ use Rattle.reader.proofs.Whole.{tape-long, tape-fits}
 use Rattle.line_reader.specs.Cut.{lf, toFirst}
 use Rattle.line_reader.specs.Book.{success, failure, endsInLf, single, lineTape, room, byBook}
 use Rattle.line_reader.specs.Steps.{called, step}
-use Rattle.line_reader.proofs.Ported.{take-first, step-line}
+use Rattle.line_reader.proofs.CutLaws.{take-first}
+use Rattle.line_reader.proofs.BookLaws.{step-line}
 
 module _ (t : List ℕ) (i : ℕ) where
   pub first-found : i < length t → getD t i 0 ≡ lf → i + length (toFirst (drop i t)) ≡ i + 1

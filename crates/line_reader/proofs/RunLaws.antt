@@ -11,7 +11,7 @@ use Rattle.tape.specs.declared.answer.Answer.{Answer}
 use Rattle.tape.specs.declared.answer.Answer.the-variants.{End}
 use Rattle.line_reader.specs.Book.{Call, book}
 use Rattle.line_reader.specs.Steps.{step, calls, called, answerOf, lastAt, lastBuf, Ran}
-use Rattle.line_reader.proofs.Ported.{calls-book}
+use Rattle.line_reader.proofs.BookLaws.{calls-book}
 
 -- one call more is made from what the calls before it left
 calls-more : (text : List ℕ) (n at : ℕ) (buf : List ℕ) → calls (suc n) text at buf

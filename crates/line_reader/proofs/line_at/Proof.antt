@@ -5,8 +5,8 @@ use lib.ListN.{drop, length-drop}
 use Rattle.line_reader.specs.Book.{endMark}
 use Rattle.line_reader.specs.Steps.{past, called}
 use Rattle.line_reader.proofs.LineLaws.{step-read}
-use Rattle.line_reader.proofs.Ported.{first-within}
-use Rattle.line_reader.proofs.Ported.{step-past, step-end}
+use Rattle.line_reader.proofs.CutLaws.{first-within}
+use Rattle.line_reader.proofs.BookLaws.{step-past, step-end}
 use borrow.Author.Needs.{needs}
 use Rattle.line_reader.proofs.line_at.Statement.{statement}
 use Rattle.line_reader.proofs.line_at.Tie as tie

@@ -1,55 +1,20 @@
--- A private copy of those laws of CutLaws and BookLaws that the functions' proofs cite, until these files are here. Assumes nothing.
-use Prim.Native.Nat.{ℕ, zero, suc, _+_, _-_, _≤_, _<_}
+-- The calls by offsets are the book's: `calls-book`. Assumes nothing.
+use Prim.Native.Nat.{ℕ, zero, suc, _+_, _-_, _≤_, _<_, min}
 use mathlib.Core.Path.{_≡_, refl, sym, _∙_, ap}
 use mathlib.Core.List.{List, [], _∷_, _++_, map}
 use mathlib.Core.Option.{Option, some, none}
 use mathlib.Core.Bool.{Bool, true, false}
 use native.Mathlib.Omega.{arith}
-use borrow.Author.Tests.{lt-ltb, le-ltb, eq-eqb, ne-eqb}
-use lib.Dec.{eqb}
-use lib.ListN.{length, take, drop, length-append, length-drop}
-use lib.Seq.{drop-drop, drop-append-seam, take-append-seam}
-use Rattle.output.specs.Logic.{if, on}
-use Rattle.reader.specs.Outcome.{fits}
-use Rattle.line_reader.specs.Cut.{lf, grow, linesOf, toFirst}
-use Rattle.line_reader.specs.Book.{Call, success, failure, endMark, lineTape, room, byBook, play, book}
+use borrow.Author.Tests.{lt-ltb, le-ltb, eq-eqb, ne-eqb, leb-true}
+use lib.ListN.{length, drop, length-append, length-drop, length-replicate}
+use lib.Seq.{drop-drop, drop-append-seam, take-at, getD-at}
+use Rattle.output.specs.Logic.{if, on, then}
+use Rattle.reader.specs.Grammar.{meaning}
+use Rattle.reader.specs.Outcome.{fits, zeros}
+use Rattle.line_reader.specs.Cut.{lf, linesOf, toFirst}
+use Rattle.line_reader.specs.Book.{Call, success, failure, endMark, endsInLf, single, lineTape, room, byBook, play, book}
 use Rattle.line_reader.specs.Steps.{past, step, calls}
-
--- what follows the first LF; nothing where there is none
-unfoldable pub afterFirst : List ℕ → List ℕ
-afterFirst [] = []
-afterFirst (b ∷ t) = if (eqb b lf) t (afterFirst t)
-
--- a text is its first line, and the lines of what follows
-pub cut-first : (b : ℕ) (t : List ℕ) → linesOf (b ∷ t) ≡ toFirst (b ∷ t) ∷ linesOf (afterFirst (b ∷ t))
-unfolding grow linesOf toFirst afterFirst
-cut-first b [] = go (eqb b lf)
-  where
-    go : (q : Bool) → if q ((b ∷ []) ∷ []) ((b ∷ []) ∷ []) ≡ (b ∷ if q [] []) ∷ linesOf (if q [] [])
-    go true = refl
-    go false = refl
-cut-first b (c ∷ t) = go (cut-first c t) (eqb b lf)
-  where
-    go : linesOf (c ∷ t) ≡ toFirst (c ∷ t) ∷ linesOf (afterFirst (c ∷ t)) → (q : Bool)
-        → if q ((b ∷ []) ∷ linesOf (c ∷ t)) (grow b (linesOf (c ∷ t))) ≡ (b ∷ if q [] (toFirst (c ∷ t))) ∷ linesOf (if q (c ∷ t) (afterFirst (c ∷ t)))
-    go ih true = refl
-    go ih false = ap (grow b) ih
-
-pub first-after : (t : List ℕ) → toFirst t ++ afterFirst t ≡ t
-unfolding toFirst afterFirst
-first-after [] = refl
-first-after (b ∷ t) = go (first-after t) (eqb b lf)
-  where
-    go : toFirst t ++ afterFirst t ≡ t → (q : Bool) → (b ∷ if q [] (toFirst t)) ++ if q t (afterFirst t) ≡ b ∷ t
-    go ih true = refl
-    go ih false = ap (λ (u : List ℕ). b ∷ u) ih
-
--- the first line, as a part of the text that starts at its length
-pub take-first : (t : List ℕ) → take (length (toFirst t)) t ≡ toFirst t
-take-first t = ap (take (length (toFirst t))) (sym (first-after t)) ∙ take-append-seam (toFirst t) (afterFirst t)
-
-pub first-within : (t : List ℕ) → length (toFirst t) ≤ length t
-first-within t = omega (arith, sym (length-append (toFirst t) (afterFirst t)) ∙ ap length (first-after t))
+use Rattle.line_reader.proofs.CutLaws.{afterFirst, cut-first, first-after}
 
 -- ---- one call, by its three ways
 
@@ -67,6 +32,13 @@ step-line text at buf h = rw (le-ltb (length text) at (omega arith), ne-eqb at (
 
 -- ---- the book's turn for a line
 
+-- bytes and LF: the line's tape is that of the one node that the bytes mean
+pub line-tape : (u : List ℕ) → lineTape (u ++ lf ∷ []) ≡ then (meaning u) single
+unfolding lineTape endsInLf
+line-tape u =
+    let n : length u ≡ length (u ++ lf ∷ []) - 1 = omega (arith, length-append u (lf ∷ [])) in
+    rw (getD-at u lf [] 0 (length (u ++ lf ∷ []) - 1) n, take-at u (lf ∷ []) (length (u ++ lf ∷ []) - 1) n)
+
 -- it steps past the line
 pub book-at : (l : List ℕ) (at : ℕ) (buf : List ℕ) → byBook l at buf .at ≡ at + length l
 unfolding byBook room success failure
@@ -79,6 +51,19 @@ book-at l at buf = go (lineTape l)
         held : (q : Bool) → if q (success l t at buf) (failure 9 l at buf) .at ≡ at + length l
         held true = refl
         held false = refl
+
+-- and keeps the buffer's length
+pub book-length : (l : List ℕ) (at : ℕ) (buf : List ℕ) → length (byBook l at buf .buf) ≡ length buf
+unfolding byBook room success failure fits zeros
+book-length l at buf = go (lineTape l)
+  where
+    go : (o : Option (List ℕ)) → length (on o (λ t. if (fits t (length buf)) (success l t at buf) (failure 9 l at buf)) (failure 8 l at buf) .buf) ≡ length buf
+    go none = length-replicate (length buf) 0
+    go (some t) = held (fits t (length buf)) refl
+      where
+        held : (q : Bool) → fits t (length buf) ≡ q → length (if q (success l t at buf) (failure 9 l at buf) .buf) ≡ length buf
+        held true e = simp (length-append, length-drop) (omega (arith, leb-true (length t) (min (length buf) 1048576) e))
+        held false e = length-replicate (length buf) 0
 
 -- ---- every list of calls
 

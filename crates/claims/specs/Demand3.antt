@@ -1,0 +1,21 @@
+-- Which values a Lines text was written from, line by line: what demand 3 calls "as written". Assumes nothing: these are definitions.
+use Prim.Native.Nat.{ℕ}
+use mathlib.Core.List.{List, [], _∷_, map, flatten}
+use Rattle.tape.specs.Tree.{Nodes, nil, more, tape}
+use Rattle.line_reader.specs.Damage.{Written}
+use Rattle.writer.specs.Text.{streamText}
+
+-- "one line for each top-level node": the first line is the first node's, and so on; with it, that "node and a trailer counting 1 node"
+unfoldable pub writtenAs : List (List ℕ) → Nodes → List Written
+writtenAs [] ns = []
+writtenAs (l ∷ ls) nil = []
+writtenAs (l ∷ ls) (more h n ns) = record { line = l; tape = tape (more h n nil) } ∷ writtenAs ls ns
+
+-- each top-level node's own Lines text
+unfoldable pub linesEach : Nodes → List (List ℕ)
+linesEach nil = []
+linesEach (more h n ns) = streamText 1 (more h n nil) ∷ linesEach ns
+
+-- the text of written values: their lines joined
+abbrev pub textOf : List Written → List ℕ
+textOf ws = flatten (map (λ (w : Written). w .line) ws)
