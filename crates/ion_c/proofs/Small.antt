@@ -5,8 +5,8 @@ use mathlib.Core.Option.{Option, none, some}
 use Prim.Native.Nat.{ℕ, zero, suc, _^_, _<_, _≤_, min}
 use mathlib.Core.Path.{_≡_, refl}
 use native.Mathlib.Omega.{arith}
-use lib.Dec.{leb}
-use lib.ListN.{length}
+use lib.Dec.{leb, ltb, eqb}
+use lib.ListN.{length, drop}
 use borrow.Author.Tests.{leb-true}
 use Rattle.output.specs.Logic.{if, on}
 use Rattle.tape.specs.Answer.{Outcome, counted, refused}
@@ -16,6 +16,9 @@ use Rattle.reader.specs.Outcome.{fits, tapeAnswer, answer}
 use Rattle.writer.specs.Text.{streamText}
 use Rattle.writer.specs.Outcome.{refusal, measured, answered, streamed}
 use Rattle.tape.specs.Tape.{nodesOf}
+use Rattle.line_reader.specs.Cut.{toFirst}
+use Rattle.line_reader.specs.Book.{success, failure, endMark, lineTape, room, byBook}
+use Rattle.line_reader.specs.Steps.{past, step}
 use Rattle.ion_c.specs.Code.{Small}
 
 measured-small : (s : List ℕ) (n : ℕ) → n < 2 ^ 63 → Small (measured s n)
@@ -49,3 +52,26 @@ answer-small t n = go (meaning t)
     go : (m : Option Nodes) → Small (on m (λ ns. tapeAnswer (tape ns) n) (refused 8))
     go none = tt
     go (some ns) = tape-small (tape ns) n
+
+-- ---- line calls
+
+line-small : (line : List ℕ) (at : ℕ) (buf : List ℕ) → Small (byBook line at buf .answer)
+unfolding byBook room success failure fits
+line-small line at buf = go (lineTape line)
+  where
+    held : (t : List ℕ) (b : Bool) → leb (length t) (min (length buf) 1_048_576) ≡ b → Small (if b (success line t at buf) (failure 9 line at buf) .answer)
+    held t true e = omega (arith, leb-true (length t) (min (length buf) 1_048_576) e)
+    held t false e = tt
+
+    go : (o : Option (List ℕ)) → Small (on o (λ t. room line t at buf) (failure 8 line at buf) .answer)
+    go none = tt
+    go (some t) = held t (leb (length t) (min (length buf) 1_048_576)) refl
+
+pub step-small : (text : List ℕ) (at : ℕ) (buf : List ℕ) → Small (step text at buf .answer)
+unfolding step past endMark
+step-small text at buf = go (ltb (length text) at) (eqb at (length text))
+  where
+    go : (a b : Bool) → Small (if a (past at buf) (if b (endMark at buf) (byBook (toFirst (drop at text)) at buf)) .answer)
+    go true b = tt
+    go false true = tt
+    go false false = line-small (toFirst (drop at text)) at buf

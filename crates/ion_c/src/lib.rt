@@ -5,6 +5,7 @@ ghost use lib.ListN.{length};
 ghost use Rattle.tape.specs.Answer.{outcome};
 ghost use Rattle.writer.specs.Outcome.{streamed, leaves};
 ghost use Rattle.reader.specs.Outcome as read;
+ghost use Rattle.line_reader.specs.Steps.{step};
 ghost use Rattle.ion_c.specs.Code.{code, Small};
 use tape::answer::Answer;
 
@@ -46,5 +47,18 @@ pub extern "C" fn ion_read(text: &[u8], out: &mut [u8]) -> i64
     ensures buffer { λ _. ⌜ now (out .exit) ≡ read.leaves (now (text .entry)) (now (out .entry)) ⌝ }
 {
     let a = reader::read_text(text, out);
+    code_of(a)
+}
+
+// The next line of a text from an offset on, which is moved: the tape of its one value, or 0 at the text's end.
+#[no_mangle]
+pub extern "C" fn ion_read_line(text: &[u8], at: &mut u64, out: &mut [u8]) -> i64
+    ensures answer { λ r. ⌜ r ≡ code (step (now (text .entry)) (now (at .entry)) (now (out .entry)) .answer) ⌝ }
+    ensures offset { λ _. ⌜ now (at .exit) ≡ step (now (text .entry)) (now (at .entry)) (now (out .entry)) .at ⌝ }
+    ensures buffer { λ _. ⌜ now (out .exit) ≡ step (now (text .entry)) (now (at .entry)) (now (out .entry)) .buf ⌝ }
+{
+    let c = line_reader::line_at(text, *at as usize, out);
+    *at = c.at as u64;
+    let a = c.answer;
     code_of(a)
 }
