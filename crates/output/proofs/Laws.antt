@@ -1,12 +1,13 @@
 -- Laws of laying text into a buffer. Assumes nothing.
 use mathlib.Core.Path.{_≡_, refl, sym, ap, subst, _∙_}
 use mathlib.Core.List.{List, [], _∷_, _++_, append-assoc, append-nil}
-use Prim.Native.Nat.{ℕ, zero, suc, _+_, _/_, _≤_, _<_, min}
+use Prim.Native.Nat.{ℕ, zero, suc, _+_, _-_, _/_, _≤_, _<_, min}
 use native.Mathlib.Nat.{add-zero, add-suc, suc-add}
 use native.Mathlib.Decide.{decLe}
+use native.Mathlib.Numerals.{add-one}
 use native.Mathlib.Omega.{arith}
-use lib.ListN.{length, take, drop, set, length-append, length-set}
-use lib.Seq.{sets, length-sets, set-out, set-set, set-comm, take-length}
+use lib.ListN.{length, take, drop, getD, set, length-append, length-drop, length-set, take-append-drop}
+use lib.Seq.{sets, length-sets, set-out, set-set, set-comm, take-length, length-take-le, take-all, take-add, drop-drop, drop-cons}
 use Rattle.output.specs.Wrote.{Wrote, limit, leBytes}
 
 -- past the end nothing is stored
@@ -65,6 +66,76 @@ sets-front l [] = sym (take-length l)
 sets-front [] (x ∷ s) = sets-out [] 1 s (omega arith)
 sets-front (y ∷ l) (x ∷ s) = sets-shift x l 0 s ∙ ap (λ (k : List ℕ). x ∷ k) (sets-front l s)
 
+-- ---- a text that is stored again
+
+set-sets : (u m : List ℕ) (i j : ℕ) (y : ℕ) → i < j → set (sets m j u) i y ≡ sets (set m i y) j u
+set-sets [] m i j y h = refl
+set-sets (z ∷ u) m i j y h =
+    set-sets u (set m j z) i (suc j) y (omega arith)
+    ∙ ap (λ (k : List ℕ). sets k (suc j) u) (set-comm m j i z y (λ (e : j ≡ i). omega arith))
+
+pub sets-over : (s s′ t l : List ℕ) (i : ℕ) → length s ≡ length s′ → sets (sets l i (s ++ t)) i s′ ≡ sets l i (s′ ++ t)
+sets-over [] [] t l i h = refl
+sets-over [] (y ∷ s′) t l i h = let bad : ⊥ = omega arith in absurd bad
+sets-over (x ∷ s) [] t l i h = let bad : ⊥ = omega arith in absurd bad
+sets-over (x ∷ s) (y ∷ s′) t l i h =
+    ap (λ (k : List ℕ). sets k (suc i) s′) (set-sets (s ++ t) (set l i x) i (suc i) y (omega arith) ∙ ap (λ (k : List ℕ). sets k (suc i) (s ++ t)) (set-set l i x y))
+    ∙ sets-over s s′ t (set l i y) (suc i) (omega arith)
+
+-- ---- stores that overlap, and stores that are cut off
+
+-- what is stored twice is as it was stored last
+sets-twice : (s t l : List ℕ) (i : ℕ) (u : List ℕ) → length s ≡ length t → sets (sets l i s) i (t ++ u) ≡ sets l i (t ++ u)
+sets-twice s t l i u h =
+    sym (sets-append (sets l i s) i t u)
+    ∙ ap (λ (k : List ℕ). sets k (i + length t) u) (ap (λ (v : List ℕ). sets (sets l i v) i t) (sym (append-nil s)) ∙ sets-over s t [] l i h ∙ ap (sets l i) (append-nil t))
+    ∙ sets-append l i t u
+
+-- the first k bytes of a text and then its last k, which overlap, are the text
+pub sets-lap : (s l : List ℕ) (i k : ℕ) → k ≤ length s → length s ≤ k + k → sets (sets l i (take k s)) (i + (length s - k)) (take k (drop (length s - k) s)) ≡ sets l i s
+sets-lap s l i k h g =
+    let m : ℕ = length s - k in
+    let w : ℕ = k - m in
+    let x : List ℕ = take m s in
+    let y : List ℕ = drop m s in
+    let ly : length y ≡ k = length-drop m s ∙ omega arith in
+    let lx : length x ≡ m = length-take-le m s (omega arith) in
+    let e : take k s ≡ x ++ take w y = ap (λ (j : ℕ). take j s) (let q : k ≡ m + w = omega arith in q) ∙ take-add m w s in
+    let ty : take k y ≡ y = take-all k y (omega arith) in
+    let yy : y ≡ take w y ++ drop w y = sym (take-append-drop w y) in
+    ap (λ (z : List ℕ). sets (sets l i (take k s)) (i + m) z) (ty ∙ yy)
+    ∙ ap (λ (z : List ℕ). sets (sets l i z) (i + m) (take w y ++ drop w y)) e
+    ∙ ap (λ (z : List ℕ). sets z (i + m) (take w y ++ drop w y)) (sym (sets-append l i x (take w y)) ∙ ap (λ (j : ℕ). sets (sets l i x) (i + j) (take w y)) lx)
+    ∙ sets-twice (take w y) (take w y) (sets l i x) (i + m) (drop w y) refl
+    ∙ ap (λ (z : List ℕ). sets (sets l i x) (i + m) z) (sym yy)
+    ∙ ap (λ (j : ℕ). sets (sets l i x) (i + j) y) (sym lx)
+    ∙ sets-append l i x y
+    ∙ ap (sets l i) (take-append-drop m s)
+
+-- of a text only what there is room for is stored
+pub sets-room : (l s : List ℕ) (i n : ℕ) → n ≡ min (length s) (length l - i) → sets l i (take n s) ≡ sets l i s
+sets-room l s i n h = go (decLe (length s) n)
+  where
+    go : Dec (length s ≤ n) → sets l i (take n s) ≡ sets l i s
+    go (yes g) = ap (sets l i) (take-all n s g)
+    go (no g) =
+        let k = length-take-le n s (omega arith) in
+        let o = length-sets l i (take n s) in
+        sym (sets-out (sets l i (take n s)) (i + length (take n s)) (drop n s) (omega arith)) ∙ sets-append l i (take n s) (drop n s) ∙ ap (sets l i) (take-append-drop n s)
+
+-- two and four bytes of a text
+pub take-2 : (s : List ℕ) (i : ℕ) → i + 2 ≤ length s → take 2 (drop i s) ≡ getD s i 0 ∷ getD s (i + 1) 0 ∷ []
+take-2 s i h = ap (take 2) (drop-cons s i 0 (omega arith)) ∙ ap (λ (t : List ℕ). getD s i 0 ∷ take 1 t) (drop-cons s (suc i) 0 (omega arith)) ∙ rw (add-one i)
+
+pub take-4 : (s : List ℕ) (i : ℕ) → i + 4 ≤ length s → take 4 (drop i s) ≡ getD s i 0 ∷ getD s (i + 1) 0 ∷ getD s (i + 2) 0 ∷ getD s (i + 3) 0 ∷ []
+take-4 s i h =
+    let e : i + 2 + 1 ≡ i + 3 = omega arith in
+    take-add 2 2 (drop i s)
+    ∙ ap (λ (t : List ℕ). t ++ take 2 (drop 2 (drop i s))) (take-2 s i (omega arith))
+    ∙ ap (λ (t : List ℕ). getD s i 0 ∷ getD s (i + 1) 0 ∷ take 2 t) (drop-drop 2 i s)
+    ∙ ap (λ (t : List ℕ). getD s i 0 ∷ getD s (i + 1) 0 ∷ t) (take-2 s (i + 2) (omega arith))
+    ∙ rw e
+
 -- ---- a loop that writes: what it wrote so far, and what is left of the whole
 
 pub record Progress (a b : List ℕ) (pos p : ℕ) (whole left : List ℕ) : Type 0 where
@@ -89,20 +160,6 @@ finish {a} {b} {pos} {p} g e =
     subst (λ (l : List ℕ). Wrote a b pos p l) (sym (g .splits ∙ ap (λ (l : List ℕ). g .done ++ l) e ∙ append-nil (g .done))) (g .wrote)
 
 -- ---- a header that is written again, of the same length, once the body behind it stands
-
-set-sets : (u m : List ℕ) (i j : ℕ) (y : ℕ) → i < j → set (sets m j u) i y ≡ sets (set m i y) j u
-set-sets [] m i j y h = refl
-set-sets (z ∷ u) m i j y h =
-    set-sets u (set m j z) i (suc j) y (omega arith)
-    ∙ ap (λ (k : List ℕ). sets k (suc j) u) (set-comm m j i z y (λ (e : j ≡ i). omega arith))
-
-pub sets-over : (s s′ t l : List ℕ) (i : ℕ) → length s ≡ length s′ → sets (sets l i (s ++ t)) i s′ ≡ sets l i (s′ ++ t)
-sets-over [] [] t l i h = refl
-sets-over [] (y ∷ s′) t l i h = let bad : ⊥ = omega arith in absurd bad
-sets-over (x ∷ s) [] t l i h = let bad : ⊥ = omega arith in absurd bad
-sets-over (x ∷ s) (y ∷ s′) t l i h =
-    ap (λ (k : List ℕ). sets k (suc i) s′) (set-sets (s ++ t) (set l i x) i (suc i) y (omega arith) ∙ ap (λ (k : List ℕ). sets k (suc i) (s ++ t)) (set-set l i x y))
-    ∙ sets-over s s′ t (set l i y) (suc i) (omega arith)
 
 pub wrote-patched : {a b c d : List ℕ} {p q r q′ : ℕ} {s s′ t : List ℕ} → Wrote a b p q s → Wrote b c q r t → Wrote c d p q′ s′ → length s ≡ length s′ → Wrote a d p r (s′ ++ t)
 wrote-patched {a} {b} {c} {d} {p} {q} {r} {q′} {s} {s′} {t} v w x h =

@@ -2,8 +2,8 @@
 // same calls over a slice of no bytes measure. A position stops at LIMIT, which is above the length of every slice.
 ghost use mathlib.Core.Path.{_≡_};
 ghost use mathlib.Core.List.{[], _∷_};
-ghost use Prim.Native.Nat.{_+_, _≤_};
-ghost use lib.ListN.{length, replicate};
+ghost use Prim.Native.Nat.{_+_, _/_, _%_, _<_, _≤_, min};
+ghost use lib.ListN.{length, take, drop, replicate};
 ghost use lib.Seq.{sets};
 ghost use Rattle.output.specs.Wrote.{Wrote, limit, leBytes};
 
@@ -20,8 +20,54 @@ pub fn put(buf: &mut [u8], pos: usize, x: u8) -> usize
     if pos < LIMIT { pos + 1 } else { LIMIT }
 }
 
+// Two bytes of s from a place on, for which there is room.
+fn copy_2(buf: &mut [u8], pos: usize, s: &[u8], from: usize)
+    requires { ⌜ pos + 2 ≤ length (now buf) ⌝ }
+    requires { ⌜ from + 2 ≤ length (now s) ⌝ }
+    ensures { λ _. ⌜ now (buf .exit) ≡ sets (now (buf .entry)) pos (take 2 (drop from (now (s .entry)))) ⌝ }
+{
+    buf[pos] = s[from];
+    buf[pos + 1] = s[from + 1];
+}
+
+fn wide(x: u8) -> u32
+    ensures { λ r. ⌜ (r ≡ x) × (r < 256) ⌝ }
+{
+    x as u32
+}
+
+// Four bytes as one number, the lowest first.
+fn joined(a: u8, b: u8, c: u8, d: u8) -> u32
+    ensures { λ r. ⌜ (r % 256 ≡ a) × (r / 256 % 256 ≡ b) × (r / 65536 % 256 ≡ c) × (r / 16777216 % 256 ≡ d) ⌝ }
+{
+    wide(a) + 256 * wide(b) + 65536 * wide(c) + 16777216 * wide(d)
+}
+
+// Four bytes: the compiler loads and stores them at once.
+fn copy_4(buf: &mut [u8], pos: usize, s: &[u8], from: usize)
+    requires { ⌜ pos + 4 ≤ length (now buf) ⌝ }
+    requires { ⌜ from + 4 ≤ length (now s) ⌝ }
+    ensures { λ _. ⌜ now (buf .exit) ≡ sets (now (buf .entry)) pos (take 4 (drop from (now (s .entry)))) ⌝ }
+{
+    let n = joined(s[from], s[from + 1], s[from + 2], s[from + 3]);
+    buf[pos] = (n % 256) as u8;
+    buf[pos + 1] = (n / 256 % 256) as u8;
+    buf[pos + 2] = (n / 65536 % 256) as u8;
+    buf[pos + 3] = (n / 16777216 % 256) as u8;
+}
+
+// Eight bytes.
+fn copy_8(buf: &mut [u8], pos: usize, s: &[u8], from: usize)
+    requires { ⌜ pos + 8 ≤ length (now buf) ⌝ }
+    requires { ⌜ from + 8 ≤ length (now s) ⌝ }
+    ensures { λ _. ⌜ now (buf .exit) ≡ sets (now (buf .entry)) pos (take 8 (drop from (now (s .entry)))) ⌝ }
+{
+    copy_4(buf, pos, s, from);
+    copy_4(buf, pos + 4, s, from + 4);
+}
+
 // The bytes of s, for which there is room: a plain loop, which the compiler makes a vector loop.
-fn copy_at(buf: &mut [u8], pos: usize, s: &[u8])
+fn copy_long(buf: &mut [u8], pos: usize, s: &[u8])
     requires { ⌜ pos + length (now s) ≤ length (now buf) ⌝ }
     ensures { λ _. ⌜ now (buf .exit) ≡ sets (now (buf .entry)) pos (now (s .entry)) ⌝ }
 {
@@ -32,32 +78,62 @@ fn copy_at(buf: &mut [u8], pos: usize, s: &[u8])
     }
 }
 
-// The bytes of s as far as there is room.
-fn put_clipped(buf: &mut [u8], pos: usize, s: &[u8]) -> usize
-    requires { ⌜ pos ≤ limit ⌝ }
-    ensures { λ r. ⌜ Wrote (now (buf .entry)) (now (buf .exit)) pos r (now (s .entry)) ⌝ }
+// The bytes of s, for which there is room. Short texts, as most are, are two stores that overlap.
+fn copy_at(buf: &mut [u8], pos: usize, s: &[u8])
+    requires { ⌜ pos + length (now s) ≤ length (now buf) ⌝ }
+    ensures { λ _. ⌜ now (buf .exit) ≡ sets (now (buf .entry)) pos (now (s .entry)) ⌝ }
 {
-    let mut p = pos;
-    let mut i = 0;
-    while i < s.len() {
-        p = put(buf, p, s[i]);
-        i += 1;
+    let n = s.len();
+    if n == 0 {
+        return;
     }
-    p
+    if n == 1 {
+        buf[pos] = s[0];
+        return;
+    }
+    if n < 4 {
+        copy_2(buf, pos, s, 0);
+        copy_2(buf, pos + (n - 2), s, n - 2);
+        return;
+    }
+    if n < 8 {
+        copy_4(buf, pos, s, 0);
+        copy_4(buf, pos + (n - 4), s, n - 4);
+        return;
+    }
+    if n <= 16 {
+        copy_8(buf, pos, s, 0);
+        copy_8(buf, pos + (n - 8), s, n - 8);
+        return;
+    }
+    copy_long(buf, pos, s);
 }
 
-// The bytes of s, with one decision on the room for them.
+// A position n bytes on.
+pub fn ahead(pos: usize, n: usize) -> usize
+    requires { ⌜ pos ≤ limit ⌝ }
+    ensures { λ r. ⌜ r ≡ min (pos + n) limit ⌝ }
+{
+    if LIMIT - pos < n { LIMIT } else { pos + n }
+}
+
+fn lesser(a: usize, b: usize) -> usize
+    ensures { λ r. ⌜ r ≡ min a b ⌝ }
+{
+    if a < b { a } else { b }
+}
+
+// The bytes of s as far as there is room; the rest is passed at once.
 pub fn put_bytes(buf: &mut [u8], pos: usize, s: &[u8]) -> usize
     requires { ⌜ pos ≤ limit ⌝ }
     ensures { λ r. ⌜ Wrote (now (buf .entry)) (now (buf .exit)) pos r (now (s .entry)) ⌝ }
 {
-    if pos <= buf.len() {
-        if s.len() <= buf.len() - pos {
-            copy_at(buf, pos, s);
-            return pos + s.len();
-        }
+    if buf.len() <= pos {
+        return ahead(pos, s.len());
     }
-    put_clipped(buf, pos, s)
+    let n = lesser(s.len(), buf.len() - pos);
+    copy_at(buf, pos, &s[..n]);
+    ahead(pos, s.len())
 }
 
 // The byte x, n times, for which there is room.

@@ -26,7 +26,7 @@ pub fn symbol_at(text: &[u8], at: usize, buf: &mut [u8], pos: usize) -> Step
     requires { ⌜ (at ≤ length (now text)) × (pos ≤ limit) ⌝ }
     ensures { λ r. ⌜ Read encodeSym (now (text .entry)) (suc at) (now (buf .entry)) (now (buf .exit)) pos (symbol (drop at (now (text .entry)))) r ⌝ }
 {
-    let s = nodes::ahead(pos, 5);
+    let s = output::ahead(pos, 5);
     let r = tokens::values::symbol_at(text, at, buf, s);
     match r {
         SymbolRead::Text { at: a, pos: e } => {
@@ -107,7 +107,7 @@ fn notes_at(text: &[u8], at: usize, buf: &mut [u8], pos: usize) -> Run
     requires { ⌜ (at ≤ length (now text)) × (pos ≤ limit) ⌝ }
     ensures { λ r. ⌜ Counted encodeNotes length (now (text .entry)) at (now (buf .entry)) (now (buf .exit)) pos 0 (notes 16 (drop at (now (text .entry)))) r ⌝ }
 {
-    let s = nodes::ahead(pos, 2);
+    let s = output::ahead(pos, 2);
     let Step::Next { at: a, pos: p } = note_at(text, at, buf, s) else {
         return Run::Whole { at, pos, count: 0 };
     };

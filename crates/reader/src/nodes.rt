@@ -3,22 +3,12 @@ use numbers::int;
 use numbers::timestamp::Timestamp;
 ghost use mathlib.Core.Path.{_≡_};
 ghost use mathlib.Core.List.{[], _∷_, _++_};
-ghost use Prim.Native.Nat.{_+_, _≤_, min};
+ghost use Prim.Native.Nat.{_+_, _≤_};
 ghost use lib.ListN.{length};
 ghost use lib.Seq.{sets};
 ghost use Rattle.output.specs.Wrote.{Wrote, limit, leBytes};
 ghost use Rattle.tape.specs.Bytes.{bits};
 ghost use Rattle.tape.specs.Tree.{Scalar, bit, sized, floatBits, encodeScalar};
-
-const LIMIT: usize = 9223372036854775808;
-
-// A position n bytes on: what belongs there is written once it is known.
-pub fn ahead(pos: usize, n: usize) -> usize
-    requires { ⌜ pos ≤ limit ⌝ }
-    ensures { λ r. ⌜ r ≡ min (pos + n) limit ⌝ }
-{
-    if LIMIT - pos < n { LIMIT } else { pos + n }
-}
 
 // Two bytes.
 pub fn put2(buf: &mut [u8], pos: usize, a: u8, b: u8) -> usize

@@ -23,7 +23,7 @@ fn string_at(text: &[u8], at: usize, buf: &mut [u8], pos: usize) -> Step
     requires { ⌜ (at < length (now text)) × (pos ≤ limit) × (getD (now text) at 0 ≡ 34) ⌝ }
     ensures { λ r. ⌜ Read encode (now (text .entry)) (suc at) (now (buf .entry)) (now (buf .exit)) pos (taken stringNode (string (drop at (now (text .entry))))) r ⌝ }
 {
-    let s = nodes::ahead(pos, 5);
+    let s = output::ahead(pos, 5);
     let Step::Next { at: a, pos: e } = tokens::quoted::characters_at(text, at + 1, b'"', buf, s)
     else {
         return Step::Bad;
@@ -37,7 +37,7 @@ fn clob_at(text: &[u8], at: usize, buf: &mut [u8], pos: usize) -> Step
     requires { ⌜ (at ≤ length (now text)) × (pos ≤ limit) ⌝ }
     ensures { λ r. ⌜ Read encode (now (text .entry)) (suc at) (now (buf .entry)) (now (buf .exit)) pos (taken clobNode (clob (drop at (now (text .entry))))) r ⌝ }
 {
-    let s = nodes::ahead(pos, 5);
+    let s = output::ahead(pos, 5);
     let Step::Next { at: a, pos: e } = tokens::quoted::clob_at(text, at, buf, s) else {
         return Step::Bad;
     };

@@ -33,7 +33,7 @@ pub fn value(text: &[u8], at: usize, frame: Frame, left: usize, buf: &mut [u8], 
     if left == 0 {
         return Step::Bad;
     }
-    let s = nodes::ahead(p, 5);
+    let s = output::ahead(p, 5);
     let Run::Whole {
         at: z,
         pos: e,

@@ -272,11 +272,6 @@ unfolding scalarOf byteOf
 scalar-empty [] h = refl
 scalar-empty (x ∷ l) h = absurd (not-suc-le-zero h)
 
-pub symbol-empty : (l : List ℕ) → length l ≤ 0 → symbolOf l ≡ none
-unfolding symbolOf symOf
-symbol-empty [] h = refl
-symbol-empty (x ∷ l) h = absurd (not-suc-le-zero h)
-
 -- ---- a value, by its kind
 
 module _ (f : Bool) (l : List ℕ) where

@@ -15,6 +15,8 @@ use Rattle.tape.specs.Tape.{past, lengthOf, headOf, Value, absent, leaf,
 use Rattle.tape.specs.declared.Frame.{Frame}
 use Rattle.tape.specs.declared.Scalar.{Scalar as ScalarC}
 use Rattle.tape.specs.declared.Scalar.the-variants as C
+use Rattle.tape.specs.declared.Symbol.{Symbol as SymbolC}
+use Rattle.tape.specs.declared.Symbol.the-variants as Y
 use Rattle.tape.specs.declared.Scanned.{Scanned}
 use Rattle.tape.specs.declared.Scanned.the-variants.{Bad as NoScalar, Is}
 use Rattle.tape.specs.declared.Item.{Item}
@@ -31,6 +33,12 @@ placeOf at o = past o Nowhere (λ a n. At (at + n))
 -- the length behind the kind byte, if that many bytes follow it
 unfoldable pub lengthIn : List ℕ → Place
 lengthIn l = if (leb (5 + lengthOf l) (length l)) (At (lengthOf l)) Nowhere
+
+-- the symbol that the code's answer means, whose node starts with the bytes l, and the number of its bytes
+abbrev pub meantSym : SymbolC → List ℕ → Option (Sym × ℕ)
+meantSym Y.Bad l = none
+meantSym (Y.Text n) l = some (Sym.text (take n (drop 5 l)), 5 + n)
+meantSym (Y.Id i) l = some (Sym.id i, 5)
 
 -- the scalar that the code's answer means, whose node starts with the bytes l
 abbrev pub meantScalar : ScalarC → List ℕ → Scalar

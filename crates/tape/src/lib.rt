@@ -10,7 +10,7 @@ ghost use lib.ListN.{length, take, drop};
 ghost use Rattle.tape.specs.Bytes.{leNumber, signed, part};
 ghost use Rattle.tape.specs.Tree.{null, bool, string, clob};
 ghost use Rattle.tape.specs.Tape.{symOf, symsOf, nameOf, notesOf, headOf, byteOf, intOf, floatAs, floatOf, decimalOf, timestampOf, symbolOf, sizedOf, scalarOf, openOf, valueOf, free};
-ghost use Rattle.tape.specs.Steps.{placeOf, lengthIn, scanned, sizeOf, meant, Behind, ChildAt};
+ghost use Rattle.tape.specs.Steps.{placeOf, lengthIn, meantSym, scanned, sizeOf, meant, Behind, ChildAt};
 use numbers::timestamp::Timestamp;
 
 // Where nodes stand side by side.
@@ -33,6 +33,13 @@ pub enum Scalar {
     Id(u32),
     String(usize),
     Clob(usize),
+}
+
+// A symbol's node at a place: none; text, with its length; an identifier.
+pub enum Symbol {
+    Bad,
+    Text(usize),
+    Id(u32),
 }
 
 // A scalar at a place, or none.
@@ -257,28 +264,40 @@ fn timestamp_at(tape: &[u8], at: usize, end: usize) -> Scanned
     }))
 }
 
-pub fn symbol_at(tape: &[u8], at: usize, end: usize) -> Scanned
+pub fn sym_at(tape: &[u8], at: usize, end: usize) -> Symbol
     requires { ⌜ at ≤ end ⌝ }
     requires { ⌜ end ≤ length (now tape) ⌝ }
-    ensures { λ r. ⌜ scanned r (part (now (tape .entry)) at end) ≡ symbolOf (part (now (tape .entry)) at end) ⌝ }
+    ensures { λ r. ⌜ meantSym r (part (now (tape .entry)) at end) ≡ symOf (part (now (tape .entry)) at end) ⌝ }
 {
     if at == end {
-        return Scanned::Bad;
+        return Symbol::Bad;
     }
     let k = tape[at];
     if k == 6 {
         let Place::At(n) = length_at(tape, at, end) else {
-            return Scanned::Bad;
+            return Symbol::Bad;
         };
-        return Scanned::Is(Scalar::Symbol(n));
+        return Symbol::Text(n);
     }
     if k != 7 {
-        return Scanned::Bad;
+        return Symbol::Bad;
     }
     if end - at < 5 {
-        return Scanned::Bad;
+        return Symbol::Bad;
     }
-    Scanned::Is(Scalar::Id(u32_at(tape, at + 1) as u32))
+    Symbol::Id(u32_at(tape, at + 1) as u32)
+}
+
+fn symbol_at(tape: &[u8], at: usize, end: usize) -> Scanned
+    requires { ⌜ at ≤ end ⌝ }
+    requires { ⌜ end ≤ length (now tape) ⌝ }
+    ensures { λ r. ⌜ scanned r (part (now (tape .entry)) at end) ≡ symbolOf (part (now (tape .entry)) at end) ⌝ }
+{
+    match sym_at(tape, at, end) {
+        Symbol::Bad => Scanned::Bad,
+        Symbol::Text(n) => Scanned::Is(Scalar::Symbol(n)),
+        Symbol::Id(i) => Scanned::Is(Scalar::Id(i)),
+    }
 }
 
 fn string_at(tape: &[u8], at: usize, end: usize) -> Scanned

@@ -181,18 +181,22 @@ fn put_blocks(buf: &mut [u8], pos: usize, n: u64) -> usize
     p + 16
 }
 
-// The w lowest digits of n, the last one first.
+// The w lowest digits of n, the last two first.
 fn fill_padded(buf: &mut [u8], pos: usize, n: u64, w: usize)
     requires { ⌜ pos + w ≤ length (now buf) ⌝ }
     ensures { λ _. ⌜ now (buf .exit) ≡ sets (now (buf .entry)) pos (pad w n) ⌝ }
 {
     let mut m = n;
     let mut k = w;
-    while 0 < k {
-        k -= 1;
-        buf[pos + k] = digit_of(wide(m % 10));
-        m = m / 10;
+    while 1 < k {
+        k -= 2;
+        two(buf, pos + k, wide(m % 100));
+        m = m / 100;
     }
+    if k == 0 {
+        return;
+    }
+    one(buf, pos, wide(m % 10));
 }
 
 // ---- for every buffer

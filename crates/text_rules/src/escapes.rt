@@ -1,13 +1,15 @@
 // Escapes, written: the table of escape kinds, and the body of quoted text and strings.
 ghost use mathlib.Core.Path.{_≡_};
+ghost use mathlib.Core.Bool.{_||_};
 ghost use mathlib.Core.List.{[], _∷_};
+ghost use lib.Dec.{eqb};
 ghost use Prim.Native.Nat.{_≤_};
 ghost use Rattle.output.specs.Logic.{byte};
 ghost use Rattle.output.specs.Wrote.{Wrote, limit};
-ghost use Rattle.text_rules.specs.Escapes.{letterOf, escapeKind, EscapeTable, textEscape, textBody};
+ghost use Rattle.text_rules.specs.Escapes.{letterOf, hasLetter, EscapeTable, textEscape, textBody};
 
 // The kind of each byte: 0 raw, 1 a short letter, 2 raw in text and `\x` with two hex digits in a clob, 3 the single quote mark, a letter in
-// text and raw in a clob. It is lent to the loops, since a constant table that is indexed is built anew at each use.
+// text and raw in a clob. It is lent to the loop, since a constant table that is indexed is built anew at each use.
 const ESCAPES: [u8; 256] = [
     1, // NUL
     2,
@@ -314,42 +316,51 @@ pub fn put_letter(buf: &mut [u8], pos: usize, b: u8) -> usize
     output::put(buf, p, letter_of(b))
 }
 
-// One byte of text, whose kind is at hand.
-fn put_text_byte(buf: &mut [u8], pos: usize, b: u8, kind: u8) -> usize
-    requires { ⌜ (pos ≤ limit) × (kind ≡ escapeKind b) ⌝ }
+// Whether a byte of text is escaped. These few tests take less time than a table that is built anew for each text.
+fn is_escaped(b: u8) -> bool
+    ensures { λ r. ⌜ r ≡ hasLetter b || eqb b (byte "'") ⌝ }
+{
+    if 0x20 <= b {
+        if b == b'"' {
+            return true;
+        }
+        if b == b'\\' {
+            return true;
+        }
+        return b == b'\'';
+    }
+    if b == 0 {
+        return true;
+    }
+    if b < 7 {
+        return false;
+    }
+    b <= 13
+}
+
+// One byte of text.
+fn put_text_byte(buf: &mut [u8], pos: usize, b: u8) -> usize
+    requires { ⌜ pos ≤ limit ⌝ }
     ensures { λ r. ⌜ Wrote (now (buf .entry)) (now (buf .exit)) pos r (textEscape b) ⌝ }
 {
-    if kind == 1 {
-        return put_letter(buf, pos, b);
-    }
-    if kind == 3 {
+    if is_escaped(b) {
         return put_letter(buf, pos, b);
     }
     output::put(buf, pos, b)
 }
 
-// The bytes of s one by one, by the table t.
-fn put_text_by(buf: &mut [u8], pos: usize, s: &[u8], t: &[u8; 256]) -> usize
-    requires { ⌜ (pos ≤ limit) × EscapeTable (now t) ⌝ }
+// The bytes of s one by one.
+fn put_text_escaped(buf: &mut [u8], pos: usize, s: &[u8]) -> usize
+    requires { ⌜ pos ≤ limit ⌝ }
     ensures { λ r. ⌜ Wrote (now (buf .entry)) (now (buf .exit)) pos r (textBody (now (s .entry))) ⌝ }
 {
     let mut p = pos;
     let mut i = 0;
     while i < s.len() {
-        let b = s[i];
-        p = put_text_byte(buf, p, b, t[b as usize]);
+        p = put_text_byte(buf, p, s[i]);
         i += 1;
     }
     p
-}
-
-// The same with the crate's table.
-fn put_text_escaped(buf: &mut [u8], pos: usize, s: &[u8]) -> usize
-    requires { ⌜ pos ≤ limit ⌝ }
-    ensures { λ r. ⌜ Wrote (now (buf .entry)) (now (buf .exit)) pos r (textBody (now (s .entry))) ⌝ }
-{
-    let t = escapes();
-    put_text_by(buf, pos, s, &t)
 }
 
 // 0 only for a byte that is raw in text. It says 1 of every control character, which keeps the test short.

@@ -32,35 +32,22 @@ text-at s at e n h =
 
 -- ---- names
 
--- a field's bytes do not start with a symbol
-pub name-none : (l : List ℕ) → none ≡ symbolOf l → nameIn Struct l ≡ none
-unfolding nameOf symbolOf
-name-none l e = go (symOf l) e
+-- the name of a field is the symbol that its bytes start with
+pub name-is : (l : List ℕ) (o : Option (Sym × ℕ)) → o ≡ symOf l → nameIn Struct l ≡ past o none (λ s n. some s)
+unfolding nameOf
+name-is l o e = ap (λ (o : Option (Sym × ℕ)). past (past {B = Option (Option Sym × ℕ)} o none (λ s n. some (some s, n))) none (λ a n. a)) (sym e) ∙ go o
   where
-    go : (o : Option (Sym × ℕ)) → none ≡ past {B = Option (Scalar × ℕ)} o none (λ s n. some (symbol s, n))
-        → past (past {B = Option (Option Sym × ℕ)} o none (λ s n. some (some s, n))) none (λ a n. a) ≡ none
-    go none e = refl
-    go (some (s, n)) e = let z : _≡_ {A = ℕ} 0 1 = cc in absurd (omega arith)
-
--- they start with the symbol x
-pub name-text : (l : List ℕ) (x : ScalarC) → scanned (Is x) l ≡ symbolOf l → nameText (nameIn Struct l) ≡ scalarText (meantScalar x l) ++ ascii ": "
-unfolding nameOf symbolOf nameText scalarText
-name-text l x e = go (symOf l) e
-  where
-    go : (o : Option (Sym × ℕ)) → some (meantScalar x l, sizeOf x) ≡ past {B = Option (Scalar × ℕ)} o none (λ s n. some (symbol s, n))
-        → nameText (past (past {B = Option (Option Sym × ℕ)} o none (λ s n. some (some s, n))) none (λ a n. a)) ≡ scalarText (meantScalar x l) ++ ascii ": "
-    go none e = let z : _≡_ {A = ℕ} 0 1 = cc in absurd (omega arith)
-    go (some (s, n)) e = ap (λ (o : Option (Scalar × ℕ)). past o [] (λ v m. scalarText v ++ ascii ": ")) (sym e)
+    go : (o : Option (Sym × ℕ)) → past (past {B = Option (Option Sym × ℕ)} o none (λ s n. some (some s, n))) none (λ a n. a) ≡ past o none (λ s n. some s)
+    go none = refl
+    go (some a) = refl
 
 -- the symbol ends within the body
-pub name-room : (s : List ℕ) (at e : ℕ) (x : ScalarC) → at ≤ e → e ≤ length s → scanned (Is x) (part s at e) ≡ symbolOf (part s at e) → at + sizeOf x ≤ e
-unfolding symbolOf
-name-room s at e x h i m = let g = go (symOf (part s at e)) (sym-sound (part s at e)) m in let n = part-length s at e i in omega arith
+pub name-room : (s : List ℕ) (at e : ℕ) (a : Sym) (k : ℕ) → at ≤ e → e ≤ length s → some (a, k) ≡ symOf (part s at e) → at + k ≤ e
+name-room s at e a k h i m = let g = go (symOf (part s at e)) (sym-sound (part s at e)) m in let n = part-length s at e i in omega arith
   where
-    go : (o : Option (Sym × ℕ)) → Sound encodeSym (part s at e) o → some (meantScalar x (part s at e), sizeOf x) ≡ past {B = Option (Scalar × ℕ)} o none (λ s n. some (symbol s, n))
-        → sizeOf x ≤ length (part s at e)
+    go : (o : Option (Sym × ℕ)) → Sound encodeSym (part s at e) o → some (a, k) ≡ o → k ≤ length (part s at e)
     go none w e = let z : _≡_ {A = ℕ} 0 1 = cc in absurd (omega arith)
-    go (some (a, n)) (something h f) e = let z : sizeOf x ≡ n = ap (λ (o : Option (Scalar × ℕ)). past o 0 (λ v m. m)) e in omega arith
+    go (some (b, n)) (something h f) e = let z : k ≡ n = ap (λ (o : Option (Sym × ℕ)). past o 0 (λ v m. m)) e in omega arith
 
 -- the name of a child is the name in its head
 name-head : (k : Frame) (l : List ℕ) (h : Head) (m : ℕ) → headOf k l ≡ some (h, m) → nameIn k l ≡ h .0

@@ -16,7 +16,7 @@ use crate::whitespace_config;
 use tape::Child;
 use tape::Frame;
 use tape::Scalar;
-use tape::Scanned;
+use tape::Symbol;
 use text_rules::text_formatter;
 
 // ---- scalars
@@ -92,6 +92,14 @@ pub fn write_scalar(
 
 // ---- a child
 
+// What ends a name.
+fn write_colon(buf: &mut [u8], pos: usize) -> usize
+    ensures { λ r. ⌜ Wrote (now (buf .entry)) (now (buf .exit)) pos r (ascii ": ") ⌝ }
+{
+    let p = output::put(buf, pos, b':');
+    output::put(buf, p, b' ')
+}
+
 // The symbol at a place, and `: `.
 fn write_name(buf: &mut [u8], pos: usize, tape: &[u8], at: usize, end: usize) -> usize
     requires { ⌜ pos ≤ limit ⌝ }
@@ -99,12 +107,18 @@ fn write_name(buf: &mut [u8], pos: usize, tape: &[u8], at: usize, end: usize) ->
     requires { ⌜ end ≤ length (now tape) ⌝ }
     ensures { λ r. ⌜ Wrote (now (buf .entry)) (now (buf .exit)) pos r (nameText (nameIn Struct (part (now (tape .entry)) at end))) ⌝ }
 {
-    let Scanned::Is(s) = tape::symbol_at(tape, at, end) else {
-        return pos;
-    };
-    let p = write_scalar(buf, pos, tape, at, end, s);
-    let q = output::put(buf, p, b':');
-    output::put(buf, q, b' ')
+    let s = tape::sym_at(tape, at, end);
+    match s {
+        Symbol::Bad => pos,
+        Symbol::Text(n) => {
+            let p = write_symbol_text(buf, pos, tape, at, n, end);
+            write_colon(buf, p)
+        }
+        Symbol::Id(i) => {
+            let p = text_formatter::format_symbol_id(buf, pos, i);
+            write_colon(buf, p)
+        }
+    }
 }
 
 // A field's name, where the child at a place has one.

@@ -29,7 +29,7 @@ use Rattle.reader.proofs.blanks.skip_blanks.Reads as skip-blanks-reads
 use Rattle.reader.proofs.blanks.tag_of.Reads as tag-of-reads
 use Rattle.reader.proofs.heads.free_of.Reads as free-of-reads
 use Rattle.reader.proofs.heads.head_at.Reads as head-at-reads
-use Rattle.reader.proofs.nodes.ahead.Reads as ahead-reads
+use Rattle.output.proofs.ahead.Reads as ahead-reads
 use Rattle.reader.proofs.nodes.put_header.Reads as put-header-reads
 use Rattle.reader.proofs.scalars.scalar_at.Reads as scalar-at-reads
 use Rattle.reader.proofs.values.+sequence+value.{statement}
