@@ -296,14 +296,7 @@ fn value_met(tape: &[u8], at: usize, end: usize, free: bool) -> Met
 // ---- heads
 
 // n symbols from a place on, behind a problem or 0 and what was numbered before.
-fn syms_seen(
-    tape: &[u8],
-    at: usize,
-    end: usize,
-    n: u8,
-    before: u8,
-    already: bool,
-) -> Front
+fn syms_seen(tape: &[u8], at: usize, end: usize, n: u8, before: u8, already: bool) -> Front
     requires { ⌜ at ≤ end ⌝ }
     requires { ⌜ end ≤ length (now tape) ⌝ }
     ensures { λ r. ⌜ r ≡ symsFront at before already (symsOf n (part (now (tape .entry)) at end)) ⌝ }
