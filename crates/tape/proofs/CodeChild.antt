@@ -82,7 +82,7 @@ module _ (k : Frame) (s : List ℕ) (at e : ℕ) where
       go (some (h, n)) z = let y : _≡_ {A = ℕ} 0 1 = cc in absurd (omega arith)
 
   -- the child is what stands behind the head
-  child-is : (p : ℕ) → at ≤ p → placeOf at (headOf k (part s at e)) ≡ At p → (v : Value) → valueOf (free k (part s at e)) (part s p e) ≡ v
+  pub child-is : (p : ℕ) → at ≤ p → placeOf at (headOf k (part s at e)) ≡ At p → (v : Value) → valueOf (free k (part s at e)) (part s p e) ≡ v
       → childOf k (part s at e) ≡ behind (headAt k (part s at e)) (p - at) v
   unfolding childOf
   child-is p h z v m =

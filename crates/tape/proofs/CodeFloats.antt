@@ -1,24 +1,18 @@
 -- Floats by their bits, as the code tests them. Assumes nothing.
-use Prim.Native.Nat.{ℕ, _%_, _≤_}
+use Prim.Native.Nat.{ℕ, _%_, _^_, _<_, _≤_}
 use mathlib.Core.Path.{_≡_, sym, subst}
-use mathlib.Core.Bool.{Bool, true, false, not}
-use native.Mathlib.Omega.{arith}
+use mathlib.Core.Bool.{Bool, not}
 use lib.Dec.{T}
-use lib.Ieee.{Float, nan, inf, fin, binary64, isNan, nanBits, ne, eq}
+use lib.Ieee.{binary64, ofBits, nanBits}
 use lib.Ieee.Bits.{nanBits-is}
-use lib.Ieee.Compare.{differs-from-itself}
-use Rattle.tape.proofs.Numbers.{of-bits-not-nan}
+use Rattle.tape.specs.Tape.{finiteFault, floatFault}
+use Rattle.tape.proofs.Numbers.{not-nan, of-bits-not-nan, to-bits-of}
 
 -- a pattern whose magnitude is at most that of an infinity is no NaN's
 pub no-nan : (b : ℕ) → b % 0x8000_0000_0000_0000 ≤ 0x7FF0_0000_0000_0000 → T (not (nanBits binary64 b))
 no-nan b h = subst (λ (t : Bool). T (not t)) (sym (nanBits-is binary64 b)) (of-bits-not-nan b h)
 
--- what equals itself is no NaN
-pub self : (x : Float) → ne x x ≡ false → T (not (isNan x))
-unfolding ne eq isNan
-self nan e = let z : _≡_ {A = ℕ} 0 1 = cc in absurd (omega arith)
-self (inf s) e = tt
-self (fin s m d) e = tt
-
-pub other : (x : Float) → ne x x ≡ true → x ≡ nan
-other x e = differs-from-itself x (subst T (sym e) tt)
+-- what is made of such a pattern goes by the pattern
+pub bits-fault : (b : ℕ) → b < 2 ^ 64 → b % 0x8000_0000_0000_0000 ≤ 0x7FF0_0000_0000_0000 → floatFault (ofBits binary64 b) ≡ finiteFault (b % 0x8000_0000_0000_0000)
+unfolding floatFault
+bits-fault b h k = simp (not-nan (ofBits binary64 b) (of-bits-not-nan b k), to-bits-of b h k)

@@ -10,7 +10,7 @@ use native.Mathlib.Omega.{arith}
 use native.Mathlib.Decide.{decLe}
 use lib.Dec.{eqb, leb}
 use lib.ListN.{length, getD, take, drop}
-use lib.Seq.{drop-drop, getD-drop}
+use lib.Seq.{drop-drop, getD-drop, getD-take}
 use mir.Syntax.{Width}
 use mir.Val.{toZ}
 use mir.Val.{bits as widthOf}
@@ -18,7 +18,7 @@ use borrow.Author.Tests.{le-leb, lt-leb, leb-true, eq-eqb, ne-eqb}
 use Rattle.output.specs.Logic.{if}
 use Rattle.text_rules.specs.Text.{Sym}
 use Rattle.tape.specs.Bytes.{leNumber, signed, part}
-use Rattle.tape.specs.Tree.{Scalar, Head, null, bool, int, decimal, timestamp, symbol, string, clob, scalar, marker}
+use Rattle.tape.specs.Tree.{Scalar, Head, null, bool, int, decimal, timestamp, string, clob, scalar, marker}
 use Rattle.tape.specs.Tape.{past, kind, lengthOf, textOf, symOf, symsOf, nameOf, notesOf, headOf, byteOf, intOf, floatAs, floatOf, decimalOf, timestampAs, timestampOf, symbolOf, sizedOf, scalarOf, Value, absent, leaf, body, openOf, valueOf}
 use Rattle.tape.specs.Steps.{placeOf, lengthIn}
 use Rattle.tape.specs.declared.Frame.{Frame}
@@ -26,8 +26,8 @@ use Rattle.tape.specs.declared.Frame.the-variants.{List as ListF, Sexp, 
 use Rattle.tape.specs.declared.Place.{Place}
 use Rattle.tape.specs.declared.Place.the-variants.{Bad as Nowhere, At}
 use Rattle.tape.proofs.Reading.{Sound, something}
-use Rattle.tape.proofs.Numbers.{signed-is}
-use Rattle.tape.proofs.Parts.{part-length, part-drop, part-byte, part-number}
+use Rattle.tape.proofs.Numbers.{signed-is, le-take}
+use Rattle.tape.proofs.Parts.{drop-take, part-length, part-drop}
 
 pub if-not : (b : Bool) → not b ≡ if b false true
 if-not true = refl
@@ -117,8 +117,8 @@ module _ (l : List ℕ) where
   timestamp-some h = simp (le-leb _ _ h)
 
 -- its fields, by their places on the tape
-pub timestamp-fields : (s : List ℕ) (at e : ℕ) → at + 16 ≤ e
-    → timestampAs (part s at e)
+pub timestamp-fields : (s : List ℕ) (at : ℕ)
+    → timestampAs (drop at s)
     ≡ record {
       precision = getD s (at + 1) 0;
       year = leNumber 2 (drop (at + 2) s);
@@ -132,9 +132,18 @@ pub timestamp-fields : (s : List ℕ) (at e : ℕ) → at + 16 ≤ e
       fraction = leNumber 4 (drop (at + 12) s);
     }
 unfolding timestampAs
-timestamp-fields s at e h =
-    let b : (i : ℕ) → i < 16 → getD (part s at e) i 0 ≡ getD s (at + i) 0 = λ i g. part-byte s at e i (omega arith) in
-    let n : (w j : ℕ) → j + w ≤ 16 → leNumber w (drop j (part s at e)) ≡ leNumber w (drop (at + j) s) = λ w j g. part-number s at e w j (omega arith) in
+timestamp-fields s at =
+    let b : (i : ℕ) → getD (drop at s) i 0 ≡ getD s (at + i) 0 = λ i. getD-drop at s i 0 in
+    let d : (j : ℕ) → drop j (drop at s) ≡ drop (at + j) s = λ j. drop-drop j at s in
+    rw (b 1, d 2, b 4, b 5, b 6, b 7, b 8, d 9, b 11, d 12)
+
+-- no byte behind the first 16 counts
+pub timestamp-part : (s : List ℕ) (at e : ℕ) → at + 16 ≤ e → timestampAs (drop at s) ≡ timestampAs (part s at e)
+unfolding timestampAs
+timestamp-part s at e h =
+    let b : (i : ℕ) → i < 16 → getD (part s at e) i 0 ≡ getD (drop at s) i 0 = λ i g. getD-take (e - at) (drop at s) i 0 (omega arith) in
+    let n : (w j : ℕ) → j + w ≤ 16 → leNumber w (drop j (part s at e)) ≡ leNumber w (drop j (drop at s)) =
+    λ w j g. ap (leNumber w) (drop-take j (e - at) (drop at s)) ∙ le-take w (e - at - j) (drop j (drop at s)) (omega arith) in
     rw (b 1 (omega arith), n 2 2 (omega arith), b 4 (omega arith), b 5 (omega arith), b 6 (omega arith), b 7 (omega arith), b 8 (omega arith), n 2 9 (omega arith), b 11 (omega arith), n 4 12 (omega arith))
 
 -- ---- a length, and what it gives

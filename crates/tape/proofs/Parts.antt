@@ -23,9 +23,6 @@ module _ (s : List ℕ) (a e : ℕ) where
       let g : e - a - n ≡ e - (a + n) = omega arith in
       drop-take n (e - a) (drop a s) ∙ ap (λ (l : List ℕ). take (e - a - n) l) (drop-drop n a s) ∙ ap (λ (i : ℕ). take i (drop (a + n) s)) g
 
-  pub part-take : (m : ℕ) → a + m ≤ e → take m (part s a e) ≡ part s a (a + m)
-  part-take m h = let g : m ≡ a + m - a = omega arith in take-take m (e - a) (drop a s) (omega arith) ∙ ap (λ (i : ℕ). take i (drop a s)) g
-
   pub part-byte : (i : ℕ) → a + i < e → getD (part s a e) i 0 ≡ getD s (a + i) 0
   part-byte i h = getD-take (e - a) (drop a s) i 0 (omega arith) ∙ getD-drop a s i 0
 

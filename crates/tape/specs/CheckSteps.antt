@@ -1,32 +1,47 @@
 -- What the contracts of validation say of their answers. Assumes nothing: these are definitions.
-use Prim.Native.Nat.{ℕ}
+use Prim.Native.Nat.{ℕ, _+_}
 use mathlib.Core.Path.{_≡_}
 use mathlib.Core.List.{List}
-use mathlib.Core.Bool.{false}
-use mathlib.Core.Option.{Option, none, some}
+use mathlib.Core.Bool.{Bool, true, false, _||_}
+use mathlib.Core.Option.{Option}
 use Rattle.text_rules.specs.Text.{Sym}
-use Rattle.tape.specs.Tree.{Head, Nodes, size}
-use Rattle.tape.specs.Tape.{symOf, symsOf, notesOf, headOf, symFault, symsFault, headFault, Walked, bodyOf}
-use Rattle.tape.specs.Refusal.{annotated, noteds, symNumbered, symsNumbered, headNumbered, numbereds}
+use Rattle.tape.specs.Bytes.{first}
+use Rattle.tape.specs.Tree.{Scalar, Head, Nodes, size}
+use Rattle.tape.specs.Tape.{past, Value, absent, leaf, body, symsFault, headFault, scalarFault, fault, Walked, bodyOf}
+use Rattle.tape.specs.Refusal.{annotated, noteds, symsNumbered, headNumbered, scalarNumbered, numbered, numbereds}
 use Rattle.tape.specs.Verdict.{verdict}
-use Rattle.tape.specs.declared.Frame.{Frame}
-use Rattle.tape.specs.declared.check.Facts.{Facts}
+use Rattle.tape.specs.declared.check.Seen.{Seen}
+use Rattle.tape.specs.declared.check.Seen.the-variants as S
+use Rattle.tape.specs.declared.check.Met.{Met}
+use Rattle.tape.specs.declared.check.Met.the-variants as M
+use Rattle.tape.specs.declared.check.Front.{Front}
+use Rattle.tape.specs.declared.check.Front.the-variants as F
 use Rattle.tape.specs.declared.check.Checked.{Checked}
 
--- These speak of a head that is there: where it is broken the walk answers 2 before it looks at them.
+-- what validation says of what a rule read: the number of its bytes, its problem by f, and by g whether an identifier but 0 is in it
+abbrev pub seen : {A : Type 0} → (A → ℕ) → (A → Bool) → Option (A × ℕ) → Seen
+seen f g o = past o S.Bad (λ a n. S.Whole n (f a) (g a))
 
--- the problem of a symbol that the bytes l start with, and whether it is an identifier but 0
-pub record SymFacts (l : List ℕ) (r : Facts) : Type 0 where
-  pub told : (s : Sym) (n : ℕ) → symOf l ≡ some (s, n) → (r .fault ≡ symFault s) × (r .numbered ≡ symNumbered s)
+abbrev pub seenScalar : Option (Scalar × ℕ) → Seen
+seenScalar o = seen scalarFault scalarNumbered o
 
-pub record SymsFacts (c : ℕ) (l : List ℕ) (r : Facts) : Type 0 where
-  pub told : (ss : List Sym) (n : ℕ) → symsOf c l ≡ some (ss, n) → (r .fault ≡ symsFault ss) × (r .numbered ≡ symsNumbered ss)
+-- the same of a value
+abbrev pub met : Value → Met
+met absent = M.Bad
+met (leaf v n) = M.Leaf n (fault v) (numbered v)
+met (body k n) = M.Open k n
 
-pub record NotesFacts (l : List ℕ) (r : Facts) : Type 0 where
-  pub told : (ss : List Sym) (n : ℕ) → notesOf l ≡ some (ss, n) → (r .fault ≡ symsFault ss) × (r .noted ≡ annotated ss) × (r .numbered ≡ symsNumbered ss)
+-- the same of symbols that start at a place, behind the problem f and, if b, an identifier but 0; they are annotations
+abbrev pub symsFront : ℕ → ℕ → Bool → Option (List Sym × ℕ) → Front
+symsFront at f b o = past o F.Bad (λ ss n. F.Whole (at + n) (first f (symsFault ss)) true (b || symsNumbered ss))
 
-pub record HeadFacts (k : Frame) (l : List ℕ) (r : Facts) : Type 0 where
-  pub told : (h : Head) (n : ℕ) → headOf k l ≡ some (h, n) → (r .fault ≡ headFault h) × (r .noted ≡ annotated (h .1)) × (r .numbered ≡ headNumbered h)
+-- of annotations, of which there may be none
+abbrev pub notesFront : ℕ → ℕ → Bool → Option (List Sym × ℕ) → Front
+notesFront at f b o = past o F.Bad (λ ss n. F.Whole (at + n) (first f (symsFault ss)) (annotated ss) (b || symsNumbered ss))
+
+-- of a head
+abbrev pub front : ℕ → Option (Head × ℕ) → Front
+front at o = past o F.Bad (λ h n. F.Whole (at + n) (headFault h) (annotated (h .1)) (headNumbered h))
 
 -- what is said of the nodes of a body that has no problem: how many there are, whether one is annotated, whether one is an identifier but 0
 pub record Counts (ns : Nodes) (r : Checked) : Type 0 where

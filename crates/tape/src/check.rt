@@ -1,30 +1,41 @@
 // Validation: the first problem of a tape, and what the writers ask of its nodes, in one walk.
 ghost use mathlib.Core.Path.{_≡_};
-ghost use mathlib.Core.Bool.{_||_};
-ghost use Prim.Native.Nat.{ℕ, _+_, _-_, _<_, _≤_};
-ghost use mathlib.Core.List.{List};
+ghost use mathlib.Core.Bool.{_||_, false};
+ghost use Prim.Native.Nat.{_+_, _<_, _≤_};
 ghost use lib.Dec.{eqb};
 ghost use lib.ListN.{length, take, drop};
 ghost use Rattle.output.specs.Logic.{if};
 ghost use Rattle.tape.specs.Bytes.{part, first};
-ghost use Rattle.tape.specs.Tape.{textFault, floatFault, scalarFault, walk};
-ghost use Rattle.tape.specs.Refusal.{scalarNumbered};
-ghost use Rattle.tape.specs.Steps.{meantScalar, sizeOf};
-ghost use Rattle.tape.specs.CheckSteps.{SymFacts, SymsFacts, NotesFacts, HeadFacts, Checks, Refuses, TapeChecks};
-ghost use Rattle.tape.specs.declared.Frame.the-variants.{Struct};
-use crate::Child;
+ghost use Rattle.tape.specs.Tree.{null, bool, clob};
+ghost use Rattle.tape.specs.Tape.{kind, textOf, symOf, symsOf, nameOf, notesOf, headOf, byteOf, intOf, floatAs, floatOf, decimalOf, timestampOf, sizedOf, scalarOf, openOf, valueOf, textFault, symFault, nameFault, walk};
+ghost use Rattle.tape.specs.Refusal.{symNumbered, nameNumbered};
+ghost use Rattle.tape.specs.CheckSteps.{seen, seenScalar, met, symsFront, notesFront, front, Checks, Refuses, TapeChecks};
 use crate::Frame;
 use crate::Place;
-use crate::Scalar;
 
-// What is wrong, or 0; whether there are annotations; whether there is an identifier but 0.
-pub struct Facts {
-    pub fault: u8,
-    pub noted: bool,
-    pub numbered: bool,
+// What stands at a place: nothing whole; or how many bytes it takes, what is wrong with it or 0, and whether an identifier but 0 is in it.
+pub enum Seen {
+    Bad,
+    Whole(usize, u8, bool),
 }
 
-// The same of the nodes of a body, and how many stand side by side in it.
+// What stands before a value: nothing whole; or where it ends, what is wrong with it or 0, whether there are annotations, and whether an
+// identifier but 0 is in it.
+pub enum Front {
+    Bad,
+    Whole(usize, u8, bool, bool),
+}
+
+// A value: none; one without a body, with the number of its bytes, what is wrong with it or 0, and whether it is an identifier but 0; a
+// container, with the length of its body.
+pub enum Met {
+    Bad,
+    Leaf(usize, u8, bool),
+    Open(Frame, usize),
+}
+
+// What is told of the nodes of a body: the first problem or 0; without one, how many stand side by side in it, whether there are annotations,
+// and whether there is an identifier but 0.
 pub struct Checked {
     pub fault: u8,
     pub count: usize,
@@ -60,195 +71,311 @@ fn text_fault(tape: &[u8], at: usize, n: usize) -> u8
     }
 }
 
-fn float_fault(x: f64) -> u8
-    ensures { λ r. ⌜ r ≡ floatFault x ⌝ }
-{
-    if x != x {
-        return 0;
-    }
-    let b = f64::to_bits(x) % 0x8000_0000_0000_0000;
-    if b == 0 {
-        return 0;
-    }
-    if b == 0x7FF0_0000_0000_0000 {
-        return 0;
-    }
-    4
-}
-
-// The scalar s, whose node starts at `at`.
-fn scalar_fault(tape: &[u8], at: usize, end: usize, s: Scalar) -> u8
-    requires { ⌜ at + sizeOf s ≤ end ⌝ }
+fn null_seen(tape: &[u8], at: usize, end: usize) -> Seen
+    requires { ⌜ at ≤ end ⌝ }
     requires { ⌜ end ≤ length (now tape) ⌝ }
-    ensures { λ r. ⌜ r ≡ scalarFault (meantScalar s (part (now (tape .entry)) at end)) ⌝ }
+    ensures { λ r. ⌜ r ≡ seenScalar (byteOf 12 null (part (now (tape .entry)) at end)) ⌝ }
 {
-    match s {
-        Scalar::Float(x) => float_fault(x),
-        Scalar::Timestamp(x) => {
-            if numbers::timestamp::is_well_formed(x) {
-                0
-            } else {
-                2
-            }
-        }
-        Scalar::Symbol(n) => text_fault(tape, at, n),
-        Scalar::String(n) => text_fault(tape, at, n),
-        Scalar::Null(_) => 0,
-        Scalar::Bool(_) => 0,
-        Scalar::Int(_) => 0,
-        Scalar::Decimal(_, _, _) => 0,
-        Scalar::Id(_) => 0,
-        Scalar::Clob(_) => 0,
+    if end - at < 2 {
+        return Seen::Bad;
     }
+    if 12 < tape[at + 1] {
+        return Seen::Bad;
+    }
+    Seen::Whole(2, 0, false)
 }
 
-fn scalar_numbered(s: Scalar) -> bool
-    ensures { λ r. ⌜ ((l : List ℕ) → r ≡ scalarNumbered (meantScalar s l)) ⌝ }
+fn bool_seen(tape: &[u8], at: usize, end: usize) -> Seen
+    requires { ⌜ at ≤ end ⌝ }
+    requires { ⌜ end ≤ length (now tape) ⌝ }
+    ensures { λ r. ⌜ r ≡ seenScalar (byteOf 1 (λ b. bool (eqb b 1)) (part (now (tape .entry)) at end)) ⌝ }
 {
-    match s {
-        Scalar::Id(i) => i != 0,
-        Scalar::Null(_) => false,
-        Scalar::Bool(_) => false,
-        Scalar::Int(_) => false,
-        Scalar::Float(_) => false,
-        Scalar::Decimal(_, _, _) => false,
-        Scalar::Timestamp(_) => false,
-        Scalar::Symbol(_) => false,
-        Scalar::String(_) => false,
-        Scalar::Clob(_) => false,
+    if end - at < 2 {
+        return Seen::Bad;
     }
+    if 1 < tape[at + 1] {
+        return Seen::Bad;
+    }
+    Seen::Whole(2, 0, false)
+}
+
+// Only zeros, infinities and the one NaN have a text.
+fn bits_seen(b: u64) -> Seen
+    ensures { λ r. ⌜ r ≡ seenScalar (floatAs b) ⌝ }
+{
+    if b == 0x7FF8_0000_0000_0000 {
+        return Seen::Whole(9, 0, false);
+    }
+    let m = b % 0x8000_0000_0000_0000;
+    if 0x7FF0_0000_0000_0000 < m {
+        return Seen::Bad;
+    }
+    if m == 0 {
+        return Seen::Whole(9, 0, false);
+    }
+    if m == 0x7FF0_0000_0000_0000 {
+        return Seen::Whole(9, 0, false);
+    }
+    Seen::Whole(9, 4, false)
+}
+
+fn float_seen(tape: &[u8], at: usize, end: usize) -> Seen
+    requires { ⌜ at ≤ end ⌝ }
+    requires { ⌜ end ≤ length (now tape) ⌝ }
+    ensures { λ r. ⌜ r ≡ seenScalar (floatOf (part (now (tape .entry)) at end)) ⌝ }
+{
+    if end - at < 9 {
+        return Seen::Bad;
+    }
+    bits_seen(crate::u64_at(tape, at + 1))
+}
+
+fn int_seen(tape: &[u8], at: usize, end: usize) -> Seen
+    requires { ⌜ at ≤ end ⌝ }
+    requires { ⌜ end ≤ length (now tape) ⌝ }
+    ensures { λ r. ⌜ r ≡ seenScalar (intOf (part (now (tape .entry)) at end)) ⌝ }
+{
+    if end - at < 9 {
+        return Seen::Bad;
+    }
+    Seen::Whole(9, 0, false)
+}
+
+fn decimal_seen(tape: &[u8], at: usize, end: usize) -> Seen
+    requires { ⌜ at ≤ end ⌝ }
+    requires { ⌜ end ≤ length (now tape) ⌝ }
+    ensures { λ r. ⌜ r ≡ seenScalar (decimalOf (part (now (tape .entry)) at end)) ⌝ }
+{
+    if end - at < 14 {
+        return Seen::Bad;
+    }
+    if 1 < tape[at + 1] {
+        return Seen::Bad;
+    }
+    Seen::Whole(14, 0, false)
+}
+
+// The calendar.
+fn timestamp_seen(tape: &[u8], at: usize, end: usize) -> Seen
+    requires { ⌜ at ≤ end ⌝ }
+    requires { ⌜ end ≤ length (now tape) ⌝ }
+    ensures { λ r. ⌜ r ≡ seenScalar (timestampOf (part (now (tape .entry)) at end)) ⌝ }
+{
+    if end - at < 16 {
+        return Seen::Bad;
+    }
+    if numbers::timestamp::is_well_formed(crate::timestamp_of(tape, at)) {
+        return Seen::Whole(16, 0, false);
+    }
+    Seen::Whole(16, 2, false)
+}
+
+// A length and so many bytes of UTF-8, behind the kind byte.
+fn text_seen(tape: &[u8], at: usize, end: usize) -> Seen
+    requires { ⌜ at ≤ end ⌝ }
+    requires { ⌜ end ≤ length (now tape) ⌝ }
+    ensures { λ r. ⌜ r ≡ seen textFault (λ s. false) (textOf (part (now (tape .entry)) at end)) ⌝ }
+{
+    let Place::At(n) = crate::length_at(tape, at, end) else {
+        return Seen::Bad;
+    };
+    Seen::Whole(5 + n, text_fault(tape, at, n), false)
+}
+
+// A symbol's node.
+fn sym_seen(tape: &[u8], at: usize, end: usize) -> Seen
+    requires { ⌜ at ≤ end ⌝ }
+    requires { ⌜ end ≤ length (now tape) ⌝ }
+    ensures { λ r. ⌜ r ≡ seen symFault symNumbered (symOf (part (now (tape .entry)) at end)) ⌝ }
+{
+    if at == end {
+        return Seen::Bad;
+    }
+    let k = tape[at];
+    if k == 6 {
+        return text_seen(tape, at, end);
+    }
+    if k != 7 {
+        return Seen::Bad;
+    }
+    if end - at < 5 {
+        return Seen::Bad;
+    }
+    Seen::Whole(5, 0, crate::u32_at(tape, at + 1) != 0)
+}
+
+fn clob_seen(tape: &[u8], at: usize, end: usize) -> Seen
+    requires { ⌜ at ≤ end ⌝ }
+    requires { ⌜ end ≤ length (now tape) ⌝ }
+    ensures { λ r. ⌜ r ≡ seenScalar (sizedOf clob (part (now (tape .entry)) at end)) ⌝ }
+{
+    let Place::At(n) = crate::length_at(tape, at, end) else {
+        return Seen::Bad;
+    };
+    Seen::Whole(5 + n, 0, false)
+}
+
+fn scalar_seen(tape: &[u8], at: usize, end: usize) -> Seen
+    requires { ⌜ at < end ⌝ }
+    requires { ⌜ end ≤ length (now tape) ⌝ }
+    ensures { λ r. ⌜ r ≡ seenScalar (scalarOf (part (now (tape .entry)) at end)) ⌝ }
+{
+    let k = tape[at];
+    if k == 0 {
+        return null_seen(tape, at, end);
+    }
+    if k == 1 {
+        return bool_seen(tape, at, end);
+    }
+    if k == 2 {
+        return int_seen(tape, at, end);
+    }
+    if k == 3 {
+        return float_seen(tape, at, end);
+    }
+    if k == 4 {
+        return decimal_seen(tape, at, end);
+    }
+    if k == 5 {
+        return timestamp_seen(tape, at, end);
+    }
+    if k <= 7 {
+        return sym_seen(tape, at, end);
+    }
+    if k == 8 {
+        return text_seen(tape, at, end);
+    }
+    if k == 9 {
+        return clob_seen(tape, at, end);
+    }
+    Seen::Bad
+}
+
+fn open_met(tape: &[u8], at: usize, end: usize, frame: Frame) -> Met
+    requires { ⌜ at ≤ end ⌝ }
+    requires { ⌜ end ≤ length (now tape) ⌝ }
+    ensures { λ r. ⌜ r ≡ met (openOf frame (part (now (tape .entry)) at end)) ⌝ }
+{
+    let Place::At(n) = crate::length_at(tape, at, end) else {
+        return Met::Bad;
+    };
+    Met::Open(frame, n)
+}
+
+// `free`: a marker may stand here.
+fn value_met(tape: &[u8], at: usize, end: usize, free: bool) -> Met
+    requires { ⌜ at ≤ end ⌝ }
+    requires { ⌜ end ≤ length (now tape) ⌝ }
+    ensures { λ r. ⌜ r ≡ met (valueOf free (part (now (tape .entry)) at end)) ⌝ }
+{
+    if at == end {
+        return Met::Bad;
+    }
+    let k = tape[at];
+    if k == 10 {
+        return open_met(tape, at, end, Frame::List);
+    }
+    if k == 11 {
+        return open_met(tape, at, end, Frame::Sexp);
+    }
+    if k == 12 {
+        return open_met(tape, at, end, Frame::Struct);
+    }
+    if k == 14 {
+        if free {
+            return Met::Leaf(1, 0, false);
+        }
+        return Met::Bad;
+    }
+    let Seen::Whole(n, fault, numbered) = scalar_seen(tape, at, end) else {
+        return Met::Bad;
+    };
+    Met::Leaf(n, fault, numbered)
 }
 
 // ---- heads
 
-// The symbol at a place.
-fn sym_facts(tape: &[u8], at: usize, end: usize) -> Facts
+// n symbols from a place on, behind a problem or 0 and what was numbered before.
+fn syms_seen(tape: &[u8], at: usize, end: usize, n: u8, before: u8, already: bool) -> Front
     requires { ⌜ at ≤ end ⌝ }
     requires { ⌜ end ≤ length (now tape) ⌝ }
-    ensures { λ r. ⌜ SymFacts (part (now (tape .entry)) at end) r ⌝ }
-{
-    if end - at < 5 {
-        return Facts {
-            fault: 0,
-            noted: false,
-            numbered: false,
-        };
-    }
-    let n = crate::u32_at(tape, at + 1) as usize;
-    if tape[at] == 7 {
-        return Facts {
-            fault: 0,
-            noted: false,
-            numbered: n != 0,
-        };
-    }
-    if end - at - 5 < n {
-        return Facts {
-            fault: 0,
-            noted: false,
-            numbered: false,
-        };
-    }
-    Facts {
-        fault: text_fault(tape, at, n),
-        noted: false,
-        numbered: false,
-    }
-}
-
-// n symbols from a place on.
-fn syms_facts(tape: &[u8], at: usize, end: usize, n: u8) -> Facts
-    requires { ⌜ at ≤ end ⌝ }
-    requires { ⌜ end ≤ length (now tape) ⌝ }
-    ensures { λ r. ⌜ SymsFacts n (part (now (tape .entry)) at end) r ⌝ }
+    ensures { λ r. ⌜ r ≡ symsFront at before already (symsOf n (part (now (tape .entry)) at end)) ⌝ }
 {
     let mut p = at;
     let mut left = n;
-    let mut fault: u8 = 0;
-    let mut numbered = false;
+    let mut fault = before;
+    let mut numbered = already;
     while 0 < left {
-        let Place::At(q) = crate::sym_end(tape, p, end) else {
-            return Facts {
-                fault: 0,
-                noted: false,
-                numbered: false,
-            };
+        let Seen::Whole(size, f, b) = sym_seen(tape, p, end) else {
+            return Front::Bad;
         };
-        let s = sym_facts(tape, p, end);
-        fault = first_of(fault, s.fault);
-        numbered = either(numbered, s.numbered);
-        p = q;
+        fault = first_of(fault, f);
+        numbered = either(numbered, b);
+        p = p + size;
         left -= 1;
     }
-    Facts {
-        fault,
-        noted: false,
-        numbered,
-    }
+    Front::Whole(p, fault, true, numbered)
 }
 
-// The annotations at a place.
-fn notes_facts(tape: &[u8], at: usize, end: usize) -> Facts
-    requires { ⌜ at ≤ end ⌝ }
+// The annotations at a place where the kind byte is theirs.
+fn noted_seen(tape: &[u8], at: usize, end: usize, before: u8, already: bool) -> Front
+    requires { ⌜ at < end ⌝ }
     requires { ⌜ end ≤ length (now tape) ⌝ }
-    ensures { λ r. ⌜ NotesFacts (part (now (tape .entry)) at end) r ⌝ }
+    requires { ⌜ kind (part (now tape) at end) ≡ 13 ⌝ }
+    ensures { λ r. ⌜ r ≡ notesFront at before already (notesOf (part (now (tape .entry)) at end)) ⌝ }
 {
     if end - at < 2 {
-        return Facts {
-            fault: 0,
-            noted: false,
-            numbered: false,
-        };
+        return Front::Bad;
     }
-    if tape[at] != 13 {
-        return Facts {
-            fault: 0,
-            noted: false,
-            numbered: false,
-        };
+    let n = tape[at + 1];
+    if n < 1 {
+        return Front::Bad;
     }
-    let s = syms_facts(tape, at + 2, end, tape[at + 1]);
-    Facts {
-        fault: s.fault,
-        noted: true,
-        numbered: s.numbered,
+    if 16 < n {
+        return Front::Bad;
     }
+    syms_seen(tape, at + 2, end, n, before, already)
 }
 
-// The name and the annotations of a struct's child.
-fn field_facts(tape: &[u8], at: usize, end: usize) -> Facts
+// The annotations at a place, behind a name.
+fn notes_seen(tape: &[u8], at: usize, end: usize, before: u8, already: bool) -> Front
     requires { ⌜ at ≤ end ⌝ }
     requires { ⌜ end ≤ length (now tape) ⌝ }
-    ensures { λ r. ⌜ HeadFacts Struct (part (now (tape .entry)) at end) r ⌝ }
+    ensures { λ r. ⌜ r ≡ notesFront at before already (notesOf (part (now (tape .entry)) at end)) ⌝ }
 {
-    let Place::At(p) = crate::sym_end(tape, at, end) else {
-        return Facts {
-            fault: 0,
-            noted: false,
-            numbered: false,
-        };
-    };
-    let s = sym_facts(tape, at, end);
-    let n = notes_facts(tape, p, end);
-    Facts {
-        fault: first_of(s.fault, n.fault),
-        noted: n.noted,
-        numbered: either(s.numbered, n.numbered),
+    if at == end {
+        return Front::Whole(at, before, false, already);
+    }
+    if tape[at] != 13 {
+        return Front::Whole(at, before, false, already);
+    }
+    noted_seen(tape, at, end, before, already)
+}
+
+// A name, where the child at a place has one.
+fn name_seen(tape: &[u8], at: usize, end: usize, frame: Frame) -> Seen
+    requires { ⌜ at ≤ end ⌝ }
+    requires { ⌜ end ≤ length (now tape) ⌝ }
+    ensures { λ r. ⌜ r ≡ seen nameFault nameNumbered (nameOf frame (part (now (tape .entry)) at end)) ⌝ }
+{
+    match frame {
+        Frame::Struct => sym_seen(tape, at, end),
+        Frame::Top => Seen::Whole(0, 0, false),
+        Frame::List => Seen::Whole(0, 0, false),
+        Frame::Sexp => Seen::Whole(0, 0, false),
     }
 }
 
 // The head of the child at a place.
-fn head_facts(tape: &[u8], at: usize, end: usize, frame: Frame) -> Facts
+fn head_seen(tape: &[u8], at: usize, end: usize, frame: Frame) -> Front
     requires { ⌜ at ≤ end ⌝ }
     requires { ⌜ end ≤ length (now tape) ⌝ }
-    ensures { λ r. ⌜ HeadFacts frame (part (now (tape .entry)) at end) r ⌝ }
+    ensures { λ r. ⌜ r ≡ front at (headOf frame (part (now (tape .entry)) at end)) ⌝ }
 {
-    match frame {
-        Frame::Struct => field_facts(tape, at, end),
-        Frame::Top => notes_facts(tape, at, end),
-        Frame::List => notes_facts(tape, at, end),
-        Frame::Sexp => notes_facts(tape, at, end),
-    }
+    let Seen::Whole(n, fault, numbered) = name_seen(tape, at, end, frame) else {
+        return Front::Bad;
+    };
+    notes_seen(tape, at + n, end, fault, numbered)
 }
 
 // ---- bodies
@@ -279,43 +406,36 @@ fn check_nodes(tape: &[u8], from: usize, end: usize, frame: Frame, depth: usize)
     let mut noted = false;
     let mut numbered = false;
     while at < end {
-        let h = head_facts(tape, at, end, frame);
-        let c = crate::child_at(tape, at, end, frame);
-        match c {
-            Child::Bad => {
+        let Front::Whole(p, fault, notes, numbers) = head_seen(tape, at, end, frame) else {
+            return refused(2);
+        };
+        let v = value_met(tape, p, end, crate::is_free(tape, at, end, frame));
+        match v {
+            Met::Bad => {
                 return refused(2);
             }
-            Child::Leaf(p, s, next) => {
-                let f = first_of(h.fault, scalar_fault(tape, p, end, s));
+            Met::Leaf(n, own, number) => {
+                let f = first_of(fault, own);
                 if f != 0 {
                     return refused(f);
                 }
-                noted = either(noted, h.noted);
-                numbered = either(numbered, either(h.numbered, scalar_numbered(s)));
+                noted = either(noted, notes);
+                numbered = either(numbered, either(numbers, number));
                 count += 1;
-                at = next;
+                at = p + n;
             }
-            Child::Marker(next) => {
-                if h.fault != 0 {
-                    return refused(h.fault);
+            Met::Open(k, n) => {
+                if fault != 0 {
+                    return refused(fault);
                 }
-                noted = either(noted, h.noted);
-                numbered = either(numbered, h.numbered);
-                count += 1;
-                at = next;
-            }
-            Child::Open(f, start, stop) => {
-                if h.fault != 0 {
-                    return refused(h.fault);
-                }
-                let r = check_nodes(tape, start, stop, f, depth - 1);
+                let r = check_nodes(tape, p + 5, p + 5 + n, k, depth - 1);
                 if r.fault != 0 {
                     return refused(r.fault);
                 }
-                noted = either(noted, either(h.noted, r.noted));
-                numbered = either(numbered, either(h.numbered, r.numbered));
+                noted = either(noted, either(notes, r.noted));
+                numbered = either(numbered, either(numbers, r.numbered));
                 count += 1;
-                at = stop;
+                at = p + 5 + n;
             }
         }
     }

@@ -9,7 +9,7 @@ ghost use mathlib.Core.List.{List};
 ghost use lib.ListN.{length, take, drop};
 ghost use Rattle.tape.specs.Bytes.{leNumber, signed, part};
 ghost use Rattle.tape.specs.Tree.{null, bool, string, clob};
-ghost use Rattle.tape.specs.Tape.{symOf, symsOf, nameOf, notesOf, headOf, byteOf, intOf, floatAs, floatOf, decimalOf, timestampOf, symbolOf, sizedOf, scalarOf, openOf, valueOf, free};
+ghost use Rattle.tape.specs.Tape.{symOf, symsOf, nameOf, notesOf, headOf, byteOf, intOf, floatAs, floatOf, decimalOf, timestampAs, timestampOf, symbolOf, sizedOf, scalarOf, openOf, valueOf, free};
 ghost use Rattle.tape.specs.Steps.{placeOf, lengthIn, meantSym, scanned, sizeOf, meant, Behind, ChildAt};
 use numbers::timestamp::Timestamp;
 
@@ -239,18 +239,15 @@ fn decimal_at(tape: &[u8], at: usize, end: usize) -> Scanned
     Scanned::Is(Scalar::Decimal(s == 1, m, e))
 }
 
-fn timestamp_at(tape: &[u8], at: usize, end: usize) -> Scanned
-    requires { ⌜ at ≤ end ⌝ }
-    requires { ⌜ end ≤ length (now tape) ⌝ }
-    ensures { λ r. ⌜ scanned r (part (now (tape .entry)) at end) ≡ timestampOf (part (now (tape .entry)) at end) ⌝ }
+// The fields of the timestamp whose node stands at a place.
+fn timestamp_of(tape: &[u8], at: usize) -> Timestamp
+    requires { ⌜ at + 16 ≤ length (now tape) ⌝ }
+    ensures { λ r. ⌜ r ≡ timestampAs (drop at (now (tape .entry))) ⌝ }
 {
-    if end - at < 16 {
-        return Scanned::Bad;
-    }
     let year = u16_at(tape, at + 2) as u16;
     let offset = signed16(u16_at(tape, at + 9));
     let fraction = u32_at(tape, at + 12) as u32;
-    Scanned::Is(Scalar::Timestamp(Timestamp {
+    Timestamp {
         precision: tape[at + 1],
         year,
         month: tape[at + 4],
@@ -261,7 +258,18 @@ fn timestamp_at(tape: &[u8], at: usize, end: usize) -> Scanned
         offset,
         digits: tape[at + 11],
         fraction,
-    }))
+    }
+}
+
+fn timestamp_at(tape: &[u8], at: usize, end: usize) -> Scanned
+    requires { ⌜ at ≤ end ⌝ }
+    requires { ⌜ end ≤ length (now tape) ⌝ }
+    ensures { λ r. ⌜ scanned r (part (now (tape .entry)) at end) ≡ timestampOf (part (now (tape .entry)) at end) ⌝ }
+{
+    if end - at < 16 {
+        return Scanned::Bad;
+    }
+    Scanned::Is(Scalar::Timestamp(timestamp_of(tape, at)))
 }
 
 pub fn sym_at(tape: &[u8], at: usize, end: usize) -> Symbol

@@ -1,0 +1,93 @@
+-- `tape::check::syms_seen` meets its contract. The invariant: the symbols that are left, behind what was seen, give the same answer. Assumes nothing.
+use mathlib.Core.Path.{_≡_, refl, sym, _∙_}
+use native.Mathlib.Omega.{arith}
+use denote.Ref.{now}
+use Prim.Native.Nat.{_≤_}
+use Rattle.tape.specs.Bytes.{part}
+use Rattle.tape.specs.Tree.{encodeSym}
+use Rattle.tape.specs.Tape.{symOf, symsOf, symFault}
+use Rattle.tape.specs.Refusal.{symNumbered}
+use Rattle.tape.specs.CheckSteps.{symsFront}
+use Rattle.tape.proofs.Reading.{sym-sound}
+use Rattle.tape.proofs.CodeFacts.{seen-within, front-end, front-stop, front-step}
+use borrow.Author.Needs.{needs}
+use Rattle.tape.proofs.check.syms_seen.Statement.{statement}
+use Rattle.tape.proofs.check.syms_seen.Tie as tie
+
+abbrev Inv-loop : tie.InvT-loop
+Inv-loop tape at end n before already p₀ left₀ fault₀ numbered₀ p left fault numbered =
+    (p ≤ end) × (symsFront p fault numbered (symsOf left (part tape p end)) ≡ symsFront at before already (symsOf n (part tape at end)))
+
+abbrev μ-loop : tie.MeasureT-loop
+μ-loop tape at end n before already p₀ left₀ fault₀ numbered₀ p left fault numbered = left
+
+loop-holds : tie.Need-loop-holds Inv-loop μ-loop
+loop-holds c = (c .before .pre .0, refl)
+
+sym-seen-requires : tie.Need-sym-seen-requires Inv-loop μ-loop
+sym-seen-requires c κs = (c .before .loop .inv .0, c .before .before .before .pre .1)
+
+enum-known-size : tie.Need-enum-known-size Inv-loop μ-loop
+enum-known-size c = search needs
+
+enum-told : tie.Need-enum-told Inv-loop μ-loop
+enum-told c = search needs
+
+returns : tie.Need-returns Inv-loop μ-loop
+returns c =
+    let a = c .before .before .before .before .before .before .args in
+    let l = c .before .before .before .before .loop in
+    front-stop (now (a .tape)) (l .p) (a .end) (l .fault) (l .numbered) (l .left) (c .before .before .before .loop-test .taken) (sym (c .enum-told .given .1) ∙ c .before .before .sym-seen .ensures) ∙ l .inv .1
+
+first-of-requires : tie.Need-first-of-requires Inv-loop μ-loop
+first-of-requires c κs = search needs
+
+either-requires : tie.Need-either-requires Inv-loop μ-loop
+either-requires c κs = search needs
+
+add-p : tie.Need-add-p Inv-loop μ-loop
+add-p c =
+    let s = c .before .before .before .before .before .before .before .before .before in
+    let a = s .args in
+    let l = c .before .before .before .before .before .before .before .loop in
+    let w = seen-within symFault symNumbered encodeSym (now (a .tape)) (l .p) (a .end) (symOf (part (now (a .tape)) (l .p) (a .end))) _ _ _ (l .inv .0) (s .pre .1) (sym-sound _) (sym (c .before .before .before .size .given .1) ∙ c .before .before .before .before .before .sym-seen .ensures) in
+    record { fits = omega arith }
+
+sub-left : tie.Need-sub-left Inv-loop μ-loop
+sub-left c = search needs
+
+loop-less : tie.Need-loop-less Inv-loop μ-loop
+loop-less c = search needs
+
+loop-again : tie.Need-loop-again Inv-loop μ-loop
+loop-again c =
+    let s = c .before .before .before .before .before .before .before .before .before in
+    let a = s .args in
+    let l = c .before .before .before .before .before .before .before .loop in
+    let e = sym (c .before .before .before .size .given .1) ∙ c .before .before .before .before .before .sym-seen .ensures in (
+      seen-within symFault symNumbered encodeSym (now (a .tape)) (l .p) (a .end) (symOf (part (now (a .tape)) (l .p) (a .end))) _ _ _ (l .inv .0) (s .pre .1) (sym-sound _) e,
+      rw (c .before .first-of .ensures, c .either .ensures)
+          (sym (front-step (now (a .tape)) (l .p) (a .end) (l .fault) (l .numbered) (l .left) _ _ _ (c .before .before .before .before .before .before .loop-test .taken) e) ∙ l .inv .1),
+    )
+
+returns-2 : tie.Need-returns-2 Inv-loop μ-loop
+returns-2 c = let l = c .before .loop in front-end (l .p) (l .fault) (l .numbered) (l .left) _ (c .loop-test .left) ∙ l .inv .1
+
+pub syms-seen-spec : {M : Type 1} → statement M
+syms-seen-spec =
+    tie.close
+    (tie.spec
+    Inv-loop
+    μ-loop
+    loop-holds
+    sym-seen-requires
+    enum-known-size
+    enum-told
+    returns
+    first-of-requires
+    either-requires
+    add-p
+    sub-left
+    loop-less
+    loop-again
+    returns-2)
