@@ -162,11 +162,14 @@ fn repeat_clipped(buf: &mut [u8], pos: usize, x: u8, n: usize) -> usize
     p
 }
 
-// The byte x, n times.
+// The byte x, n times, which is mostly not at all.
 pub fn put_repeated(buf: &mut [u8], pos: usize, x: u8, n: usize) -> usize
     requires { ⌜ pos ≤ limit ⌝ }
     ensures { λ r. ⌜ Wrote (now (buf .entry)) (now (buf .exit)) pos r (replicate n x) ⌝ }
 {
+    if n == 0 {
+        return pos;
+    }
     if pos <= buf.len() {
         if n <= buf.len() - pos {
             fill_at(buf, pos, x, n);
