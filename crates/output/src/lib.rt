@@ -111,10 +111,14 @@ fn copy_at(buf: &mut [u8], pos: usize, s: &[u8])
 
 // A position n bytes on.
 pub fn ahead(pos: usize, n: usize) -> usize
-    requires { ⌜ pos ≤ limit ⌝ }
     ensures { λ r. ⌜ r ≡ min (pos + n) limit ⌝ }
 {
-    if LIMIT - pos < n { LIMIT } else { pos + n }
+    if pos < LIMIT {
+        if n <= LIMIT - pos {
+            return pos + n;
+        }
+    }
+    LIMIT
 }
 
 fn lesser(a: usize, b: usize) -> usize
@@ -184,6 +188,9 @@ pub fn put_le(buf: &mut [u8], pos: usize, n: u64, width: usize) -> usize
     requires { ⌜ pos ≤ limit ⌝ }
     ensures { λ r. ⌜ Wrote (now (buf .entry)) (now (buf .exit)) pos r (leBytes width n) ⌝ }
 {
+    if buf.len() <= pos {
+        return ahead(pos, width);
+    }
     let mut p = pos;
     let mut m = n;
     let mut k = width;

@@ -34,11 +34,12 @@ fn header_at(buf: &mut [u8], pos: usize, kind: u8, n: usize)
 pub fn put_header(buf: &mut [u8], pos: usize, kind: u8, n: usize) -> usize
     ensures { λ r. ⌜ Wrote (now (buf .entry)) (now (buf .exit)) pos r (kind ∷ leBytes 4 n) ⌝ }
 {
-    if pos < buf.len() {
-        if 5 <= buf.len() - pos {
-            header_at(buf, pos, kind, n);
-            return pos + 5;
-        }
+    if buf.len() <= pos {
+        return output::ahead(pos, 5);
+    }
+    if 5 <= buf.len() - pos {
+        header_at(buf, pos, kind, n);
+        return pos + 5;
     }
     let p = output::put(buf, pos, kind);
     output::put_le(buf, p, int::far(n), 4)
@@ -64,11 +65,12 @@ fn wide_at(buf: &mut [u8], pos: usize, kind: u8, n: u64)
 pub fn put_wide(buf: &mut [u8], pos: usize, kind: u8, n: u64) -> usize
     ensures { λ r. ⌜ Wrote (now (buf .entry)) (now (buf .exit)) pos r (kind ∷ leBytes 8 n) ⌝ }
 {
-    if pos < buf.len() {
-        if 9 <= buf.len() - pos {
-            wide_at(buf, pos, kind, n);
-            return pos + 9;
-        }
+    if buf.len() <= pos {
+        return output::ahead(pos, 9);
+    }
+    if 9 <= buf.len() - pos {
+        wide_at(buf, pos, kind, n);
+        return pos + 9;
     }
     let p = output::put(buf, pos, kind);
     output::put_le(buf, p, n, 8)

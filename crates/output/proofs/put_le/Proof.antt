@@ -1,9 +1,9 @@
 -- `output::put_le` meets its contract. Assumes nothing.
-use Prim.Native.Nat.{ℕ, suc, _-_, _≤_}
+use Prim.Native.Nat.{ℕ, suc, _+_, _-_, _≤_, min}
 use mathlib.Core.Path.{_≡_, sym, ap, _∙_}
 use native.Mathlib.Omega.{arith}
-use Rattle.output.specs.Wrote.{leBytes}
-use Rattle.output.proofs.Laws.{Progress, start, more, finish, wrote-length}
+use Rattle.output.specs.Wrote.{limit, leBytes}
+use Rattle.output.proofs.Laws.{sets-out, length-le, Progress, start, more, finish, wrote-length}
 use borrow.Author.Needs.{needs}
 use Rattle.output.proofs.put_le.Statement.{statement}
 use Rattle.output.proofs.put_le.Tie as tie
@@ -13,6 +13,18 @@ Inv-loop buf₀ pos n width p₀ m₀ k₀ buf p m k = Progress buf₀ buf pos p
 
 abbrev μ-loop : tie.MeasureT-loop
 μ-loop buf₀ pos n width p₀ m₀ k₀ buf p m k = k
+
+ahead-requires : tie.Need-ahead-requires Inv-loop μ-loop
+ahead-requires c κs = search needs
+
+returns : tie.Need-returns Inv-loop μ-loop
+returns c =
+    let a = c .before .before .before .args in
+    record {
+      bytes = sym (sets-out (a .buf .now) (a .pos) (leBytes (a .width) (a .n)) (c .before .if1 .taken));
+      count = c .ahead .ensures ∙ ap (λ (k : ℕ). min (a .pos + k) limit) (sym (length-le (a .width) (a .n)));
+      room = search needs;
+    }
 
 loop-holds : tie.Need-loop-holds Inv-loop μ-loop
 loop-holds c = start _ _ _ (search needs) (search needs)
@@ -39,9 +51,9 @@ loop-again c =
 same-length : tie.Need-same-length Inv-loop μ-loop
 same-length c = wrote-length (c .before .loop .inv .wrote)
 
-returns : tie.Need-returns Inv-loop μ-loop
+returns-2 : tie.Need-returns-2 Inv-loop μ-loop
 unfolding leBytes
-returns c =
+returns-2 c =
     let l = c .before .loop in
     let e : l .k ≡ 0 = omega arith in
     finish (l .inv) (ap (λ (k : ℕ). leBytes k (l .m)) e)
@@ -52,6 +64,8 @@ put-le-spec =
     (tie.spec
     Inv-loop
     μ-loop
+    ahead-requires
+    returns
     loop-holds
     cast-put
     put-requires
@@ -59,4 +73,4 @@ put-le-spec =
     loop-less
     loop-again
     same-length
-    returns)
+    returns-2)
