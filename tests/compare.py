@@ -1,5 +1,5 @@
 """Compares our texts with the Rust's over random accepted tapes, in full and cut short by the room; reads each text back, which must
-give the tape itself; and compares answer and buffer on damaged tapes with tests/model.py. The driver checks what it does not send: all
+give the tape itself, and its lines one by one, which must give each value's tape; and compares answer and buffer on damaged tapes with tests/model.py. The driver checks what it does not send: all
 of the buffer that a call must leave alone or zero.
 
     rt staticlib ion_c && gcc -O2 -o target/driver tests/driver.c target/staticlib/libion_c.a
@@ -18,7 +18,7 @@ from random_tapes import nested, stream, value
 from tapes import ask, node, tape
 
 DRIVER = 'target/driver'
-READ = 16
+READ, LINES = 16, 17
 AMPLE = 1 << 16
 
 
@@ -41,6 +41,21 @@ def same(frames, expected):
         if due != own:
             print('mode', mode, 'room', room, 'given', t.hex(), 'expected', due, 'ours', own)
             sys.exit(1)
+
+
+def lines(frames):
+    """The calls of ion_read_line over (room, text) frames, from a fresh offset to the end mark: lists of (answer, offset, bytes)."""
+    said = b''.join(bytes([LINES]) + struct.pack('<II', room, len(t)) + t for room, t in frames)
+    out = subprocess.run([DRIVER], input=said, stdout=subprocess.PIPE, check=True).stdout
+    at = 0
+    for _ in frames:
+        calls, n = [], 1
+        while n:
+            n, offset = struct.unpack_from('<qQ', out, at)
+            calls.append((n, offset, out[at + 16:at + 16 + max(n, 0)]))
+            at += 16 + max(n, 0)
+        yield calls
+    assert at == len(out)
 
 
 def special():
@@ -78,6 +93,22 @@ def read_back(r, pairs, texts):
     same([(READ, len(t), s) for (_, t), s in zip(pairs, texts)], [(len(t), t) for _, t in pairs])
     same([(READ, r.randrange(len(t)), s) for (_, t), s in zip(pairs, texts)], [(-9, b'')] * len(pairs))
     print('%d texts read back: each gives its tape, or 9 where the room is short' % len(texts))
+
+
+def line_by_line(lists, pairs, texts):
+    """Every line of a Lines text gives its value's own tape, and its length the next offset."""
+    written = [s for (y, _), s in zip(pairs, texts) if y == 1]
+    for values, text, calls in zip(lists, written, lines([(AMPLE, s) for s in written])):
+        at, due = 0, []
+        for v, line in zip(values, text.splitlines(True)):
+            at += len(line)
+            own = tape([v])
+            due.append((len(own), at, own))
+        due.append((0, at, b''))
+        if due != calls:
+            print('lines', text.hex(), 'expected', due, 'ours', calls)
+            sys.exit(1)
+    print('%d Lines texts read line by line: no difference' % len(written))
 
 
 # Nodes that one refusal or another waits for.
@@ -146,6 +177,7 @@ def main():
     lists = [v for vs in special() for v in vs] + [stream(r) for _ in range(count)]
     pairs, texts = against_rust(r, lists)
     read_back(r, pairs, texts)
+    line_by_line(lists, pairs, texts)
     against_model(r, [stream(r) for _ in range(4 * count)])
     limits()
 

@@ -1,7 +1,8 @@
-/* Answers frames through libion_c.a. A frame is a byte (0..15: ion_write in that layout, 16: ion_read), u32 room, u32 length and bytes.
-   The answer is i64; behind a count come that many bytes, behind -6 all of the room's. The driver itself checks the rest of the buffer,
-   which is 0xA5 before the call, and ends with 2 to 7 where something is wrong: guard bytes beside the room, bytes past the count, a
-   refusal's buffer (untouched by ion_write but for -6, all zero by ion_read) and the input. */
+/* Answers frames through libion_c.a. A frame is a byte (0..15: ion_write in that layout, 16: ion_read, 17: ion_read_line from offset 0
+   until the end mark), u32 room, u32 length and bytes. The answer is i64; behind a count come that many bytes, behind -6 all of the
+   room's; behind each answer of a line, u64 offset first. The driver itself checks the rest of the buffer, which is 0xA5 before the first
+   call, and ends with 2 to 8 where something is wrong: guard bytes beside the room, bytes past the count, a refusal's buffer (untouched by
+   ion_write but for -6, all zero by the readers), the input, and for lines what the end mark and an offset past the text leave. */
 #include <stdint.h>
 #include <stdio.h>
 #include <stdlib.h>
@@ -10,7 +11,9 @@
 int64_t ion_write(uint32_t layout, const uint8_t *tape, size_t tape_length, uint8_t *out, size_t out_length);
 int64_t ion_read(const uint8_t *text, size_t text_length, uint8_t *out, size_t out_length);
 
-enum { READ = 16, GUARD = 8, OLD = 0xA5 };
+int64_t ion_read_line(const uint8_t *text, size_t text_length, uint64_t *at, uint8_t *out, size_t out_length);
+
+enum { READ = 16, LINES = 17, GUARD = 8, OLD = 0xA5 };
 
 static int take(void *p, size_t n) { return fread(p, 1, n, stdin) == n; }
 
@@ -29,6 +32,29 @@ static int rest(uint8_t mode, int64_t r, const uint8_t *room, size_t n) {
     return r >= -7 ? (all(room, n, OLD) ? 0 : 6) : 4;
 }
 
+/* Every line of a text, each call given what the last one left; 0 if all is as it must be. */
+static int lines(const uint8_t *text, size_t length, uint8_t *room, size_t n) {
+    uint8_t *was = malloc(n + 1);
+    uint64_t at = 0, from, past = length + 1;
+    int64_t r;
+    do {
+        memcpy(was, room, n);
+        from = at;
+        r = ion_read_line(text, length, &at, room, n);
+        fwrite(&r, 8, 1, stdout);
+        fwrite(&at, 8, 1, stdout);
+        if (r > (int64_t)n || (r < 0 && r != -8 && r != -9)) return 4;
+        if (r > 0 && memcmp(room + r, was + r, n - (size_t)r)) return 5;
+        if (r < 0 && !all(room, n, 0)) return 6;
+        if (r ? at <= from || at > length : at != length || from != at || memcmp(room, was, n)) return 8;
+        fwrite(room, 1, r > 0 ? (size_t)r : 0, stdout);
+    } while (r);
+    if (ion_read_line(text, length, &at, room, n) || at != length || memcmp(room, was, n)) return 8;
+    if (ion_read_line(text, length, &past, room, n) != -10 || past != length + 1 || memcmp(room, was, n)) return 8;
+    free(was);
+    return 0;
+}
+
 int main(void) {
     uint8_t mode;
     uint32_t room, length;
@@ -37,14 +63,18 @@ int main(void) {
         if (!in || !was || !out || !take(in, length)) return 2;
         memcpy(was, in, length);
         memset(out, OLD, (size_t)room + 2 * GUARD);
-        int64_t r = mode == READ ? ion_read(in, length, out + GUARD, room) : ion_write(mode, in, length, out + GUARD, room);
+        int64_t r = 0;
+        int wrong = mode == LINES ? lines(in, length, out + GUARD, room) : 0;
+        if (mode != LINES) r = mode == READ ? ion_read(in, length, out + GUARD, room) : ion_write(mode, in, length, out + GUARD, room);
         if (!all(out, GUARD, OLD) || !all(out + GUARD + room, GUARD, OLD)) return 3;
         if (memcmp(in, was, length)) return 7;
-        int wrong = rest(mode, r, out + GUARD, room);
+        if (mode != LINES) wrong = rest(mode, r, out + GUARD, room);
         if (wrong) return wrong;
         size_t shown = r >= 0 ? (size_t)r : r == -6 ? room : 0;
-        fwrite(&r, 8, 1, stdout);
-        fwrite(out + GUARD, 1, shown, stdout);
+        if (mode != LINES) {
+            fwrite(&r, 8, 1, stdout);
+            fwrite(out + GUARD, 1, shown, stdout);
+        }
         free(in);
         free(was);
         free(out);
