@@ -1,0 +1,44 @@
+// The tree text: one element of a tape, as the Rust's `format_element` prints it.
+ghost use mathlib.Core.Path.{_≡_};
+ghost use mathlib.Core.List.{[], _++_};
+ghost use Prim.Native.Nat.{_+_, _<_, _≤_};
+ghost use lib.ListN.{length};
+ghost use Rattle.output.specs.Wrote.{Wrote, limit};
+ghost use Rattle.tape.specs.Bytes.{part};
+ghost use Rattle.tape.specs.Tape.{past, symsOf, notesOf, headOf, walk};
+ghost use Rattle.tape.specs.Steps.{headAt};
+ghost use Rattle.tape.specs.Answer.{outcome};
+ghost use Rattle.writer.specs.Text.{nameText};
+ghost use Rattle.tree.specs.Text.{notesText, lead, elements};
+ghost use Rattle.tree.specs.Outcome.{written, leaves};
+use tape::Child;
+use tape::Frame;
+use tape::answer::Answer;
+
+// Writes the tree text of a tape at the buffer's start. Answers the count of bytes, or 1, 2, 3, 4 or 5 with the buffer untouched, or 6 with
+// the buffer filled by the text's first bytes.
+pub fn write_tree(tape: &[u8], out: &mut [u8]) -> Answer
+    ensures answer { λ r. ⌜ outcome r ≡ written (now (tape .entry)) (length (now (out .entry))) ⌝ }
+    ensures buffer { λ _. ⌜ now (out .exit) ≡ leaves (now (tape .entry)) (now (out .entry)) ⌝ }
+{
+    let c = tape::check::check_tape(tape);
+    if c.fault != 0 {
+        return tape::answer::refusal_of(c.fault);
+    }
+    if c.count != 1 {
+        return Answer::Unsuited;
+    }
+    if c.numbered {
+        return Answer::Unsuited;
+    }
+    // the one node is the marker
+    if tape[0] == 14 {
+        return Answer::Unsuited;
+    }
+    let end = tape.len() - 8;
+    let n = write_elements(tape, 0, end, Frame::Top, 65, out, 0);
+    if out.len() < n {
+        return Answer::TextTooLong;
+    }
+    Answer::Count(n)
+}
