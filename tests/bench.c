@@ -1,10 +1,12 @@
-/* Times ion_write over tape files: thread processor time, best of many. Usage: bench LAYOUT FILE.. */
+/* Times ion_write in a layout, or ion_write_tree, over tape files: thread processor time, best of many. Usage: bench LAYOUT|tree FILE.. */
 #include <stdint.h>
 #include <stdio.h>
 #include <stdlib.h>
+#include <string.h>
 #include <time.h>
 
 int64_t ion_write(uint32_t layout, const uint8_t *tape, size_t tape_length, uint8_t *out, size_t out_length);
+int64_t ion_write_tree(const uint8_t *tape, size_t tape_length, uint8_t *out, size_t out_length);
 
 static double now(void) {
     struct timespec t;
@@ -15,6 +17,7 @@ static double now(void) {
 static uint8_t tape[1 << 20], out[1 << 24];
 
 int main(int count, char **words) {
+    int tree = !strcmp(words[1], "tree");
     uint32_t layout = atoi(words[1]);
     for (int k = 2; k < count; k++) {
         FILE *f = fopen(words[k], "rb");
@@ -26,7 +29,7 @@ int main(int count, char **words) {
         int64_t r = 0;
         for (int i = 0; i < runs; i++) {
             double a = now();
-            for (int j = 0; j < turns; j++) r = ion_write(layout, tape, n, out, sizeof out);
+            for (int j = 0; j < turns; j++) r = tree ? ion_write_tree(tape, n, out, sizeof out) : ion_write(layout, tape, n, out, sizeof out);
             double d = (now() - a) / turns;
             if (d < best) best = d;
         }

@@ -1,4 +1,5 @@
-"""Our time (validation and writing, from the tape) beside the Rust's writing time, on the oracle's sample tapes.
+"""Our time (validation and writing, from the tape) beside the Rust's writing time, on the oracle's sample tapes: the layouts, and the tree
+text where a tape has one.
 
     ORACLE_DIR=path/to/oracle python3 tests/bench.py [ROUNDS]
 
@@ -21,7 +22,9 @@ with tempfile.TemporaryDirectory() as tapes:
     print('%-16s %6s %12s %12s %7s' % ('sample', 'layout', 'Rust ns', 'ours ns', 'ratio'))
     for name in names:
         path = os.path.join(tapes, name)
-        for layout in '012':
+        with open(path, 'rb') as f:
+            one = f.read()[-4:] == b'\1\0\0\0'
+        for layout in ['0', '1', '2'] + ['tree'] * one:
             rust = own = 1e18
             for _ in range(rounds):
                 turns = max(500, 40_000_000 // (os.path.getsize(path) + 20))

@@ -1,4 +1,4 @@
-"""Compares our texts with the Rust's over random accepted tapes, in full and cut short by the room; reads each text back, which must
+"""Compares our streaming and tree texts with the Rust's over random accepted tapes, in full and cut short by the room; reads each text back, which must
 give the tape itself, and its lines one by one, which must give each value's tape; and compares answer and buffer on damaged tapes with tests/model.py. The driver checks what it does not send: all
 of the buffer that a call must leave alone or zero.
 
@@ -14,11 +14,11 @@ import subprocess
 import sys
 
 import model
-from random_tapes import nested, stream, value
+from random_tapes import IDS, nested, stream, tree, value
 from tapes import ask, node, tape
 
 DRIVER = 'target/driver'
-READ, LINES = 16, 17
+READ, LINES, TREE = 16, 17, 18
 AMPLE = 1 << 16
 
 
@@ -75,14 +75,14 @@ def special():
         yield ([deep],)
 
 
-def against_rust(r, lists):
+def against_rust(r, lists, modes):
     """Each text in full, and the start of it where the room is short."""
-    pairs = [(y, tape(v)) for v in lists for y in (0, 1, 2)]
-    texts = ask(pairs)
+    pairs = [(y, tape(v)) for v in lists for y in modes]
+    texts = ask([(3 if y == TREE else y, t) for y, t in pairs])
     same([(y, AMPLE, t) for y, t in pairs], [(len(s), s) for s in texts])
     cut = [(y, r.randrange(len(s)), t, s) for (y, t), s in zip(pairs, texts) if s]
     same([(y, room, t) for y, room, t, _ in cut], [(-6, s[:room]) for _, room, _, s in cut])
-    print('%d tapes in each of three layouts: no difference' % len(lists))
+    print('%d tapes, %s: no difference' % (len(lists), 'their tree texts' if modes == [TREE] else 'in each of three layouts'))
     print('%d of the texts in a room cut short: no difference' % len(cut))
     return pairs, texts
 
@@ -140,24 +140,40 @@ def damaged(r, values):
     return bytes(body) + struct.pack('<II', len(body), count)
 
 
-def against_model(r, lists):
+def modelled(y, t):
+    return model.tree(t) if y == TREE else model.stream(y, t)
+
+
+def against_model(r, lists, modes):
     """Damaged tapes, annotated ones, depths around 64 and layouts past 2: answer and buffer."""
     frames = []
     for v in lists:
         if r.random() < .1:
-            v = [nested(r, r.choice([63, 64, 65, 66]), value(r, r.randrange(2), True, True))]
+            v = [nested(r, r.choice([63, 64, 65, 66]), value(r, r.randrange(2), IDS, True))]
         elif r.random() < .1:
-            v = v + [value(r, 2, True, True)]
+            v = v + [value(r, 2, IDS, True)]
         t = damaged(r, v)
-        y = r.choice([0, 1, 2, 0, 1, 2, 3, 15])
-        text = model.stream(y, t)
+        y = r.choice(modes)
+        text = modelled(y, t)
         length = 20 if isinstance(text, int) else len(text)
         frames.append((y, r.choice([0, length // 2, max(length - 1, 0), length, length + 1, length + 100]), t))
-    expected = [model.expect(y, t, b'\xa5' * room) for y, room, t in frames]
+    expected = [model.answer(modelled(y, t), b'\xa5' * room) for y, room, t in frames]
     same(frames, [(n, buffer[:len(buffer) if n == -6 else max(n, 0)]) for n, buffer in expected])
     seen = collections.Counter(min(n, 0) for n, _ in expected)
     told = ', '.join('%d of %s' % (seen[n], 'refusal %d' % -n if n else 'a text') for n in sorted(seen, reverse=True))
-    print('%d damaged tapes against the model, %s: no difference' % (len(frames), told))
+    print('%d damaged tapes%s against the model, %s: no difference' % (len(frames), ' for the tree text' if modes == [TREE] else '', told))
+
+
+def trees(r, count):
+    """Each kind as the one value, every symbol and string of a byte, decimals, depth 64, and random annotated ones; then tapes that the
+    tree text refuses: none or two nodes, markers, identifiers but 0."""
+    lists = [v for vs in special() for v in vs] + [tree(r) for _ in range(count)]
+    pairs, texts = against_rust(r, lists, [TREE])
+    read_back(r, pairs, texts)
+    refused = [[], [('marker',)], [('int', 1), ('int', 2)], [('id', 1)], [('notes', [('id', 4)], ('int', 1))]]
+    refused += [[('list', [('struct', [(('id', 9), ('int', 1))])])], [('sexp', [('id', 2**32 - 1)])]]
+    same([(TREE, AMPLE, tape(v)) for v in refused], [(-5, b'')] * len(refused))
+    against_model(r, [r.choice([tree, tree, stream])(r) for _ in range(4 * count)], [TREE])
 
 
 def limits():
@@ -167,6 +183,7 @@ def limits():
     text = b'"' + fits + b'"\n'
     room = 2 * model.LONGEST
     same([(1, room, kept), (1, 9, kept), (1, room, refused)], [(len(text), text), (-6, text[:9]), (-1, b'')])
+    same([(TREE, room, kept), (TREE, 9, kept), (TREE, room, refused)], [(len(text) - 1, text[:-1]), (-6, text[:9]), (-1, b'')])
     same([(READ, room, text), (READ, room, b'"' + over + b'"')], [(len(kept), kept), (-9, b'')])
     print('tapes at and past 1,048,576 bytes: no difference')
 
@@ -175,10 +192,11 @@ def main():
     count = int(sys.argv[1]) if len(sys.argv) > 1 else 10000
     r = random.Random(int(sys.argv[2]) if len(sys.argv) > 2 else 1)
     lists = [v for vs in special() for v in vs] + [stream(r) for _ in range(count)]
-    pairs, texts = against_rust(r, lists)
+    pairs, texts = against_rust(r, lists, [0, 1, 2])
     read_back(r, pairs, texts)
     line_by_line(lists, pairs, texts)
-    against_model(r, [stream(r) for _ in range(4 * count)])
+    against_model(r, [stream(r) for _ in range(4 * count)], [0, 1, 2, 0, 1, 2, 3, 15])
+    trees(r, count)
     limits()
 
 

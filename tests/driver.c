@@ -1,19 +1,20 @@
 /* Answers frames through libion_c.a. A frame is a byte (0..15: ion_write in that layout, 16: ion_read, 17: ion_read_line from offset 0
-   until the end mark), u32 room, u32 length and bytes. The answer is i64; behind a count come that many bytes, behind -6 all of the
+   until the end mark, 18: ion_write_tree), u32 room, u32 length and bytes. The answer is i64; behind a count come that many bytes, behind -6 all of the
    room's; behind each answer of a line, u64 offset first. The driver itself checks the rest of the buffer, which is 0xA5 before the first
    call, and ends with 2 to 8 where something is wrong: guard bytes beside the room, bytes past the count, a refusal's buffer (untouched by
-   ion_write but for -6, all zero by the readers), the input, and for lines what the end mark and an offset past the text leave. */
+   the writers but for -6, all zero by the readers), the input, and for lines what the end mark and an offset past the text leave. */
 #include <stdint.h>
 #include <stdio.h>
 #include <stdlib.h>
 #include <string.h>
 
 int64_t ion_write(uint32_t layout, const uint8_t *tape, size_t tape_length, uint8_t *out, size_t out_length);
+int64_t ion_write_tree(const uint8_t *tape, size_t tape_length, uint8_t *out, size_t out_length);
 int64_t ion_read(const uint8_t *text, size_t text_length, uint8_t *out, size_t out_length);
 
 int64_t ion_read_line(const uint8_t *text, size_t text_length, uint64_t *at, uint8_t *out, size_t out_length);
 
-enum { READ = 16, LINES = 17, GUARD = 8, OLD = 0xA5 };
+enum { READ = 16, LINES = 17, TREE = 18, GUARD = 8, OLD = 0xA5 };
 
 static int take(void *p, size_t n) { return fread(p, 1, n, stdin) == n; }
 
@@ -29,7 +30,13 @@ static int rest(uint8_t mode, int64_t r, const uint8_t *room, size_t n) {
     if (r >= 0) return all(room + r, n - (size_t)r, OLD) ? 0 : 5;
     if (mode == READ) return r == -8 || r == -9 ? (all(room, n, 0) ? 0 : 6) : 4;
     if (r == -6) return 0;
-    return r >= -7 ? (all(room, n, OLD) ? 0 : 6) : 4;
+    return r >= (mode == TREE ? -5 : -7) ? (all(room, n, OLD) ? 0 : 6) : 4;
+}
+
+static int64_t call(uint8_t mode, const uint8_t *in, size_t length, uint8_t *room, size_t n) {
+    if (mode == READ) return ion_read(in, length, room, n);
+    if (mode == TREE) return ion_write_tree(in, length, room, n);
+    return ion_write(mode, in, length, room, n);
 }
 
 /* Every line of a text, each call given what the last one left; 0 if all is as it must be. */
@@ -65,7 +72,7 @@ int main(void) {
         memset(out, OLD, (size_t)room + 2 * GUARD);
         int64_t r = 0;
         int wrong = mode == LINES ? lines(in, length, out + GUARD, room) : 0;
-        if (mode != LINES) r = mode == READ ? ion_read(in, length, out + GUARD, room) : ion_write(mode, in, length, out + GUARD, room);
+        if (mode != LINES) r = call(mode, in, length, out + GUARD, room);
         if (!all(out, GUARD, OLD) || !all(out + GUARD + room, GUARD, OLD)) return 3;
         if (memcmp(in, was, length)) return 7;
         if (mode != LINES) wrong = rest(mode, r, out + GUARD, room);

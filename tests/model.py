@@ -1,5 +1,5 @@
-"""Document 01's streaming writer, modelled in Python from the document: `stream` gives a tape's text or refusal, `expect` the answer
-and the whole buffer.
+"""Document 01's writers, modelled in Python from the document: `stream` and `tree` give a tape's text or refusal, `answer` the answer
+and the whole buffer, `expect` both for a layout.
 
 A reviewer wrote it. No code is shared with our crates or with the Rust: Python's own UTF-8 decoder, calendar and regular expressions
 judge the tape. Only the lone digit of `write_scientific` (`7.d-29`), which the document leaves to the source, is the source's.
@@ -48,10 +48,10 @@ def is_time(p, year, month, day, hour, minute, second, offset, digits, fraction)
 
 
 class Nodes:
-    """The nodes of a tape from `at` on; `noted` once a kind 13 was met."""
+    """The nodes of a tape from `at` on; `noted` once a kind 13 was met, `numbered` once an identifier but 0 was."""
 
     def __init__(self, tape):
-        self.tape, self.at, self.noted = tape, 0, False
+        self.tape, self.at, self.noted, self.numbered = tape, 0, False, False
 
     def take(self, n, end):
         if self.at + n > end:
@@ -68,7 +68,9 @@ class Nodes:
     def symbol(self, end, kind=None):
         kind = self.take(1, end)[0] if kind is None else kind
         if kind == 7:
-            return ('id', self.unpack('<I', end)[0])
+            n, = self.unpack('<I', end)
+            self.numbered = self.numbered or n != 0
+            return ('id', n)
         if kind != 6:
             raise Refused(2)
         text = self.sized(end)
@@ -148,7 +150,7 @@ class Nodes:
 
 
 def values(tape):
-    """A tape's top-level values; raises Refused with 1, 2, 3, 4 or 5."""
+    """A tape's top-level values, and what was met in them; raises Refused with 1, 2, 3 or 4."""
     if not 8 <= len(tape) <= LONGEST:
         raise Refused(1)
     body, count = struct.unpack('<II', tape[-8:])
@@ -159,9 +161,7 @@ def values(tape):
         found.append(nodes.value(body, 0, top=True))
     if len(found) != count:
         raise Refused(2)
-    if nodes.noted:
-        raise Refused(5)
-    return found
+    return found, nodes
 
 
 # The text.
@@ -269,17 +269,47 @@ def stream(layout, tape):
     if layout > 2:
         return 7
     try:
-        found = values(tape)
+        found, met = values(tape)
     except Refused as why:
         return why.args[0]
+    if met.noted:
+        return 5
     return b''.join(value_text(layout, v, 0) + (b'\n' if layout else b' ') for v in found)
 
 
-def expect(layout, tape, buffer):
+def tree_text(v):
+    """No trailing separators; annotations end in `::`."""
+    if v[0] == 'notes':
+        return b''.join(symbol_text(s) + b'::' for s in v[1]) + tree_text(v[2])
+    if v[0] == 'list':
+        return b'[' + b', '.join(map(tree_text, v[1])) + b']'
+    if v[0] == 'sexp':
+        return b'(' + b' '.join(map(tree_text, v[1])) + b')'
+    if v[0] == 'struct':
+        return b'{' + b', '.join(symbol_text(name) + b': ' + tree_text(x) for name, x in v[1]) + b'}'
+    return value_text(0, v, 0)
+
+
+def tree(tape):
+    """The tree text, or the number of the refusal."""
+    try:
+        found, met = values(tape)
+    except Refused as why:
+        return why.args[0]
+    if len(found) != 1 or found[0] == ('marker',) or met.numbered:
+        return 5
+    return tree_text(found[0])
+
+
+def answer(text, buffer):
     """The count or minus the refusal, and the whole buffer afterwards."""
-    text = stream(layout, tape)
     if isinstance(text, int):
         return -text, buffer
     if len(text) > len(buffer):
         return -6, text[:len(buffer)]
     return len(text), text + buffer[len(text):]
+
+
+def expect(layout, tape, buffer):
+    """The same for a layout."""
+    return answer(stream(layout, tape), buffer)

@@ -6,6 +6,7 @@ from tapes import UNKNOWN
 
 WORDS = ['', 'a', 'norad_id', 'true', 'false', 'nan', 'null', 'nulls', '$', '$7', '$07', '$7a', '$ion_1_0', '$ion_1_0_0', '$ion_', '_x', 'x y',
          "it's", 'q"q', 'back\\slash', 'tab\tLF\n', '\0\x01\x07\x08\x0b\x0c\r\x1f\x7f', 'é', '日本', '😀', '+', '7up', 'inf', 'Z']
+IDS = [0, 1, 10, 12345, 2**32 - 1]
 CHARACTERS = [chr(c) for c in range(128)] + ['é', 'ÿ', 'Ā', '日', '\ud7ff', '\ue000', '\uffff', '😀', '\U0010ffff']
 
 
@@ -16,8 +17,9 @@ def text(r):
 
 
 def symbol(r, ids):
+    """Text, or one of the identifiers."""
     if ids and r.random() < .2:
-        return ('id', r.choice([0, 1, 10, 12345, 2**32 - 1]))
+        return ('id', r.choice(ids))
     return ('sym', text(r))
 
 
@@ -80,12 +82,12 @@ def nested(r, depth, inner):
 def stream(r):
     """Values for the streaming writers: no annotations."""
     if r.random() < .01:
-        return [nested(r, 64, value(r, 0, True, False))]
-    return [('marker',) if r.random() < .1 else value(r, r.randrange(4), True, False) for _ in range(r.randrange(4))]
+        return [nested(r, 64, value(r, 0, IDS, False))]
+    return [('marker',) if r.random() < .1 else value(r, r.randrange(4), IDS, False) for _ in range(r.randrange(4))]
 
 
 def tree(r):
     """One value for the tree text: annotations, no identifier but 0, no marker."""
     if r.random() < .01:
-        return [nested(r, 64, value(r, 0, False, True))]
-    return [value(r, r.randrange(4), False, True)]
+        return [nested(r, 64, value(r, 0, [0], True))]
+    return [value(r, r.randrange(4), [0], True)]
