@@ -56,11 +56,7 @@ pub line-body : (h : Head) (n : Node) → Fines 64 Top (more h n nil) → NoLf (
 unfolding lineBody Fine
 line-body h n f = no-lf-both (no-lf-name (h .0)) (no-lf-text n 0 64 Top (h .1) (f .1))
 
--- the line means the node
-pub line-back : (h : Head) (n : Node) → Fines 64 Top (more h n nil) → noteds (more h n nil) ≡ false → meaning (line h n) ≡ some (more h n nil)
-line-back h n f q = ap meaning (sym (line-alone h n)) ∙ stream-back 1 (more h n nil) f q
-
--- so does the line without its LF
+-- the line without its LF means the node
 parts-end : Parts Top [] []
 unfolding gap ended strip
 parts-end = record { delimits = record { ends = refl; no-colons = refl }; next = []; gap-is = refl; next-is = refl }

@@ -102,19 +102,9 @@ read-accepted s ns e l =
     let f : Fines 64 Top ns = well-read s ns e (omega arith) in
     (tape-accepted ns f l, tape-nodes ns f)
 
--- ---- Lines, node by node
+-- ---- a node by itself
 
--- what is said of each top-level node
-pub data Each (P : Head → Node → Type 0) : Nodes → Type 0 where
-  each-nil : Each P nil
-  each-more : {h : Head} {n : Node} {ns : Nodes} → P h n → Each P ns → Each P (more h n ns)
-
--- its line has one LF, the last byte; it means that node; and the node's own tape is no longer than `room`
-pub record WrittenLine (room : ℕ) (h : Head) (n : Node) : Type 0 where
-  pub only : lfs (lineBody h n) ≡ 0
-  pub reads : meaning (line h n) ≡ some (more h n nil)
-  pub room-enough : length (tape (more h n nil)) ≤ room
-
+-- a node's own tape is no longer than the whole
 pub first-shorter : (h : Head) (n : Node) (ns : Nodes) → (length (tape (more h n nil)) ≤ length (tape (more h n ns))) × (length (tape ns) ≤ length (tape (more h n ns)))
 unfolding encode
 first-shorter h n ns =
@@ -124,11 +114,3 @@ first-shorter h n ns =
     let d = length-append (encodeHead h ++ encode n) [] in
     let e = length-append (encodeHead h ++ encode n) (encodes ns) in
     (omega arith, omega arith)
-
-pub lines-written : (ns : Nodes) (room : ℕ) → Fines 64 Top ns → noteds ns ≡ false → length (tape ns) ≤ room → Each (WrittenLine room) ns
-lines-written nil room f q l = each-nil
-lines-written (more h n ns) room f q l =
-    let a = alone-first h n ns f q in
-    let r = alone-rest h n ns f q in
-    let s = first-shorter h n ns in
-    each-more record { only = line-body h n (a .0) .count; reads = line-back h n (a .0) (a .1); room-enough = omega arith } (lines-written ns room (r .0) (r .1) (omega arith))
