@@ -220,9 +220,7 @@ value-returns-3 t c =
     value-at-head _ h refl (body-at-deep (h .4) o (c .if1 .taken))
 
 value-ahead-requires : (t : ℕ) → value-lts.Need-ahead-requires (value-calls t) (value-at t) value.Post
-value-ahead-requires t c κs =
-    let h = rw (c .before .before .before .before .before .before .a .given .1) at (c .before .before .before .before .before .before .before .before .before .before .head-at .ensures) in
-    laid-bound (h .5)
+value-ahead-requires t c κs = tt
 
 value-add-sequence : (t : ℕ) → value-lts.Need-add-sequence (value-calls t) (value-at t) value.Post
 value-add-sequence t c =
