@@ -1,0 +1,36 @@
+-- What `write_tree` answers and what it leaves in the buffer, for every tape and buffer. Assumes nothing: these are definitions.
+use Prim.Native.Nat.{ℕ}
+use mathlib.Core.List.{List}
+use mathlib.Core.Bool.{Bool, true, false, _||_}
+use Rattle.output.specs.Logic.{if}
+use Rattle.tape.specs.Bytes.{first}
+use Rattle.tape.specs.Tree.{Node, Nodes, scalar, nest, marker, nil, more}
+use Rattle.tape.specs.Tape.{nodesOf}
+use Rattle.tape.specs.Verdict.{verdict}
+use Rattle.tape.specs.Refusal.{numbereds}
+use Rattle.tape.specs.Answer.{Outcome}
+use Rattle.writer.specs.Outcome.{laid, measured, answered, left}
+use Rattle.tree.specs.Text.{treeText}
+
+abbrev pub isMarker : Node → Bool
+isMarker (scalar s) = false
+isMarker (nest k ns) = false
+isMarker marker = true
+
+-- "not one top-level node, a marker, or an identifier but 0"
+unfoldable pub unsuited : Nodes → Bool
+unsuited nil = true
+unsuited (more h n nil) = isMarker n || numbereds (more h n nil)
+unsuited (more h n (more h′ n′ ns)) = true
+
+-- the refusal that comes before measuring, or 0. Order: 1, nodes in tape order, top-level count, 5
+unfoldable pub refusal : List ℕ → ℕ
+refusal t = first (verdict t) (if (unsuited (nodesOf t)) 5 0)
+
+-- the answer, for a buffer of n bytes: the text's length, or 6 where it is longer than the buffer
+unfoldable pub written : List ℕ → ℕ → Outcome
+written t n = answered (refusal t) (measured (treeText (nodesOf t)) n)
+
+-- the whole buffer after the call: untouched where a refusal comes before measuring, else the text laid at its start
+unfoldable pub leaves : List ℕ → List ℕ → List ℕ
+leaves t b = left (refusal t) (laid (treeText (nodesOf t)) b) b
