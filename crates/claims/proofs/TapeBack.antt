@@ -20,7 +20,6 @@ use Rattle.tape.specs.Fine.{Bytes, Fines}
 use Rattle.tape.specs.declared.Frame.the-variants.{Top}
 use Rattle.reader.specs.Grammar.{meaning}
 use Rattle.reader.specs.Outcome.{fits, tapeAnswer, tapeLeaves, answer, leaves}
-use Rattle.line_reader.specs.Cut.{lfs}
 use Rattle.writer.specs.Outcome.{refusal, measured, streamed}
 use Rattle.writer.specs.Text.{streamText}
 use Rattle.tape.proofs.Walking.{first-zero, verdict-told, tape-back}

@@ -15,6 +15,9 @@ use Rattle.reader.specs.Grammar.{meaning}
 use Rattle.reader.specs.Outcome.{fits, tapeAnswer, answer}
 use Rattle.writer.specs.Text.{streamText}
 use Rattle.writer.specs.Outcome.{refusal, measured, answered, streamed}
+use Rattle.tree.specs.Text.{treeText}
+use Rattle.tree.specs.Outcome.{written}
+use Rattle.tree.specs.Outcome as tree
 use Rattle.tape.specs.Tape.{nodesOf}
 use Rattle.line_reader.specs.Cut.{toFirst}
 use Rattle.line_reader.specs.Book.{success, failure, endMark, lineTape, room, byBook}
@@ -29,13 +32,17 @@ measured-small s n h = go (leb (length s) n) refl
     go true e = omega (arith, leb-true (length s) n e)
     go false e = tt
 
+answered-small : (k : ℕ) (s : List ℕ) (n : ℕ) → n < 2 ^ 63 → Small (answered k (measured s n))
+answered-small zero s n h = measured-small s n h
+answered-small (suc k) s n h = tt
+
 pub streamed-small : (y : ℕ) (t : List ℕ) (n : ℕ) → n < 2 ^ 63 → Small (streamed y t n)
 unfolding streamed
-streamed-small y t n h = go (refusal y t)
-  where
-    go : (k : ℕ) → Small (answered k (measured (streamText y (nodesOf t)) n))
-    go zero = measured-small (streamText y (nodesOf t)) n h
-    go (suc k) = tt
+streamed-small y t n h = answered-small (refusal y t) (streamText y (nodesOf t)) n h
+
+pub written-small : (t : List ℕ) (n : ℕ) → n < 2 ^ 63 → Small (written t n)
+unfolding written
+written-small t n h = answered-small (tree.refusal t) (treeText (nodesOf t)) n h
 
 tape-small : (t : List ℕ) (n : ℕ) → Small (tapeAnswer t n)
 unfolding tapeAnswer fits

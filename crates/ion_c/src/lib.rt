@@ -4,6 +4,7 @@ ghost use mathlib.Core.Path.{_≡_};
 ghost use lib.ListN.{length};
 ghost use Rattle.tape.specs.Answer.{outcome};
 ghost use Rattle.writer.specs.Outcome.{streamed, leaves};
+ghost use Rattle.tree.specs.Outcome as tree;
 ghost use Rattle.reader.specs.Outcome as read;
 ghost use Rattle.line_reader.specs.Steps.{step};
 ghost use Rattle.ion_c.specs.Code.{code, Small};
@@ -37,6 +38,16 @@ pub extern "C" fn ion_write(layout: u32, tape: &[u8], out: &mut [u8]) -> i64
     ensures buffer { λ _. ⌜ now (out .exit) ≡ leaves layout (now (tape .entry)) (now (out .entry)) ⌝ }
 {
     let a = writer::writer::write_stream(layout, tape, out);
+    code_of(a)
+}
+
+// The tree text of a tape.
+#[no_mangle]
+pub extern "C" fn ion_write_tree(tape: &[u8], out: &mut [u8]) -> i64
+    ensures answer { λ r. ⌜ r ≡ code (tree.written (now (tape .entry)) (length (now (out .entry)))) ⌝ }
+    ensures buffer { λ _. ⌜ now (out .exit) ≡ tree.leaves (now (tape .entry)) (now (out .entry)) ⌝ }
+{
+    let a = tree::write_tree(tape, out);
     code_of(a)
 }
 

@@ -497,7 +497,7 @@ fn notes_end(tape: &[u8], at: usize, end: usize) -> Place
     syms_end(tape, at + 2, end, n)
 }
 
-fn name_end(tape: &[u8], at: usize, end: usize, frame: Frame) -> Place
+pub fn name_end(tape: &[u8], at: usize, end: usize, frame: Frame) -> Place
     requires { ⌜ at ≤ end ⌝ }
     requires { ⌜ end ≤ length (now tape) ⌝ }
     ensures { λ r. ⌜ r ≡ placeOf at (nameOf frame (part (now (tape .entry)) at end)) ⌝ }

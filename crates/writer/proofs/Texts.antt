@@ -50,7 +50,7 @@ name-room s at e a k h i m = let g = go (symOf (part s at e)) (sym-sound (part s
     go (some (b, n)) (something h f) e = let z : k ≡ n = ap (λ (o : Option (Sym × ℕ)). past o 0 (λ v m. m)) e in omega arith
 
 -- the name of a child is the name in its head
-name-head : (k : Frame) (l : List ℕ) (h : Head) (m : ℕ) → headOf k l ≡ some (h, m) → nameIn k l ≡ h .0
+pub name-head : (k : Frame) (l : List ℕ) (h : Head) (m : ℕ) → headOf k l ≡ some (h, m) → nameIn k l ≡ h .0
 unfolding headOf
 name-head k l h m e = go (nameOf k l) e
   where

@@ -139,47 +139,74 @@ module _ (y : ℕ) (t : List ℕ) where
     unfolding nodesOf
     tape-good z e = layout-ok ∙ ap (λ (b : Bool). first (verdict t) (if b 5 0)) e ∙ ap (λ (i : ℕ). first i 0) z
 
--- ---- answers and buffers
+-- ---- answers and buffers, of any text
 
 -- a refusal before measuring leaves the buffer as it is
+module _ (f : ℕ) (nz : f ≡ 0 → ⊥) where
+  pub answered-refused : (o : Outcome) → refused f ≡ answered f o
+  answered-refused o = go f nz
+    where
+      go : (f : ℕ) → (f ≡ 0 → ⊥) → refused f ≡ answered f o
+      go zero nz = absurd (nz refl)
+      go (suc f) nz = refl
+
+  pub left-kept : (b′ b : List ℕ) → b ≡ left f b′ b
+  left-kept b′ b = go f nz
+    where
+      go : (f : ℕ) → (f ≡ 0 → ⊥) → b ≡ left f b′ b
+      go zero nz = absurd (nz refl)
+      go (suc f) nz = refl
+
+-- the text s is written at the start of the buffer b, which becomes b′; r counts its bytes
+module _ {s b b′ : List ℕ} {r : ℕ} (w : Wrote b b′ 0 r s) where
+  pub wrote-laid : b′ ≡ laid s b
+  unfolding laid
+  wrote-laid = w .bytes ∙ sets-front b s
+
+  pub wrote-counted : r ≤ length b → counted r ≡ measured s (length b)
+  unfolding measured
+  wrote-counted h =
+      let c = w .count in
+      let m = w .room in
+      let n : r ≡ length s = omega arith in
+      rw (le-leb (length s) (length b) (omega arith)) (ap counted n)
+
+  pub wrote-clipped : length b < r → refused 6 ≡ measured s (length b)
+  unfolding measured
+  wrote-clipped h =
+      let c = w .count in
+      let m = w .room in
+      rw (lt-leb (length s) (length b) (omega arith))
+
+-- the nodes that a writer walks are the tape's
+pub nodes-walked : (t : List ℕ) → walk 65 Top (part t 0 (length t - 8)) .0 ≡ nodesOf t
+unfolding nodesOf bodyOf
+nodes-walked t = let n : length t - 8 - 0 ≡ length t - 8 = omega arith in ap (λ (i : ℕ). walk 65 Top (take i t) .0) n
+
+-- ---- of a streaming text
+
 module _ (y : ℕ) (t : List ℕ) (f : ℕ) (nz : f ≡ 0 → ⊥) (e : refusal y t ≡ f) where
   pub refused-by : (n : ℕ) → refused f ≡ streamed y t n
   unfolding streamed
-  refused-by n = rw e (go f nz)
-    where
-      go : (f : ℕ) → (f ≡ 0 → ⊥) → refused f ≡ answered f (measured (streamText y (nodesOf t)) n)
-      go zero nz = absurd (nz refl)
-      go (suc f) nz = refl
+  refused-by n = rw e (answered-refused f nz _)
 
   pub kept-by : (b : List ℕ) → b ≡ leaves y t b
   unfolding leaves
-  kept-by b = rw e (go f nz)
-    where
-      go : (f : ℕ) → (f ≡ 0 → ⊥) → b ≡ left f (laid (streamText y (nodesOf t)) b) b
-      go zero nz = absurd (nz refl)
-      go (suc f) nz = refl
+  kept-by b = rw e (left-kept f nz _ b)
 
--- the text of the nodes is written at the start of the buffer b, which becomes b′; r counts its bytes
 module _ (y : ℕ) (t b b′ : List ℕ) (r : ℕ) (e : refusal y t ≡ 0) (w : Wrote b b′ 0 r (texts y Top 0 (walk 65 Top (part t 0 (length t - 8)) .0))) where
   stream : Wrote b b′ 0 r (streamText y (nodesOf t))
-  unfolding streamText nodesOf bodyOf
-  stream = let n : length t - 8 - 0 ≡ length t - 8 = omega arith in subst (λ (i : ℕ). Wrote b b′ 0 r (texts y Top 0 (walk 65 Top (take i t) .0))) n w
+  unfolding streamText
+  stream = subst (λ (ns : Nodes). Wrote b b′ 0 r (texts y Top 0 ns)) (nodes-walked t) w
 
   pub laid-by : b′ ≡ leaves y t b
-  unfolding leaves laid
-  laid-by = rw e (stream .bytes ∙ sets-front b (streamText y (nodesOf t)))
+  unfolding leaves
+  laid-by = rw e (wrote-laid stream)
 
   pub counted-by : r ≤ length b → counted r ≡ streamed y t (length b)
-  unfolding streamed measured
-  counted-by h =
-      let c = stream .count in
-      let m = stream .room in
-      let n : r ≡ length (streamText y (nodesOf t)) = omega arith in
-      rw (e, le-leb (length (streamText y (nodesOf t))) (length b) (omega arith)) (ap counted n)
+  unfolding streamed
+  counted-by h = rw e (wrote-counted stream h)
 
   pub clipped-by : length b < r → refused 6 ≡ streamed y t (length b)
-  unfolding streamed measured
-  clipped-by h =
-      let c = stream .count in
-      let m = stream .room in
-      rw (e, lt-leb (length (streamText y (nodesOf t))) (length b) (omega arith))
+  unfolding streamed
+  clipped-by h = rw e (wrote-clipped stream h)

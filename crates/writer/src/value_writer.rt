@@ -22,7 +22,7 @@ use text_rules::text_formatter;
 // ---- scalars
 
 // The symbol, string or clob of n bytes whose node stands at a place: its bytes start 5 behind the kind byte.
-fn write_symbol_text(
+pub fn write_symbol_text(
     buf: &mut [u8],
     pos: usize,
     tape: &[u8],
@@ -122,7 +122,7 @@ fn write_name(buf: &mut [u8], pos: usize, tape: &[u8], at: usize, end: usize) ->
 }
 
 // A field's name, where the child at a place has one.
-fn encode_field_name(
+pub fn encode_field_name(
     buf: &mut [u8],
     pos: usize,
     tape: &[u8],

@@ -52,7 +52,7 @@ pub fn indentation(layout: u32, width: usize) -> usize
 }
 
 // An opening bracket. The top level has none.
-fn write_opening(buf: &mut [u8], pos: usize, frame: Frame) -> usize
+pub fn write_opening(buf: &mut [u8], pos: usize, frame: Frame) -> usize
     requires { ⌜ pos ≤ limit ⌝ }
     ensures { λ r. ⌜ Wrote (now (buf .entry)) (now (buf .exit)) pos r (opening frame) ⌝ }
 {
