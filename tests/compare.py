@@ -1,6 +1,7 @@
-"""Compares our streaming and tree texts with the Rust's over random accepted tapes, in full and cut short by the room; reads each text back, which must
-give the tape itself, and its lines one by one, which must give each value's tape; and compares answer and buffer on damaged tapes with tests/model.py. The driver checks what it does not send: all
-of the buffer that a call must leave alone or zero.
+"""Compares our streaming and tree texts with the Rust's over random accepted tapes, in full and cut short by the room. Reads each text
+back, which must give the tape itself, and the lines of Lines texts one by one, which must give each value's tape, or what the line book
+gives where they are damaged (tests/grammar.py). Compares answer and buffer on damaged tapes with tests/model.py. The driver checks what
+it does not send: all of the buffer that a call must leave alone or zero.
 
     rt staticlib ion_c && gcc -O2 -o target/driver tests/driver.c target/staticlib/libion_c.a
     ORACLE=path/to/oracle python3 tests/compare.py [TAPES [SEED]]
@@ -13,6 +14,7 @@ import struct
 import subprocess
 import sys
 
+import grammar
 import model
 from random_tapes import IDS, nested, stream, tree, value
 from tapes import ask, node, tape
@@ -111,6 +113,25 @@ def line_by_line(lists, pairs, texts):
     print('%d Lines texts read line by line: no difference' % len(written))
 
 
+def damaged_lines(r, pairs, texts):
+    """A run of each Lines text replaced by anything, read line by line in some room: every answer, offset and tape is the book's, in
+    Python over an independent reader (tests/grammar.py)."""
+    frames, seen = [], collections.Counter()
+    for (y, t), s in zip(pairs, texts):
+        if y == 1 and s:
+            start = r.randrange(len(s))
+            end = start + r.choice([0, 1, 1, 2, 8, r.randrange(len(s))])
+            new = bytes(r.choice([r.randrange(256), r.choice(b'\n"\'[]{}(),:\\ x1$-.')]) for _ in range(r.choice([0, 1, 1, 2, 9])))
+            frames.append((r.choice([AMPLE, len(t), r.randrange(64)]), s[:start] + new + s[end:]))
+    for (room, text), calls in zip(frames, lines(frames)):
+        due = [(n or 0, at, buffer[:max(n or 0, 0)]) for n, at, buffer in grammar.book(text, b'\xa5' * room)]
+        if due != calls:
+            print('damaged lines', text.hex(), 'room', room, 'expected', due, 'ours', calls)
+            sys.exit(1)
+        seen.update(min(n, 0) if n else 'end' for n, _, _ in calls)
+    print('%d damaged Lines texts read line by line, %d values, %d of refusal 8, %d of refusal 9: no difference' % (len(frames), seen[0], seen[-8], seen[-9]))
+
+
 # Nodes that one refusal or another waits for.
 ODD = [b'\x0f', b'\x0e', b'\x0d\0', b'\x0d\x11', node(('notes', [('sym', b'a')], ('int', 1)))]
 ODD += [node(('float', bits)) for bits in (0x3FF0 << 48, 1, 0x7FEFFFFFFFFFFFFF, 0x7FF8000000000001, 0xFFF8 << 48)]
@@ -195,6 +216,7 @@ def main():
     pairs, texts = against_rust(r, lists, [0, 1, 2])
     read_back(r, pairs, texts)
     line_by_line(lists, pairs, texts)
+    damaged_lines(r, pairs, texts)
     against_model(r, [stream(r) for _ in range(4 * count)], [0, 1, 2, 0, 1, 2, 3, 15])
     trees(r, count)
     limits()

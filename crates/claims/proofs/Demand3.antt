@@ -16,7 +16,8 @@ use Rattle.reader.specs.Outcome.{fits}
 use Rattle.line_reader.specs.Cut.{lf, linesOf, lfs, toFirst, fromLast}
 use Rattle.line_reader.specs.Book.{single, lineTape, play, book}
 use Rattle.line_reader.specs.Damage.{Written, asWritten, before, behind, damaged}
-use Rattle.line_reader.specs.Steps.{calls}
+use Rattle.line_reader.specs.Steps.{calls, Ran}
+use Rattle.tape.specs.declared.answer.Answer.{Answer}
 use Rattle.writer.specs.Outcome.{refusal}
 use Rattle.writer.specs.Text.{streamText}
 use Rattle.tape.proofs.Walking.{verdict-told, tape-back}
@@ -122,10 +123,16 @@ demand-3 t head run new tail buf n b e s l =
     let w = lines-of t (length buf) b e l in
     rw (← s, w .each) (demand (written (nodesOf t)) buf (w .reads) head run new tail (w .text ∙ s) n)
 
--- The same of the calls by offsets, as the code makes them.
+-- The same of the calls by offsets: each is one call of the code (`line_at`, `next`).
 pub demand-3-calls : (t head run new tail buf : List ℕ) (n : ℕ) → Bytes t → refusal 1 t ≡ 0 → streamText 1 (nodesOf t) ≡ head ++ run ++ tail → length t ≤ length buf
     → calls n (head ++ new ++ tail) 0 buf ≡ play n (damaged (writtenAs (linesOf (head ++ run ++ tail)) (nodesOf t)) head run new tail) 0 buf
 demand-3-calls t head run new tail buf n b e s l = calls-book n (head ++ new ++ tail) buf ∙ demand-3 t head run new tail buf n b e s l
+
+-- So what n calls over a session hand out (`read_lines`) on a damaged text is this too.
+pub demand-3-ran : (t head run new tail buf last : List ℕ) (answers : List Answer) (at : ℕ) → Bytes t → refusal 1 t ≡ 0 → streamText 1 (nodesOf t) ≡ head ++ run ++ tail → length t ≤ length buf
+    → Ran (book (length answers) (head ++ new ++ tail) buf) buf answers at last
+    → Ran (play (length answers) (damaged (writtenAs (linesOf (head ++ run ++ tail)) (nodesOf t)) head run new tail) 0 buf) buf answers at last
+demand-3-ran t head run new tail buf last answers at b e s l r = rw (← demand-3 t head run new tail buf (length answers) b e s l) r
 
 -- Which lines these are: before, joined, the head up to its last LF; behind, joined, the tail from behind its first.
 pub before-and-behind : (t head run tail : List ℕ) → Bytes t → refusal 1 t ≡ 0 → streamText 1 (nodesOf t) ≡ head ++ run ++ tail

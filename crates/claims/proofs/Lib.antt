@@ -8,6 +8,7 @@ pub mod LineBack
 pub mod TokensRead
 pub mod WellRead
 pub mod TapeBack
+pub mod TreeBack
 pub mod Reread
 pub mod Marked
 pub mod Demand3

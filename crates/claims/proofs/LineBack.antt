@@ -6,16 +6,15 @@ use mathlib.Core.Bool.{false}
 use mathlib.Core.Option.{some}
 use native.Mathlib.Omega.{arith}
 use lib.ListN.{length, length-append}
-use Rattle.text_rules.specs.Texts.{strip, ended}
 use Rattle.tape.specs.Tree.{Head, Node, Nodes, nil, more}
 use Rattle.tape.specs.Refusal.{annotated, noted, noteds}
 use Rattle.tape.specs.Fine.{Fine, Fines}
 use Rattle.tape.specs.declared.Frame.the-variants.{Top}
-use Rattle.reader.specs.Grammar.{skip, closes, gap, sequence, meaning}
+use Rattle.reader.specs.Grammar.{skip, closes, sequence, meaning}
 use Rattle.writer.specs.Text.{nameText, separator, blanks, text, streamText}
 use Rattle.claims.proofs.FirstBytes.{first-long}
 use Rattle.claims.proofs.NoteBack.{node-leads}
-use Rattle.claims.proofs.StreamBack.{Parts, no-notes, three-false, child-back, body-back, sequence-end, stream-back}
+use Rattle.claims.proofs.StreamBack.{parts-end, no-notes, three-false, child-back, body-back, sequence-end, stream-back}
 use Rattle.claims.proofs.NoLineFeed.{NoLf, no-lf-both, no-lf-name, no-lf-text}
 
 -- the text of a top-level node, without its LF
@@ -56,15 +55,7 @@ pub line-body : (h : Head) (n : Node) → Fines 64 Top (more h n nil) → NoLf (
 unfolding lineBody Fine
 line-body h n f = no-lf-both (no-lf-name (h .0)) (no-lf-text n 0 64 Top (h .1) (f .1))
 
--- the line means the node
-pub line-back : (h : Head) (n : Node) → Fines 64 Top (more h n nil) → noteds (more h n nil) ≡ false → meaning (line h n) ≡ some (more h n nil)
-line-back h n f q = ap meaning (sym (line-alone h n)) ∙ stream-back 1 (more h n nil) f q
-
--- so does the line without its LF
-parts-end : Parts Top [] []
-unfolding gap ended strip
-parts-end = record { delimits = record { ends = refl; no-colons = refl }; next = []; gap-is = refl; next-is = refl }
-
+-- the line without its LF means the node
 end-back : (f l : ℕ) → 1 ≤ f → sequence f Top l [] ≡ some (nil, [])
 end-back zero l h = absurd (omega arith)
 end-back (suc f) l h = sequence-end f l Top [] [] (unfold closes skip in refl)

@@ -1,10 +1,12 @@
--- What stands before a written value is read back: its name in a struct, and no annotation. Assumes nothing.
-use Prim.Native.Nat.{ℕ, zero, suc}
-use mathlib.Core.Path.{_≡_, refl, sym, ap, _∙_}
+-- What stands before a written value is read back: its name in a struct, and its annotations. Assumes nothing.
+use Prim.Native.Nat.{ℕ, zero, suc, _≤_}
+use mathlib.Core.Path.{_≡_, refl, ap, _∙_}
 use mathlib.Core.List.{List, [], _∷_, _++_, append-assoc}
 use mathlib.Core.Bool.{true, false}
 use mathlib.Core.Option.{Option, none, some}
+use native.Mathlib.Omega.{arith}
 use lib.Dec.{eqb}
+use lib.ListN.{length}
 use Rattle.output.specs.Logic.{then, byte, ascii}
 use Rattle.text_rules.specs.Digits.{isDigit}
 use Rattle.text_rules.specs.Texts.{strip, ended, delimiter, blank}
@@ -12,11 +14,12 @@ use Rattle.text_rules.specs.Words.{isStart}
 use Rattle.text_rules.specs.Text.{Sym}
 use Rattle.tokens.specs.Token.{symbol}
 use Rattle.tape.specs.Tree.{Scalar, Head, Node, scalar, nest, marker}
-use Rattle.tape.specs.Fine.{FineSym, FineScalar, FineName, FineHead, Inner, Fine}
+use Rattle.tape.specs.Fine.{FineSym, FineSyms, FineScalar, FineName, FineHead, Inner, Fine}
 use Rattle.tape.specs.declared.Frame.{Frame}
 use Rattle.tape.specs.declared.Frame.the-variants.{Top, List as ListF, Sexp, Struct}
 use Rattle.reader.specs.Grammar.{skip, note, notes, field, name, head, numeric}
 use Rattle.writer.specs.Text.{symText, scalarText, nameText, opening, text}
+use Rattle.tree.specs.Text.{notesText}
 use Rattle.tokens.proofs.SymbolBack.{Begins, symbol-back, symbol-id-back, symbol-begins, id-begins}
 use Rattle.claims.proofs.FirstBytes.{First, startsSymbol, first-more, first-is, first-as, leads, start-leads, symbol-leads, no-blank}
 use Rattle.claims.proofs.ScalarBack.{no-symbol, marker-first, marker-symbol, scalar-told}
@@ -60,7 +63,7 @@ unfolding nameText
 name-first k none u h f = f
 name-first k (some s) u h f = first-is (append-assoc (symText s) (ascii ": ") u) (first-more (ascii ": " ++ u) (first-as symbol-leads (sym-first s)))
 
--- ---- no annotation
+-- ---- where no annotation stands
 
 note-other : (t : List ℕ) → symbol t ≡ none → note t ≡ none
 unfolding note
@@ -94,13 +97,13 @@ scalar-leads s r h d =
     let t = scalar-told true s r h (d .ends) in
     record { begins = t .begins; no-note = note-symbol (scalarText s ++ r) r (t .as-symbol) (t .symbol-is) (d .no-colons) }
 
-marker-leads : (r : List ℕ) → Delimits r → Leads (ascii "$ion_1_0" ++ r)
+pub marker-leads : (r : List ℕ) → Delimits r → Leads (ascii "$ion_1_0" ++ r)
 marker-leads r d = record { begins = first-more r (first-as start-leads marker-first); no-note = note-other (ascii "$ion_1_0" ++ r) (marker-symbol r (d .ends)) }
 
 bracket-leads : (c : ℕ) (t : List ℕ) → leads c ≡ true → isStart c ≡ false → eqb c (byte "'") ≡ false → Leads (c ∷ t)
 bracket-leads c t h i q = record { begins = record { byte₀ = c; rest = t; is = refl; tells = h }; no-note = note-other (c ∷ t) (no-symbol c t i q) }
 
-opening-leads : (k : Frame) (t : List ℕ) → Inner k → Leads (opening k ++ t)
+pub opening-leads : (k : Frame) (t : List ℕ) → Inner k → Leads (opening k ++ t)
 unfolding opening leads numeric isDigit isStart
 opening-leads Top t h = absurd h
 opening-leads ListF t h = bracket-leads (byte "[") t refl refl refl
@@ -114,10 +117,38 @@ node-leads (nest f ns) y w zero k ss r h e = absurd h
 node-leads (nest f ns) y w (suc d) k ss r h e = simp append-assoc (opening-leads f _ (h .0))
 node-leads marker y w d k ss r h e = marker-leads r e
 
--- ---- a head without annotations
+-- ---- annotations
 
-pub head-back : (k : Frame) (h : Head) (u : List ℕ) → FineHead k h → h .1 ≡ [] → Leads u → head k (nameText (h .0) ++ u) ≡ some (h, u)
-head-back k h u f e l = there ∙ ap (λ (ss : List Sym). some ((h .0, ss), u)) (sym e)
-  where
-    there : head k (nameText (h .0) ++ u) ≡ some ((h .0, []), u)
-    there = unfold head in rw (name-back k (h .0) u (f .name) (l .begins), notes-end 16 u (l .no-note))
+-- a symbol with `::` behind it, quoted or not, is an annotation
+note-back : (s : Sym) (u : List ℕ) → FineSym s → note (symText s ++ (ascii "::" ++ u)) ≡ some (s, u)
+unfolding note strip
+note-back s u h = rw (sym-back s (byte ":" ∷ byte ":" ∷ u) h (unfold ended delimiter blank in refl))
+
+notes-more : (m : ℕ) (s : Sym) (ss : List Sym) (t u v : List ℕ) → note t ≡ some (s, u) → notes m u ≡ some (ss, v) → notes (suc m) t ≡ some (s ∷ ss, v)
+unfolding notes
+notes-more m s ss t u v h e = rw (h, e)
+
+notes-text : (s : Sym) (ss : List Sym) (u : List ℕ) → notesText (s ∷ ss) ++ u ≡ symText s ++ (ascii "::" ++ (notesText ss ++ u))
+unfolding notesText
+notes-text s ss u = simp append-assoc
+
+notes-back : (m : ℕ) (ss : List Sym) (u : List ℕ) → FineSyms ss → length ss ≤ m → note u ≡ none → notes m (notesText ss ++ u) ≡ some (ss, u)
+notes-back m [] u h l e = unfold notesText in notes-end m u e
+notes-back zero (s ∷ ss) u h l e = absurd (omega arith)
+notes-back (suc m) (s ∷ ss) u h l e =
+    ap (notes (suc m)) (notes-text s ss u)
+    ∙ notes-more m s ss (symText s ++ (ascii "::" ++ (notesText ss ++ u))) (notesText ss ++ u) u (note-back s (notesText ss ++ u) (h .0)) (notes-back m ss u (h .1) (omega arith) e)
+
+notes-first : (ss : List Sym) (u : List ℕ) → First leads u → First leads (notesText ss ++ u)
+notes-first [] u f = unfold notesText in f
+notes-first (s ∷ ss) u f = first-is (notes-text s ss u) (first-more (ascii "::" ++ (notesText ss ++ u)) (first-as symbol-leads (sym-first s)))
+
+-- ---- a head: name and annotations
+
+pub head-back : (k : Frame) (h : Head) (u : List ℕ) → FineHead k h → Leads u → head k (nameText (h .0) ++ (notesText (h .1) ++ u)) ≡ some (h, u)
+unfolding head
+head-back k h u f l =
+    rw (name-back k (h .0) (notesText (h .1) ++ u) (f .name) (notes-first (h .1) u (l .begins)), notes-back 16 (h .1) u (f .notes) (f .few) (l .no-note))
+
+pub head-first : (k : Frame) (h : Head) (u : List ℕ) → FineHead k h → First leads u → First leads (nameText (h .0) ++ (notesText (h .1) ++ u))
+head-first k h u f l = name-first k (h .0) (notesText (h .1) ++ u) (f .name) (notes-first (h .1) u l)

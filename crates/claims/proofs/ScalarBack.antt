@@ -327,9 +327,6 @@ scalar-told m (Scalar.symbol (Sym.id n)) r h e = word-told m (Scalar.symbol (Sym
 scalar-told m (Scalar.string s) r h e = string-told m s r (h .utf8)
 scalar-told m (Scalar.clob s) r h e = clob-told m s r h
 
-pub scalar-back : (m : Bool) (s : Scalar) (r : List ℕ) → FineScalar s → ended r ≡ true → scalar m (scalarText s ++ r) ≡ some (Node.scalar s, r)
-scalar-back m s r h e = scalar-told m s r h e .reads
-
 -- a written scalar has a byte at least
 pub scalar-long : (s : Scalar) → FineScalar s → 1 ≤ length (scalarText s)
 scalar-long s h = let b = first-long (scalarText s ++ []) (scalar-told true s [] h (unfold ended in refl) .begins) in omega (arith, length-append (scalarText s) [])

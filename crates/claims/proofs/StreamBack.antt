@@ -18,10 +18,11 @@ use Rattle.tape.specs.declared.Frame.{Frame}
 use Rattle.tape.specs.declared.Frame.the-variants.{Top, List as ListF, Sexp, Struct}
 use Rattle.reader.specs.Grammar.{skip, opener, opens, closes, comma, gap, head, free, scalar as scalarOf, body, sequence, meaning}
 use Rattle.writer.specs.Text.{symText, scalarText, nameText, opening, closing, separator, broken, deeper, blanks, text, texts, streamText}
+use Rattle.tree.specs.Text.{notesText}
 use Rattle.text_rules.proofs.DigitLaws.{never}
 use Rattle.claims.proofs.FirstBytes.{First, startsSymbol, first-more, other, leads, no-blank, no-end, word-opens}
 use Rattle.claims.proofs.ScalarBack.{scalar-told, scalar-long, marker-back, marker-first}
-use Rattle.claims.proofs.NoteBack.{Delimits, Leads, node-leads, name-first, sym-first, head-back}
+use Rattle.claims.proofs.NoteBack.{Delimits, Leads, node-leads, sym-first, head-back, head-first}
 
 -- ---- blanks
 
@@ -81,6 +82,18 @@ parts y ListF t = parts-list (eqb y 2) t
 parts y Sexp t = parts-sexp (eqb y 2) t
 parts y Struct t = parts-struct (eqb y 2) t
 
+-- or nothing, where the sequence ends
+pub parts-end : Parts Top [] []
+unfolding gap ended strip
+parts-end = record { delimits = record { ends = refl; no-colons = refl }; next = []; gap-is = refl; next-is = refl }
+
+pub parts-closing : (k : Frame) (t : List ℕ) → Inner k → Parts k [] (closing k ++ t)
+unfolding closing gap comma skip blank ended delimiter strip starts
+parts-closing Top t i = absurd i
+parts-closing ListF t i = record { delimits = record { ends = refl; no-colons = refl }; next = byte "]" ∷ t; gap-is = refl; next-is = refl }
+parts-closing Sexp t i = record { delimits = record { ends = refl; no-colons = refl }; next = byte ")" ∷ t; gap-is = refl; next-is = refl }
+parts-closing Struct t i = record { delimits = record { ends = refl; no-colons = refl }; next = byte "}" ∷ t; gap-is = refl; next-is = refl }
+
 if-long : (b : Bool) (s t : List ℕ) → 1 ≤ length s → 1 ≤ length t → 1 ≤ length (if b s t)
 if-long true s t h k = h
 if-long false s t h k = k
@@ -94,7 +107,7 @@ separator-long y Struct = if-long (eqb y 2) (ascii ",\n") (ascii ", ") (omega ar
 
 -- ---- brackets
 
-closing-ends : (k : Frame) (w : ℕ) (r : List ℕ) → Inner k → closes k (skip (blanks w ++ (closing k ++ r))) ≡ some r
+pub closing-ends : (k : Frame) (w : ℕ) (r : List ℕ) → Inner k → closes k (skip (blanks w ++ (closing k ++ r))) ≡ some r
 unfolding closing closes
 closing-ends Top w r h = absurd h
 closing-ends ListF w r h = rw (skip-blanks w (byte "]" ∷ r)) (unfold skip blank strip in refl)
@@ -102,7 +115,7 @@ closing-ends Sexp w r h = rw (skip-blanks w (byte ")" ∷ r)) (unfold skip blank
 closing-ends Struct w r h = rw (skip-blanks w (byte "}" ∷ r)) (unfold skip blank strip in refl)
 
 -- no `{` stands behind the opening bracket of a struct: a name starts with no bracket
-name-brace : (s : Sym) (t : List ℕ) → starts (byte "{") (symText s ++ t) ≡ false
+pub name-brace : (s : Sym) (t : List ℕ) → starts (byte "{") (symText s ++ t) ≡ false
 name-brace s t = let f = first-more t (sym-first s) in ap (starts (byte "{")) (f .is) ∙ unfold starts startsSymbol isStart in other startsSymbol (f .byte₀) (byte "{") (f .tells) refl
 
 blanks-brace : (w : ℕ) (t : List ℕ) → starts (byte "{") t ≡ false → starts (byte "{") (blanks w ++ t) ≡ false
@@ -140,7 +153,7 @@ body-scalar : (f : ℕ) (m : Bool) (l : ℕ) (t : List ℕ) (o : Option (Node ×
 unfolding body
 body-scalar f m l t o h e = rw (h, e)
 
-body-nest : (f : ℕ) (m : Bool) (l : ℕ) (k : Frame) (t : List ℕ) (ns : Nodes) (r : List ℕ) → Inner k → opens (opening k ++ t) ≡ some k → sequence f k l t ≡ some (ns, r) → body (suc f) m (suc l) (opening k ++ t) ≡ some (nest k ns, r)
+pub body-nest : (f : ℕ) (m : Bool) (l : ℕ) (k : Frame) (t : List ℕ) (ns : Nodes) (r : List ℕ) → Inner k → opens (opening k ++ t) ≡ some k → sequence f k l t ≡ some (ns, r) → body (suc f) m (suc l) (opening k ++ t) ≡ some (nest k ns, r)
 unfolding body opening
 body-nest f m l Top t ns r i h e = absurd i
 body-nest f m l ListF t ns r i h e = rw (h, e)
@@ -168,21 +181,30 @@ sequence-child : (f l : ℕ) (k : Frame) (t u v x : List ℕ) (h : Head) (n : No
 unfolding body
 sequence-child f l k t u v x h n o a b c d e = rw (a, b, c, d, e)
 
--- a child with the separator s behind it, and the rest t of the sequence
+-- a child whose value has the text v, with s behind it, and the rest t of the sequence
+pub headed-back : (k : Frame) (h : Head) (n : Node) (ns : Nodes) (w f l : ℕ) (v s t r : List ℕ) → FineHead k h → Leads (v ++ (s ++ t)) → Parts k s t
+    → body f (free k (h .1)) l (v ++ (s ++ t)) ≡ some (n, s ++ t)
+    → sequence f k l t ≡ some (ns, r)
+    → sequence (suc f) k l (blanks w ++ (nameText (h .0) ++ (notesText (h .1) ++ (v ++ (s ++ t))))) ≡ some (more h n ns, r)
+headed-back k h n ns w f l v s t r a i p b e =
+    let z : List ℕ = v ++ (s ++ t) in
+    let x : List ℕ = nameText (h .0) ++ (notesText (h .1) ++ z) in
+    let j : First leads x = head-first k h z a (i .begins) in
+    let q : skip (blanks w ++ x) ≡ x = skip-blanks w x ∙ no-blank x j in
+    let e′ : sequence f k l (p .next) ≡ some (ns, r) = blanks-before f l k (p .next) t (p .next-is) ∙ e in
+    sequence-child f l k (blanks w ++ x) z (s ++ t) (p .next) h n (some (ns, r)) (ap (closes k) q ∙ no-end k x j) (ap (head k) q ∙ head-back k h z a i) b (p .gap-is) e′
+
+-- the same without annotations
 pub child-back : (k : Frame) (h : Head) (n : Node) (ns : Nodes) (y w d f l : ℕ) (s t r : List ℕ) → FineHead k h → h .1 ≡ [] → Fine d k (h .1) n → Parts k s t
     → body f (free k (h .1)) l (text y w n ++ (s ++ t)) ≡ some (n, s ++ t)
     → sequence f k l t ≡ some (ns, r)
     → sequence (suc f) k l ((blanks w ++ nameText (h .0) ++ text y w n ++ s) ++ t) ≡ some (more h n ns, r)
+unfolding notesText
 child-back k h n ns y w d f l s t r a b c p v e =
     let z : List ℕ = text y w n ++ (s ++ t) in
-    let x : List ℕ = nameText (h .0) ++ z in
-    let i : Leads z = node-leads n y w d k (h .1) (s ++ t) c (p .delimits) in
-    let j : First leads x = name-first k (h .0) z (a .name) (i .begins) in
-    let q : skip (blanks w ++ x) ≡ x = skip-blanks w x ∙ no-blank x j in
-    let e′ : sequence f k l (p .next) ≡ some (ns, r) = blanks-before f l k (p .next) t (p .next-is) ∙ e in
-    let all : (blanks w ++ nameText (h .0) ++ text y w n ++ s) ++ t ≡ blanks w ++ x = simp append-assoc in
-    ap (sequence (suc f) k l) all
-    ∙ sequence-child f l k (blanks w ++ x) z (s ++ t) (p .next) h n (some (ns, r)) (ap (closes k) q ∙ no-end k x j) (ap (head k) q ∙ head-back k h z a b i) v (p .gap-is) e′
+    let all : (blanks w ++ nameText (h .0) ++ text y w n ++ s) ++ t ≡ blanks w ++ (nameText (h .0) ++ z) = simp append-assoc in
+    ap (sequence (suc f) k l) (all ∙ ap (λ (ss : List Sym). blanks w ++ (nameText (h .0) ++ (notesText ss ++ z))) (sym b))
+    ∙ headed-back k h n ns w f l (text y w n) s t r a (node-leads n y w d k (h .1) (s ++ t) c (p .delimits)) p v e
 
 -- ---- what is free of annotations
 
@@ -196,7 +218,7 @@ three-false false false true h = never h
 three-false false true c h = never h
 three-false true b c h = never h
 
-free-marker : (k : Frame) (ss : List Sym) → FineMarker k ss → free k ss ≡ true
+pub free-marker : (k : Frame) (ss : List Sym) → FineMarker k ss → free k ss ≡ true
 unfolding free
 free-marker Top [] h = refl
 free-marker Top (s ∷ ss) h = absurd h
@@ -204,14 +226,14 @@ free-marker ListF ss h = absurd h
 free-marker Sexp ss h = absurd h
 free-marker Struct ss h = absurd h
 
-marker-body : (f : ℕ) (m : Bool) (l : ℕ) (r : List ℕ) → m ≡ true → Delimits r → body (suc f) m l (ascii "$ion_1_0" ++ r) ≡ some (marker, r)
+pub marker-body : (f : ℕ) (m : Bool) (l : ℕ) (r : List ℕ) → m ≡ true → Delimits r → body (suc f) m l (ascii "$ion_1_0" ++ r) ≡ some (marker, r)
 marker-body f m l r h d =
     body-scalar f m l (ascii "$ion_1_0" ++ r) (some (marker, r)) (word-opens _ (first-more r marker-first)) (ap (λ (b : Bool). scalarOf b (ascii "$ion_1_0" ++ r)) h ∙ marker-back r (d .ends))
 
-scalar-body : (f : ℕ) (m : Bool) (l : ℕ) (s : Scalar) (r : List ℕ) → FineScalar s → Delimits r → body (suc f) m l (scalarText s ++ r) ≡ some (scalar s, r)
+pub scalar-body : (f : ℕ) (m : Bool) (l : ℕ) (s : Scalar) (r : List ℕ) → FineScalar s → Delimits r → body (suc f) m l (scalarText s ++ r) ≡ some (scalar s, r)
 scalar-body f m l s r h d = let t = scalar-told m s r h (d .ends) in body-scalar f m l (scalarText s ++ r) (some (scalar s, r)) (t .no-bracket) (t .reads)
 
-brackets-long : (k : Frame) → Inner k → (length (opening k) ≡ 1) × (length (closing k) ≡ 1)
+pub brackets-long : (k : Frame) → Inner k → (length (opening k) ≡ 1) × (length (closing k) ≡ 1)
 unfolding opening closing
 brackets-long Top h = absurd h
 brackets-long ListF h = (refl, refl)

@@ -20,30 +20,32 @@ use Rattle.tape.specs.Fine.{Bytes, Fines}
 use Rattle.tape.specs.declared.Frame.the-variants.{Top}
 use Rattle.reader.specs.Grammar.{meaning}
 use Rattle.reader.specs.Outcome.{fits, tapeAnswer, tapeLeaves, answer, leaves}
-use Rattle.line_reader.specs.Cut.{lfs}
 use Rattle.writer.specs.Outcome.{refusal, measured, streamed}
 use Rattle.writer.specs.Text.{streamText}
 use Rattle.tape.proofs.Walking.{first-zero, verdict-told, tape-back}
 use Rattle.tape.proofs.FineBack.{tape-fine}
 use Rattle.tape.proofs.Accepted.{tape-length, tape-accepted, tape-nodes}
 use Rattle.claims.proofs.StreamBack.{stream-back}
-use Rattle.claims.proofs.LineBack.{lineBody, line, line-body, line-back, alone-first, alone-rest}
 use Rattle.claims.proofs.WellRead.{well-read}
 
 -- ---- from a tape to its text and back
+
+-- a tape that is refused neither by 1 to 4 and the count nor by 5, which looks for b
+pub suited : (t : List ℕ) (b : Bool) → first (verdict t) (if b 5 0) ≡ 0 → (verdict t ≡ 0) × (b ≡ false)
+suited t b e = let z = first-zero (verdict t) (if b 5 0) e in (z .0, flag b (z .1))
+  where
+    flag : (b : Bool) → if {A = ℕ} b 5 0 ≡ 0 → b ≡ false
+    flag true h = absurd (omega arith)
+    flag false h = refl
 
 -- a tape that is not refused before measuring is accepted and has no annotations
 pub through : (y : ℕ) (t : List ℕ) → refusal y t ≡ 0 → (verdict t ≡ 0) × (noteds (nodesOf t) ≡ false)
 unfolding refusal
 through y t e = layout (ltb 2 y) e
   where
-    flag : (b : Bool) → if {A = ℕ} b 5 0 ≡ 0 → b ≡ false
-    flag true h = absurd (omega arith)
-    flag false h = refl
-
     layout : (b : Bool) → if b 7 (first (verdict t) (if (noteds (nodesOf t)) 5 0)) ≡ 0 → (verdict t ≡ 0) × (noteds (nodesOf t) ≡ false)
     layout true h = absurd (omega arith)
-    layout false h = let z = first-zero (verdict t) (if (noteds (nodesOf t)) 5 0) h in (z .0, flag (noteds (nodesOf t)) (z .1))
+    layout false h = suited t (noteds (nodesOf t)) h
 
 -- For every layout and every tape that is let through: its text means its nodes.
 pub written-means : (y : ℕ) (t : List ℕ) → Bytes t → refusal y t ≡ 0 → meaning (streamText y (nodesOf t)) ≡ some (nodesOf t)
@@ -58,18 +60,20 @@ leaves-some : (s b : List ℕ) (ns : Nodes) → meaning s ≡ some ns → length
 unfolding leaves tapeLeaves fits
 leaves-some s b ns e l m = rw (e, le-leb (length (tape ns)) (min (length b) 1048576) (omega arith))
 
+-- a text that means an accepted tape's nodes, read with room, gives the tape itself
+pub means-tape : (s t b : List ℕ) → Bytes t → verdict t ≡ 0 → meaning s ≡ some (nodesOf t) → length t ≤ length b → (answer s (length b) ≡ counted (length t)) × (leaves s b ≡ t ++ drop (length t) b)
+means-tape s t b h v m l =
+    let same : tape (nodesOf t) ≡ t = tape-back t h v in
+    let most = verdict-told t v .most in
+    let n : length (tape (nodesOf t)) ≡ length t = ap length same in (
+      answer-some s (length b) (nodesOf t) m (omega arith) (omega arith) ∙ ap counted n,
+      leaves-some s b (nodesOf t) m (omega arith) (omega arith) ∙ ap (λ (x : List ℕ). x ++ drop (length x) b) same,
+    )
+
 -- Reading it back with room gives the tape itself: its length is answered, and it lies at the buffer's start, the rest kept.
 pub round-trip : (y : ℕ) (t b : List ℕ) → Bytes t → refusal y t ≡ 0 → length t ≤ length b
     → (answer (streamText y (nodesOf t)) (length b) ≡ counted (length t)) × (leaves (streamText y (nodesOf t)) b ≡ t ++ drop (length t) b)
-round-trip y t b h e l =
-    let z = through y t e in
-    let m = written-means y t h e in
-    let same : tape (nodesOf t) ≡ t = tape-back t h (z .0) in
-    let most = verdict-told t (z .0) .most in
-    let n : length (tape (nodesOf t)) ≡ length t = ap length same in (
-      answer-some _ (length b) (nodesOf t) m (omega arith) (omega arith) ∙ ap counted n,
-      leaves-some _ b (nodesOf t) m (omega arith) (omega arith) ∙ ap (λ (x : List ℕ). x ++ drop (length x) b) same,
-    )
+round-trip y t b h e l = means-tape (streamText y (nodesOf t)) t b h (through y t e .0) (written-means y t h e) l
 
 -- ---- which tapes are let through
 
@@ -102,19 +106,9 @@ read-accepted s ns e l =
     let f : Fines 64 Top ns = well-read s ns e (omega arith) in
     (tape-accepted ns f l, tape-nodes ns f)
 
--- ---- Lines, node by node
+-- ---- a node by itself
 
--- what is said of each top-level node
-pub data Each (P : Head → Node → Type 0) : Nodes → Type 0 where
-  each-nil : Each P nil
-  each-more : {h : Head} {n : Node} {ns : Nodes} → P h n → Each P ns → Each P (more h n ns)
-
--- its line has one LF, the last byte; it means that node; and the node's own tape is no longer than `room`
-pub record WrittenLine (room : ℕ) (h : Head) (n : Node) : Type 0 where
-  pub only : lfs (lineBody h n) ≡ 0
-  pub reads : meaning (line h n) ≡ some (more h n nil)
-  pub room-enough : length (tape (more h n nil)) ≤ room
-
+-- a node's own tape is no longer than the whole
 pub first-shorter : (h : Head) (n : Node) (ns : Nodes) → (length (tape (more h n nil)) ≤ length (tape (more h n ns))) × (length (tape ns) ≤ length (tape (more h n ns)))
 unfolding encode
 first-shorter h n ns =
@@ -124,11 +118,3 @@ first-shorter h n ns =
     let d = length-append (encodeHead h ++ encode n) [] in
     let e = length-append (encodeHead h ++ encode n) (encodes ns) in
     (omega arith, omega arith)
-
-pub lines-written : (ns : Nodes) (room : ℕ) → Fines 64 Top ns → noteds ns ≡ false → length (tape ns) ≤ room → Each (WrittenLine room) ns
-lines-written nil room f q l = each-nil
-lines-written (more h n ns) room f q l =
-    let a = alone-first h n ns f q in
-    let r = alone-rest h n ns f q in
-    let s = first-shorter h n ns in
-    each-more record { only = line-body h n (a .0) .count; reads = line-back h n (a .0) (a .1); room-enough = omega arith } (lines-written ns room (r .0) (r .1) (omega arith))

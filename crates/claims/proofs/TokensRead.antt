@@ -163,11 +163,6 @@ ascii-text w h = word-all IsText record { bytes = bytes-none; utf8 = valid-nothi
 
 -- ---- lengths
 
-le-long : (w n : ℕ) → length (leBytes w n) ≡ w
-unfolding leBytes
-le-long zero n = refl
-le-long (suc w) n = ap suc (le-long w _)
-
 sized-long : (s : List ℕ) → length s ≤ length (sized s)
 unfolding sized
 sized-long s = omega (arith, length-append (leBytes 4 (length s)) s)

@@ -254,7 +254,3 @@ well-read t ns e l = go (sequence (suc (2 * length t)) Top 64 t) (sequence-got (
     go : (o : Option (Nodes × List ℕ)) → Got (NodesP 64 Top) o → then o (λ r. some (r .0)) ≡ some ns → Fines 64 Top ns
     go none g q = absurd (let y : _≡_ {A = ℕ} 0 1 = cc in omega arith)
     go (some v) (got p) q = let z : v .0 ≡ ns = cc in subst (NodesP 64 Top) z p l
-
--- What was read without annotations, and is written again in any layout, reads as the same.
-pub read-write-read : (y : ℕ) (t : List ℕ) (ns : Nodes) → meaning t ≡ some ns → noteds ns ≡ false → length (encodes ns) < 2 ^ 32 → meaning (streamText y ns) ≡ some ns
-read-write-read y t ns e q l = stream-back y ns (well-read t ns e l) q

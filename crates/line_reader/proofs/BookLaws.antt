@@ -58,12 +58,12 @@ unfolding byBook room success failure fits zeros
 book-length l at buf = go (lineTape l)
   where
     go : (o : Option (List ℕ)) → length (on o (λ t. if (fits t (length buf)) (success l t at buf) (failure 9 l at buf)) (failure 8 l at buf) .buf) ≡ length buf
-    go none = length-replicate (length buf) 0
+    go none = simp (length-replicate {A = ℕ})
     go (some t) = held (fits t (length buf)) refl
       where
         held : (q : Bool) → fits t (length buf) ≡ q → length (if q (success l t at buf) (failure 9 l at buf) .buf) ≡ length buf
         held true e = simp (length-append, length-drop) (omega (arith, leb-true (length t) (min (length buf) 1048576) e))
-        held false e = length-replicate (length buf) 0
+        held false e = simp (length-replicate {A = ℕ})
 
 -- ---- every list of calls
 

@@ -1,4 +1,4 @@
-// Line reading: a text line by line, so that a line that was damaged costs no other.
+// Line reading: a text line by line. A line that is refused does not stop the calls.
 use reader::Made;
 use tape::answer::Answer;
 ghost use mathlib.Core.Path.{_≡_};
@@ -40,8 +40,8 @@ fn ends_in_lf(line: &[u8]) -> bool
     line[n - 1] == b'\n'
 }
 
-// Reads a line: exactly one value or marker, then LF, whose tape is laid at the buffer's start. Refusals 8 and 9 zero the buffer.
-pub fn read_line(line: &[u8], out: &mut [u8]) -> Answer
+// Reads the bytes of a line: exactly one value or marker, then LF, whose tape is laid at the buffer's start. Refusals 8 and 9 zero the buffer.
+fn read_line(line: &[u8], out: &mut [u8]) -> Answer
     ensures { λ r. ⌜ ((at : ℕ) → byBook (now (line .entry)) at (now (out .entry)) ≡ called r (at + length (now (line .entry))) (now (out .exit))) ⌝ }
 {
     if !ends_in_lf(line) {

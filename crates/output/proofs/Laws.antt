@@ -68,7 +68,8 @@ sets-front (y ∷ l) (x ∷ s) = sets-shift x l 0 s ∙ ap (λ (k : List ℕ). x
 
 -- ---- a text that is stored again
 
-set-sets : (u m : List ℕ) (i j : ℕ) (y : ℕ) → i < j → set (sets m j u) i y ≡ sets (set m i y) j u
+-- a store before a text is the same before it as after it
+pub set-sets : (u m : List ℕ) (i j : ℕ) (y : ℕ) → i < j → set (sets m j u) i y ≡ sets (set m i y) j u
 set-sets [] m i j y h = refl
 set-sets (z ∷ u) m i j y h =
     set-sets u (set m j z) i (suc j) y (omega arith)
@@ -160,25 +161,6 @@ finish {a} {b} {pos} {p} g e =
     subst (λ (l : List ℕ). Wrote a b pos p l) (sym (g .splits ∙ ap (λ (l : List ℕ). g .done ++ l) e ∙ append-nil (g .done))) (g .wrote)
 
 -- ---- a header that is written again, of the same length, once the body behind it stands
-
-pub wrote-patched : {a b c d : List ℕ} {p q r q′ : ℕ} {s s′ t : List ℕ} → Wrote a b p q s → Wrote b c q r t → Wrote c d p q′ s′ → length s ≡ length s′ → Wrote a d p r (s′ ++ t)
-wrote-patched {a} {b} {c} {d} {p} {q} {r} {q′} {s} {s′} {t} v w x h =
-    let y = wrote-then v w in
-    let n = y .count in
-    let l = length-append s t in
-    record {
-      bytes = x .bytes ∙ ap (λ (k : List ℕ). sets k p s′) (y .bytes) ∙ sets-over s s′ t a p h;
-      count = simp length-append (omega arith);
-      room = v .room;
-    }
-
--- a text that is written again, of the same length
-pub wrote-again : {a b c : List ℕ} {p q r : ℕ} {s t : List ℕ} → Wrote a b p q s → Wrote b c p r t → length s ≡ length t → Wrote a c p r t
-wrote-again {a} {b} {c} {p} {q} {r} {s} {t} v w h = record {
-  bytes = w .bytes ∙ ap (λ (k : List ℕ). sets k p t) (v .bytes ∙ ap (sets a p) (sym (append-nil s))) ∙ sets-over s t [] a p h ∙ ap (sets a p) (append-nil t);
-  count = w .count;
-  room = v .room;
-}
 
 pub length-le : (w n : ℕ) → length (leBytes w n) ≡ w
 unfolding leBytes

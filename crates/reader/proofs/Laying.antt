@@ -5,18 +5,11 @@ use mathlib.Core.List.{List, [], _∷_, _++_}
 use native.Mathlib.Nat.{add-zero, add-suc, suc-add}
 use native.Mathlib.Omega.{arith}
 use lib.ListN.{length, take, drop, set, length-append, length-drop}
-use lib.Seq.{sets, set-comm, take-length}
+use lib.Seq.{sets, take-length}
 use Rattle.output.specs.Wrote.{Wrote, limit, leBytes}
-use Rattle.output.proofs.Laws.{wrote-length, sets-append, sets-front, length-le}
+use Rattle.output.proofs.Laws.{wrote-length, sets-append, sets-front, set-sets, length-le}
 use Rattle.tape.specs.Tree.{sized}
 use Rattle.reader.specs.Steps.{Laid}
-
--- a store before a text is the same before it as after it
-set-sets : (u m : List ℕ) (i j : ℕ) (y : ℕ) → i < j → set (sets m j u) i y ≡ sets (set m i y) j u
-set-sets [] m i j y h = refl
-set-sets (z ∷ u) m i j y h =
-    set-sets u (set m j z) i (suc j) y (omega arith)
-    ∙ ap (λ (k : List ℕ). sets k (suc j) u) (set-comm m j i z y (λ (e : j ≡ i). omega arith))
 
 -- a text that is written before another
 sets-before : (s t l : List ℕ) (i : ℕ) → sets (sets l (i + length s) t) i s ≡ sets l i (s ++ t)

@@ -5,7 +5,6 @@ pub mod Walking
 pub mod Ranges
 pub mod Accepted
 pub mod FineBack
-pub mod FineBytes
 pub mod CodeReading
 pub mod CodeFloats
 pub mod CodeChild

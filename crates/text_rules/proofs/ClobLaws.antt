@@ -5,7 +5,6 @@ use mathlib.Core.List.{List, [], _∷_, _++_}
 use Prim.Native.Nat.{ℕ, _+_, _/_, _%_, _<_}
 use lib.Dec.{eqb, leb}
 use lib.ListN.{length, getD, drop}
-use borrow.Author.Tests.{eqb-true}
 use Rattle.output.specs.Logic.{if, byte}
 use Rattle.text_rules.specs.Escapes.{letterOf, hasLetter, escapeKind, hexDigit, clobEscape, clobBody}
 use Rattle.text_rules.proofs.EscapesLaws.{byte-at}
@@ -17,18 +16,14 @@ hexText c = byte "\\" ∷ byte "x" ∷ hexDigit (c / 16) ∷ hexDigit (c % 16) �
 abbrev pub clobBy : ℕ → ℕ → List ℕ
 clobBy k c = if (eqb k 1) (byte "\\" ∷ letterOf c ∷ []) (if (eqb k 2) (hexText c) (c ∷ []))
 
-mark-raw : (c : ℕ) → eqb c (byte "'") ≡ true → (leb 0x20 c && leb c 0x7E) ≡ true
-mark-raw c e = rw (eqb-true c (byte "'") e)
-
 pub clob-by : (c : ℕ) → clobEscape c ≡ clobBy (escapeKind c) c
 unfolding clobEscape escapeKind
-clob-by c = go (hasLetter c) (eqb c (byte "'")) (leb 0x20 c && leb c 0x7E) (mark-raw c)
+clob-by c = go (hasLetter c) (leb 0x20 c && leb c 0x7E)
   where
-    go : (h q r : Bool) → (q ≡ true → r ≡ true) → if h (byte "\\" ∷ letterOf c ∷ []) (if r (c ∷ []) (hexText c)) ≡ clobBy (if h 1 (if q 3 (if r 0 2))) c
-    go true q r f = refl
-    go false true r f = rw (f refl)
-    go false false true f = refl
-    go false false false f = refl
+    go : (h r : Bool) → if h (byte "\\" ∷ letterOf c ∷ []) (if r (c ∷ []) (hexText c)) ≡ clobBy (if h 1 (if r 0 2)) c
+    go true r = refl
+    go false true = refl
+    go false false = refl
 
 pub clob-step : (s : List ℕ) (i : ℕ) → i < length s → clobBody (drop i s) ≡ clobEscape (getD s i 0) ++ clobBody (drop (i + 1) s)
 unfolding clobBody

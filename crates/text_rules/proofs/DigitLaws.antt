@@ -228,14 +228,6 @@ pad-zero (suc w) = rw (pad-zero w) (replicate-append-replicate w 1 (byte "0") �
 
 -- ---- what the code of digits needs
 
-pub one-more : (k m : ℕ) → 10 ≤ m → m < 10 ^ suc k → (j : ℕ) × (k ≡ suc j) × (m / 10 < 10 ^ suc j) × (count k m ≡ suc (count j (m / 10)))
-unfolding count
-one-more zero m h b = let bad : ⊥ = omega arith in absurd bad
-one-more (suc j) m h b =
-    let b10 : m < 10 ^ suc j * 10 = rw (pow-suc 10 (suc j)) at b in
-    let q : m / 10 < 10 ^ suc j = omega arith in
-    (j, refl, q, simp (le-ltb m 10 h))
-
 pub last-one : (k m : ℕ) → m < 10 → count k m ≡ 1
 unfolding count
 last-one zero m h = refl

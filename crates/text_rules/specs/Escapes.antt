@@ -24,10 +24,9 @@ letterOf c =
 unfoldable pub hasLetter : ℕ → Bool
 hasLetter c = eqb c 0 || leb 7 c && leb c 13 || eqb c (byte "\"") || eqb c (byte "\\")
 
--- The kind of a byte in the table of 256: 1 a short letter; 3 the single quote mark, a letter in text and raw in a clob; 0 raw, hex 20 to 7E;
--- 2 raw in text, and `\x` with two hex digits in a clob
+-- The kind of a byte in the table of 256: 1 a short letter; 0 raw, hex 20 to 7E; 2 `\x` with two hex digits
 unfoldable pub escapeKind : ℕ → ℕ
-escapeKind c = if (hasLetter c) 1 (if (eqb c (byte "'")) 3 (if (leb 0x20 c && leb c 0x7E) 0 2))
+escapeKind c = if (hasLetter c) 1 (if (leb 0x20 c && leb c 0x7E) 0 2)
 
 -- a table of these kinds
 pub record EscapeTable (t : List ℕ) : Type 0 where

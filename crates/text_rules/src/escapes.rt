@@ -8,8 +8,8 @@ ghost use Rattle.output.specs.Logic.{byte};
 ghost use Rattle.output.specs.Wrote.{Wrote, limit};
 ghost use Rattle.text_rules.specs.Escapes.{letterOf, hasLetter, EscapeTable, textEscape, textBody};
 
-// The kind of each byte: 0 raw, 1 a short letter, 2 raw in text and `\x` with two hex digits in a clob, 3 the single quote mark, a letter in
-// text and raw in a clob. It is lent to the loop, since a constant table that is indexed is built anew at each use.
+// The kind of each byte in a clob: 0 raw, 1 a short letter, 2 `\x` with two hex digits. It is lent to the loop, since a constant table that is
+// indexed is built anew at each use.
 const ESCAPES: [u8; 256] = [
     1, // NUL
     2,
@@ -50,7 +50,7 @@ const ESCAPES: [u8; 256] = [
     0,
     0,
     0,
-    3, // '
+    0,
     0,
     0,
     0,

@@ -1,0 +1,157 @@
+-- The round trip of the tree text: the tree text of well-formed nodes means these nodes, annotations included, and a tape that is let
+-- through reads back as itself. Assumes nothing.
+use Prim.Native.Nat.{ℕ, zero, suc, _+_, _*_, _≤_}
+use mathlib.Core.Path.{_≡_, refl, sym, ap, _∙_}
+use mathlib.Core.List.{List, [], _++_, append-assoc, append-nil}
+use mathlib.Core.Bool.{true, false}
+use mathlib.Core.Option.{none, some}
+use native.Mathlib.Omega.{arith}
+use lib.ListN.{length, drop, length-append}
+use Rattle.output.specs.Logic.{byte}
+use Rattle.text_rules.specs.Texts.{starts}
+use Rattle.text_rules.specs.Text.{Sym}
+use Rattle.tape.specs.Tree.{Head, Node, Nodes, scalar, nest, marker, nil, more}
+use Rattle.tape.specs.Tape.{nodesOf}
+use Rattle.tape.specs.Verdict.{verdict}
+use Rattle.tape.specs.Answer.{counted}
+use Rattle.tape.specs.Fine.{Bytes, Inner, Fine, Fines}
+use Rattle.tape.specs.declared.Frame.{Frame}
+use Rattle.tape.specs.declared.Frame.the-variants.{Top, List as ListF, Sexp, Struct}
+use Rattle.reader.specs.Grammar.{skip, opener, opens, closes, free, body, sequence, meaning}
+use Rattle.reader.specs.Outcome.{answer, leaves}
+use Rattle.writer.specs.Text.{nameText, opening, closing, separator}
+use Rattle.tree.specs.Text.{notesText, lead, element, elements, treeText}
+use Rattle.tree.specs.Outcome.{unsuited, refusal}
+use Rattle.tape.proofs.FineBack.{tape-fine}
+use Rattle.claims.proofs.FirstBytes.{first-long}
+use Rattle.claims.proofs.NoteBack.{Delimits, Leads, scalar-leads, marker-leads, opening-leads}
+use Rattle.claims.proofs.StreamBack.{Parts, parts, parts-end, parts-closing, closing-ends, name-brace, body-nest, sequence-end, headed-back, free-marker, marker-body, scalar-body, brackets-long}
+use Rattle.claims.proofs.TapeBack.{suited, means-tape}
+
+-- ---- children and what stands between them
+
+-- behind a child: nothing where it is the last, else a separator
+abbrev between : Frame → Nodes → List ℕ
+between k nil = []
+between k (more h n ns) = separator 0 k
+
+elements-true : (k : Frame) (ns : Nodes) → elements true k ns ≡ between k ns ++ elements false k ns
+unfolding element lead
+elements-true k nil = refl
+elements-true k (more h n ns) = simp append-assoc
+
+elements-more : (k : Frame) (h : Head) (n : Node) (ns : Nodes) (t : List ℕ)
+    → elements false k (more h n ns) ++ t ≡ nameText (h .0) ++ (notesText (h .1) ++ (element n ++ (between k ns ++ (elements false k ns ++ t))))
+unfolding element lead
+elements-more k h n ns t = rw (elements-true k ns) (simp append-assoc)
+
+parts-between : (k : Frame) (ns : Nodes) (t : List ℕ) → Parts k [] t → Parts k (between k ns) (elements false k ns ++ t)
+unfolding element
+parts-between k nil t p = p
+parts-between k (more h n ns) t p = parts 0 k _
+
+-- ---- what an element's text starts with
+
+element-leads : (n : Node) (d : ℕ) (k : Frame) (ss : List Sym) (r : List ℕ) → Fine d k ss n → Delimits r → Leads (element n ++ r)
+unfolding element Fine
+element-leads (scalar s) d k ss r h e = scalar-leads s r h e
+element-leads (nest i ns) zero k ss r h e = absurd h
+element-leads (nest i ns) (suc d) k ss r h e = simp append-assoc (opening-leads i _ (h .0))
+element-leads marker d k ss r h e = marker-leads r e
+
+element-long : (n : Node) (d : ℕ) (k : Frame) (ss : List Sym) → Fine d k ss n → 1 ≤ length (element n)
+element-long n d k ss h = let b = first-long (element n ++ []) (element-leads n d k ss [] h (parts-end .delimits) .begins) in omega (arith, length-append (element n) [])
+
+-- no `{` stands behind the opening bracket of a struct
+fields-brace : (d : ℕ) (ns : Nodes) (r : List ℕ) → Fines d Struct ns → starts (byte "{") (elements false Struct ns ++ (closing Struct ++ r)) ≡ false
+unfolding element lead Fine nameText closing
+fields-brace d nil r h = unfold starts in refl
+fields-brace d (more (none, ss) n ns) r h = absurd (h .0 .name)
+fields-brace d (more (some s, ss) n ns) r h = simp append-assoc (name-brace s _)
+
+opening-opens : (k : Frame) (d : ℕ) (ns : Nodes) (r : List ℕ) → Inner k → Fines d k ns → opens (opening k ++ (elements false k ns ++ (closing k ++ r))) ≡ some k
+unfolding opening opens opener
+opening-opens Top d ns r i h = absurd i
+opening-opens ListF d ns r i h = refl
+opening-opens Sexp d ns r i h = refl
+opening-opens Struct d ns r i h = rw (fields-brace d ns r h)
+
+-- ---- lengths
+
+-- the brackets take two bytes
+nest-long : (k : Frame) (ns : Nodes) → Inner k → 2 + length (elements false k ns) ≤ length (element (nest k ns))
+unfolding element
+nest-long k ns i = let b = brackets-long k i in simp length-append (omega arith)
+
+child-long : (k : Frame) (h : Head) (n : Node) (ns : Nodes) → length (element n) + length (elements false k ns) ≤ length (elements false k (more h n ns))
+unfolding element lead
+child-long k h n ns = rw (elements-true k ns) (simp length-append (omega arith))
+
+-- ---- trees, for every number of calls that is large enough
+
+-- a container, by what is inside it
+nest-back : (k : Frame) (d f : ℕ) (ss : List Sym) (i : Frame) (ns : Nodes) (r : List ℕ) → Inner i → Fines d i ns
+    → sequence f i d (elements false i ns ++ (closing i ++ r)) ≡ some (ns, r)
+    → body (suc f) (free k ss) (suc d) (element (nest i ns) ++ r) ≡ some (nest i ns, r)
+unfolding element
+nest-back k d f ss i ns r j h e = simp append-assoc (body-nest f (free k ss) d i (elements false i ns ++ (closing i ++ r)) ns r j (opening-opens i d ns r j h) e)
+
+mutual
+  unfolding element Fine
+
+  body-back : (n : Node) (f d : ℕ) (k : Frame) (ss : List Sym) (r : List ℕ) → Fine d k ss n → Delimits r → 2 * length (element n) ≤ f
+      → body f (free k ss) d (element n ++ r) ≡ some (n, r)
+  body-back (scalar s) zero d k ss r h e g = absurd (omega (arith, element-long (scalar s) d k ss h))
+  body-back (scalar s) (suc f) d k ss r h e g = scalar-body f (free k ss) d s r h e
+  body-back marker zero d k ss r h e g = absurd (omega arith)
+  body-back marker (suc f) d k ss r h e g = marker-body f (free k ss) d r (free-marker k ss h) e
+  body-back (nest i ns) zero zero k ss r h e g = absurd h
+  body-back (nest i ns) (suc f) zero k ss r h e g = absurd h
+  body-back (nest i ns) zero (suc d) k ss r h e g = absurd (omega (arith, nest-long i ns (h .0)))
+  body-back (nest i ns) (suc f) (suc d) k ss r h e g =
+      nest-back k d f ss i ns r (h .0) (h .2)
+      (sequence-back ns f d i (closing i ++ r) r (h .2) (parts-closing i r (h .0)) (closing-ends i 0 r (h .0)) (omega (arith, nest-long i ns (h .0))))
+
+  sequence-back : (ns : Nodes) (f d : ℕ) (k : Frame) (t r : List ℕ) → Fines d k ns → Parts k [] t → closes k (skip t) ≡ some r → suc (2 * length (elements false k ns)) ≤ f
+      → sequence f k d (elements false k ns ++ t) ≡ some (ns, r)
+  sequence-back nil zero d k t r h p e g = absurd (omega arith)
+  sequence-back nil (suc f) d k t r h p e g = sequence-end f d k t r e
+  sequence-back (more x n ns) zero d k t r h p e g = absurd (omega arith)
+  sequence-back (more x n ns) (suc f) d k t r h p e g =
+      let l = child-long k x n ns in
+      let m = element-long n d k (x .1) (h .1) in
+      let u : List ℕ = elements false k ns ++ t in
+      let q : Parts k (between k ns) u = parts-between k ns t p in
+      ap (sequence (suc f) k d) (elements-more k x n ns t)
+      ∙ headed-back k x n ns 0 f d (element n) (between k ns) u r (h .0) (element-leads n d k (x .1) (between k ns ++ u) (h .1) (q .delimits)) q
+      (body-back n f d k (x .1) (between k ns ++ u) (h .1) (q .delimits) (omega arith))
+      (sequence-back ns f d k t r (h .2) p e (omega arith))
+
+-- what the tree text means, with all of it read
+read-back : (ns : Nodes) → Fines 64 Top ns → sequence (suc (2 * length (treeText ns))) Top 64 (treeText ns) ≡ some (ns, [])
+unfolding treeText
+read-back ns h =
+    ap (sequence (suc (2 * length (elements false Top ns))) Top 64) (sym (append-nil (elements false Top ns)))
+    ∙ sequence-back ns (suc (2 * length (elements false Top ns))) 64 Top [] [] h parts-end (unfold closes skip in refl) (omega arith)
+
+-- The tree text of well-formed nodes means these nodes, with annotations anywhere. What 5 refuses needs no exception: several top-level
+-- nodes, a marker and any identifier are read back too.
+pub tree-back : (ns : Nodes) → Fines 64 Top ns → meaning (treeText ns) ≡ some ns
+unfolding meaning
+tree-back ns h = rw (read-back ns h)
+
+-- ---- from a tape to its tree text and back
+
+-- a tape that is not refused before measuring is accepted and suits the tree text
+pub tree-through : (t : List ℕ) → refusal t ≡ 0 → (verdict t ≡ 0) × (unsuited (nodesOf t) ≡ false)
+unfolding refusal
+tree-through t e = suited t (unsuited (nodesOf t)) e
+
+-- For every tape that is let through: its tree text means its nodes.
+pub tree-means : (t : List ℕ) → Bytes t → refusal t ≡ 0 → meaning (treeText (nodesOf t)) ≡ some (nodesOf t)
+tree-means t b e = tree-back (nodesOf t) (tape-fine t b (tree-through t e .0))
+
+-- Reading it back with room gives the tape itself: its length is answered, and it lies at the buffer's start, the rest kept.
+pub tree-round-trip : (t b : List ℕ) → Bytes t → refusal t ≡ 0 → length t ≤ length b
+    → (answer (treeText (nodesOf t)) (length b) ≡ counted (length t)) × (leaves (treeText (nodesOf t)) b ≡ t ++ drop (length t) b)
+tree-round-trip t b h e l = means-tape (treeText (nodesOf t)) t b h (tree-through t e .0) (tree-means t h e) l

@@ -1,0 +1,322 @@
+// Damages the Lines texts of tapes in many ways and reads each damaged text by line calls, from its start through the end mark. Prints, for
+// each tape, its text and a line for each kind of damage: how many texts it makes, and a digest of every answer, offset and whole buffer.
+// Before that come document 01's two examples, on the first tape, answer by answer. A tape stands in a frame: u32 length, and its bytes. The
+// tapes and what they must give come from tests/damage.py.
+use libc::STDIN_FILENO;
+use libc::STDOUT_FILENO;
+use tape::answer::Answer;
+
+const PRIME: u64 = 4294967291;
+
+fn wide(b: u8) -> u64 {
+    b as u64
+}
+
+// A digest with a number more.
+fn feed(d: u64, x: u64) -> u64 {
+    ((d % PRIME) * 257 + x % PRIME + 1) % PRIME
+}
+
+fn feed_bytes(start: u64, bytes: &[u8]) -> u64 {
+    let mut d = start;
+    let mut i: usize = 0;
+    while i < bytes.len() {
+        d = feed(d, wide(bytes[i]));
+        i += 1;
+    }
+    d
+}
+
+fn say_number(n: u64) {
+    io::print_decimal(STDOUT_FILENO, n);
+}
+
+fn digit(d: u8) -> u8 {
+    if d < 10 {
+        return b'0' + d;
+    }
+    if d < 16 {
+        return b'a' + (d - 10);
+    }
+    b'?'
+}
+
+// Every byte as two hex digits, then LF.
+fn hex(bytes: &[u8]) {
+    let mut i: usize = 0;
+    while i < bytes.len() {
+        let b = bytes[i];
+        let pair = [digit(b / 16), digit(b % 16)];
+        io::write_all(STDOUT_FILENO, &pair);
+        i += 1;
+    }
+    io::write_all(STDOUT_FILENO, b"\n");
+}
+
+// The tape in hex, the refusal or `end`.
+fn say(a: Answer, out: &[u8]) {
+    match a {
+        Answer::Count(n) => {
+            if n <= out.len() {
+                hex(&out[0..n]);
+            }
+        }
+        Answer::End => {
+            io::write_all(STDOUT_FILENO, b"end\n");
+        }
+        _ => {
+            io::write_all(STDOUT_FILENO, b"refused ");
+            say_number(wide(tape::answer::number(a)));
+            io::write_all(STDOUT_FILENO, b"\n");
+        }
+    }
+}
+
+// Minus a refusal, modulo the prime.
+fn minus(refusal: u8) -> u64 {
+    PRIME - refusal as u64
+}
+
+// The count, which is 0 for the end mark, or minus the refusal.
+fn signed(a: Answer) -> u64 {
+    match a {
+        Answer::Count(n) => n as u64,
+        Answer::End => 0,
+        _ => minus(tape::answer::number(a)),
+    }
+}
+
+fn is_end(a: Answer) -> bool {
+    match a {
+        Answer::End => true,
+        _ => false,
+    }
+}
+
+// A digest with what a call left: answer, offset and whole buffer.
+fn feed_call(d: u64, a: Answer, at: usize, out: &[u8]) -> u64 {
+    feed_bytes(feed(feed(d, signed(a)), at as u64), out)
+}
+
+// A digest with the calls on a text through the end mark, each from what the last one left, in a buffer of 256 bytes that is `#` all over
+// at first. Aloud, a line for each answer is printed.
+fn feed_calls(start: u64, text: &[u8], aloud: bool) -> u64 {
+    let mut out = [b'#'; 256];
+    let mut d = start;
+    let mut at: usize = 0;
+    let mut calls: usize = 0;
+    while calls <= text.len() {
+        let c = line_reader::call_at(text, at, &mut out);
+        let answer = c.answer;
+        at = c.at;
+        d = feed_call(d, answer, at, &out);
+        if aloud {
+            say(answer, &out);
+        }
+        if is_end(answer) {
+            return d;
+        }
+        calls += 1;
+    }
+    d
+}
+
+fn append(made: &mut [u8], at: usize, s: &[u8]) -> usize {
+    if 256 < at {
+        return at;
+    }
+    output::put_bytes(made, at, s)
+}
+
+// The text with the bytes in place of those between two offsets, into `made`; its length.
+fn replace(text: &[u8], from: usize, to: usize, new: &[u8], made: &mut [u8]) -> usize {
+    if text.len() < to {
+        return 0;
+    }
+    if to < from {
+        return 0;
+    }
+    let head = append(made, 0, &text[0..from]);
+    let middle = append(made, head, new);
+    append(made, middle, &text[to..text.len()])
+}
+
+fn feed_damaged(d: u64, text: &[u8], from: usize, to: usize, new: &[u8]) -> u64 {
+    let mut made = [0u8; 256];
+    let n = replace(text, from, to, new, &mut made);
+    if 256 < n {
+        return d;
+    }
+    feed_calls(d, &made[0..n], false)
+}
+
+// How many texts, and their digest.
+fn say_digest(texts: usize, d: u64) {
+    io::write_all(STDOUT_FILENO, b": ");
+    say_number(texts as u64);
+    io::write_all(STDOUT_FILENO, b" texts, ");
+    say_number(d);
+    io::write_all(STDOUT_FILENO, b"\n");
+}
+
+// Each run of so many bytes replaced by the same bytes.
+fn replace_each(text: &[u8], width: usize, new: &[u8]) {
+    let mut d: u64 = 0;
+    let mut i: usize = 0;
+    while i <= text.len() {
+        if text.len() - i < width {
+            break;
+        }
+        d = feed_damaged(d, text, i, i + width, new);
+        i += 1;
+    }
+    say_digest(i, d);
+}
+
+fn following(b: u8) -> u8 {
+    if b == 255 { 0 } else { b + 1 }
+}
+
+// Each byte replaced by the byte with the next number.
+fn raise(text: &[u8]) {
+    let mut d: u64 = 0;
+    let mut i: usize = 0;
+    while i < text.len() {
+        let new = [following(text[i])];
+        d = feed_damaged(d, text, i, i + 1, &new);
+        i += 1;
+    }
+    io::write_all(STDOUT_FILENO, b"raised");
+    say_digest(i, d);
+}
+
+// Each byte changed to `b`.
+fn change(text: &[u8], b: u8) {
+    io::write_all(STDOUT_FILENO, b"changed to ");
+    say_number(wide(b));
+    replace_each(text, 1, &[b]);
+}
+
+// Each run of `n` bytes cut.
+fn cut(text: &[u8], n: usize) {
+    io::write_all(STDOUT_FILENO, b"cut ");
+    say_number(n as u64);
+    replace_each(text, n, b"");
+}
+
+// `b` inserted at each place.
+fn insert(text: &[u8], b: u8) {
+    io::write_all(STDOUT_FILENO, b"inserted ");
+    say_number(wide(b));
+    replace_each(text, 0, &[b]);
+}
+
+fn change_each(text: &[u8]) {
+    change(text, b'\n');
+    change(text, b'x');
+    change(text, b'"');
+    change(text, b'[');
+    change(text, b'\'');
+    change(text, 0);
+    change(text, 255);
+    raise(text);
+}
+
+fn cut_each(text: &[u8]) {
+    cut(text, 1);
+    cut(text, 2);
+    cut(text, 3);
+    cut(text, 4);
+    cut(text, 5);
+    cut(text, 6);
+    cut(text, 7);
+    cut(text, 8);
+}
+
+fn insert_each(text: &[u8]) {
+    insert(text, b'\n');
+    insert(text, b'"');
+    insert(text, b'\'');
+    insert(text, b'[');
+    insert(text, b']');
+    insert(text, b'{');
+    insert(text, b'(');
+    insert(text, b'\\');
+    insert(text, b',');
+}
+
+fn show_damaged(text: &[u8], from: usize, to: usize) {
+    let mut made = [0u8; 256];
+    let n = replace(text, from, to, b"x", &mut made);
+    if n <= 256 {
+        io::write_all(STDOUT_FILENO, &made[0..n]);
+        feed_calls(0, &made[0..n], true);
+    }
+}
+
+fn damage(text: &[u8], first: bool) {
+    if first {
+        show_damaged(text, 2, 4);
+        show_damaged(text, 2, 3);
+    }
+    io::write_all(STDOUT_FILENO, text);
+    change_each(text);
+    cut_each(text);
+    insert_each(text);
+}
+
+fn write_and_damage(tape: &[u8], first: bool) -> bool {
+    let mut out = [0u8; 256];
+    let a = writer::writer::write_stream(1, tape, &mut out);
+    match a {
+        Answer::Count(n) => {
+            if 256 < n {
+                return false;
+            }
+            damage(&out[0..n], first);
+            true
+        }
+        _ => false,
+    }
+}
+
+// Damages the text of the frame at the input's start and answers the frame's length, or 0 where it is malformed.
+fn frame(input: &[u8], first: bool) -> usize {
+    if input.len() < 4 {
+        return 0;
+    }
+    let length = tape::u32_at(input, 0) as usize;
+    if input.len() - 4 < length {
+        return 0;
+    }
+    if !write_and_damage(&input[4..4 + length], first) {
+        return 0;
+    }
+    4 + length
+}
+
+// Whether all of the input is frames. Stops before the first that is malformed.
+fn all(input: &[u8]) -> bool {
+    let mut at: usize = 0;
+    while at < input.len() {
+        let n = frame(&input[at..input.len()], at == 0);
+        if n == 0 {
+            return false;
+        }
+        if input.len() - at < n {
+            return false;
+        }
+        at += n;
+    }
+    true
+}
+
+fn main() {
+    let mut input = io::large_buffer();
+    let n = io::read_full(STDIN_FILENO, &mut input);
+    if n <= 65536 {
+        if !all(&input[0..n]) {
+            io::write_all(STDOUT_FILENO, b"malformed input\n");
+        }
+    }
+}
