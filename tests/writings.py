@@ -4,7 +4,7 @@
 `gives(layout, values, text)` has its text written down here by hand, from the document's examples and sentences. `refuses(number, tape)`
 has its number so. `row(layout, tape, room)` is left to tests/model.py, which was made from the document; the rows written by hand are
 held against it too. Nothing expected here was ever asked of the program or of the Rust.
-Run it to write crates/writings/stdin (frames: layout, u32 room, u32 length, tape) and crates/writings/stdout (answer and whole buffer).
+Run it to write crates/writings/stdin (frames: layout or `t`, u32 room, u32 length, tape) and crates/writings/stdout (answer and whole buffer).
 """
 import os
 import struct
@@ -13,12 +13,14 @@ import model
 from tapes import UNKNOWN, node, tape
 
 COMPACT, LINES, PRETTY = LAYOUTS = (0, 1, 2)
+TREE = ord('t')
 rows = []
 
 
 def row(layout, t, room):
     """A tape with a room; the buffer is `#` all over before the call."""
-    answer, buffer = model.expect(layout, t, b'#' * room)
+    text = model.tree(t) if layout == TREE else model.stream(layout, t)
+    answer, buffer = model.answer(text, b'#' * room)
     rows.append((layout, room, t, answer, buffer))
     return answer, buffer
 
@@ -276,6 +278,21 @@ refuses(4, trailed(finite, 0), trailed(finite, 2), trailed(noted + finite, 1), r
 refuses(3, trailed(deep, 0), layouts=(LINES,), rooms=(0, 5))
 refuses(2, trailed(noted, 0), trailed(noted, 2), rooms=(0, 5))
 refuses(5, trailed(noted, 1), trailed(node(TRUE) + noted, 2), rooms=(0, 3))
+
+# The tree text: "No trailing separators: `[1, 2]`, `(1 2)`, `{a: 1}`, annotations `a::`."
+ONE, TWO = ('int', 1), ('int', 2)
+for value, text in (
+        (('list', [ONE, TWO]), '[1, 2]'), (('sexp', [ONE, TWO]), '(1 2)'), (('struct', [(sym('a'), ONE)]), '{a: 1}'),
+        (notes(ONE, sym('a')), 'a::1'), (notes(('list', [notes(ONE, sym('b'))]), sym('a'), sym('true')), "a::'true'::[b::1]"),
+        (('struct', [(sym('a'), notes(('sexp', []), sid(0))), (sid(0), ('list', []))]), '{a: $0::(), $0: []}')):
+    gives(TREE, [value], text)
+# "not one top-level node, a marker, or an identifier but 0": 5, behind the count; then 6.
+refuses(5, tape([]), tape([ONE, TWO]), tape([('marker',)]), tape([sid(1)]), tape([notes(ONE, sid(7))]), layouts=(TREE,))
+refuses(5, tape([('list', [('struct', [(sid(4), ONE)])])]), layouts=(TREE,), rooms=(0, 3))
+refuses(2, trailed(node(sid(1)), 2), trailed(b'', 1), trailed(bad, 1), layouts=(TREE,))
+refuses(4, trailed(finite + node(sid(1)), 2), layouts=(TREE,))
+for room in (0, 5):
+    assert row(TREE, tape([('list', [ONE, TWO])]), room) == (-6, b'[1, 2]'[:room])
 
 
 def main():

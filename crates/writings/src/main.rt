@@ -1,5 +1,5 @@
 // Writes the texts of tapes on standard input, a line for each: the count or the refusal, a blank, and the whole buffer in hex.
-// A tape stands in a frame: a byte layout, u32 room (at most 4096), u32 length, and its bytes. The buffer has `room` bytes, each `#`
+// A tape stands in a frame: a byte layout, or `t` for the tree text, u32 room (at most 4096), u32 length, and its bytes. The buffer has `room` bytes, each `#`
 // before the call. The frames and what they must give are the table of tests/writings.py.
 use libc::STDIN_FILENO;
 use libc::STDOUT_FILENO;
@@ -41,8 +41,15 @@ fn say(a: Answer) {
     io::write_all(STDOUT_FILENO, b" ");
 }
 
+fn write(layout: u8, tape: &[u8], out: &mut [u8]) -> Answer {
+    if layout == b't' {
+        return tree::write_tree(tape, out);
+    }
+    writer::writer::write_stream(layout as u32, tape, out)
+}
+
 fn show(layout: u8, tape: &[u8], out: &mut [u8]) {
-    let a = writer::writer::write_stream(layout as u32, tape, out);
+    let a = write(layout, tape, out);
     say(a);
     hex(out);
 }
