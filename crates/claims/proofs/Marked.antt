@@ -31,10 +31,10 @@ abbrev child : ℤ → Nodes → Nodes
 child n ns = more (none, []) (scalar (int n)) ns
 
 -- the list of 1 and 2, and its tape
-abbrev list : Nodes
+abbrev pub list : Nodes
 list = more (none, []) (nest ListF (child (pos 1) (child (pos 2) nil))) nil
 
-abbrev listTape : List ℕ
+abbrev pub listTape : List ℕ
 listTape = 0x0A ∷ 0x12 ∷ 0 ∷ 0 ∷ 0 ∷ 2 ∷ 1 ∷ 0 ∷ 0 ∷ 0 ∷ 0 ∷ 0 ∷ 0 ∷ 0 ∷ 2 ∷ 2 ∷ 0 ∷ 0 ∷ 0 ∷ 0 ∷ 0 ∷ 0 ∷ 0 ∷ 0x17 ∷ 0 ∷ 0 ∷ 0 ∷ 1 ∷ 0 ∷ 0 ∷ 0 ∷ []
 
 pub record Marked : Type 0 where
@@ -56,11 +56,11 @@ pub record Marked : Type 0 where
 list-head : FineHead ListF (none, [])
 list-head = record { name = tt; notes = tt; few = omega arith }
 
-list-tape : tape list ≡ listTape
+pub list-tape : tape list ≡ listTape
 unfolding tape encode encodeHead encodeName encodeNotes encodeScalar size leBytes bits
 list-tape = refl
 
-list-fine : Fines 64 Top list
+pub list-fine : Fines 64 Top list
 unfolding Fine encode encodeHead encodeName encodeNotes encodeScalar leBytes bits
 list-fine =
     let long : length (encodes (child (pos 1) (child (pos 2) nil))) ≡ 18 = refl in

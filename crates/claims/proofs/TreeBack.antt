@@ -7,26 +7,32 @@ use mathlib.Core.Bool.{true, false}
 use mathlib.Core.Option.{none, some}
 use native.Mathlib.Omega.{arith}
 use lib.ListN.{length, drop, length-append}
-use Rattle.output.specs.Logic.{byte}
+use Rattle.output.specs.Logic.{byte, ascii}
 use Rattle.text_rules.specs.Texts.{starts}
+use Rattle.text_rules.specs.Digits.{pad, count, digits}
 use Rattle.text_rules.specs.Text.{Sym}
-use Rattle.tape.specs.Tree.{Head, Node, Nodes, scalar, nest, marker, nil, more}
+use Rattle.numbers.specs.Decimal.{intText}
+use Rattle.tape.specs.Tree.{Head, Node, Nodes, scalar, nest, marker, nil, more, tape}
 use Rattle.tape.specs.Tape.{nodesOf}
 use Rattle.tape.specs.Verdict.{verdict}
-use Rattle.tape.specs.Answer.{counted}
+use Rattle.tape.specs.Refusal.{symsNumbered, headNumbered, scalarNumbered, numbered}
+use Rattle.tape.specs.Answer.{counted, refused}
 use Rattle.tape.specs.Fine.{Bytes, Inner, Fine, Fines}
 use Rattle.tape.specs.declared.Frame.{Frame}
 use Rattle.tape.specs.declared.Frame.the-variants.{Top, List as ListF, Sexp, Struct}
 use Rattle.reader.specs.Grammar.{skip, opener, opens, closes, free, body, sequence, meaning}
 use Rattle.reader.specs.Outcome.{answer, leaves}
-use Rattle.writer.specs.Text.{nameText, opening, closing, separator}
+use Rattle.writer.specs.Text.{scalarText, nameText, opening, closing, separator}
+use Rattle.writer.specs.Outcome.{measured}
 use Rattle.tree.specs.Text.{notesText, lead, element, elements, treeText}
-use Rattle.tree.specs.Outcome.{unsuited, refusal}
+use Rattle.tree.specs.Outcome.{unsuited, refusal, written}
 use Rattle.tape.proofs.FineBack.{tape-fine}
+use Rattle.tape.proofs.Accepted.{tape-accepted, tape-nodes}
 use Rattle.claims.proofs.FirstBytes.{first-long}
 use Rattle.claims.proofs.NoteBack.{Delimits, Leads, scalar-leads, marker-leads, opening-leads}
 use Rattle.claims.proofs.StreamBack.{Parts, parts, parts-end, parts-closing, closing-ends, name-brace, body-nest, sequence-end, headed-back, free-marker, marker-body, scalar-body, brackets-long}
 use Rattle.claims.proofs.TapeBack.{suited, means-tape}
+use Rattle.claims.proofs.Marked.{list, listTape, list-tape, list-fine}
 
 -- ---- children and what stands between them
 
@@ -155,3 +161,19 @@ tree-means t b e = tree-back (nodesOf t) (tape-fine t b (tree-through t e .0))
 pub tree-round-trip : (t b : List ℕ) → Bytes t → refusal t ≡ 0 → length t ≤ length b
     → (answer (treeText (nodesOf t)) (length b) ≡ counted (length t)) × (leaves (treeText (nodesOf t)) b ≡ t ++ drop (length t) b)
 tree-round-trip t b h e l = means-tape (treeText (nodesOf t)) t b h (tree-through t e .0) (tree-means t h e) l
+
+-- ---- which tapes have a tree text
+
+-- The tape of well-formed nodes that 5 does not refuse is written as their tree text.
+pub element-written : (ns : Nodes) (n : ℕ) → Fines 64 Top ns → unsuited ns ≡ false → length (tape ns) ≤ 1048576 → written (tape ns) n ≡ measured (treeText ns) n
+unfolding written refusal
+element-written ns n f q m = rw (tape-accepted ns f m, tape-nodes ns f, q)
+
+-- 01's list of 1 and 2: `[1, 2]`, which 6 bytes hold and 5 do not
+list-element : (n : ℕ) → written listTape n ≡ measured (ascii "[1, 2]") n
+unfolding unsuited numbered headNumbered symsNumbered scalarNumbered treeText element lead notesText scalarText nameText opening closing separator intText digits count pad
+list-element n = ap (λ (t : List ℕ). written t n) (sym list-tape) ∙ element-written list n list-fine refl (rw list-tape (omega arith))
+
+pub list-answers : (written listTape 6 ≡ counted 6) × (written listTape 5 ≡ refused 6)
+unfolding measured
+list-answers = (list-element 6, list-element 5)
