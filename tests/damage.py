@@ -15,6 +15,7 @@ from tapes import UNKNOWN, tape
 
 PRIME = 4294967291
 ROOM = 256
+PAST = 1000
 answers = collections.Counter()
 texts = 0
 
@@ -71,10 +72,13 @@ def damaged(text, start, end, new):
 
 
 def fed(d, text):
-    """The digest with all calls on a text: answer, offset and whole buffer of each."""
+    """The digest with all calls on a text, and two more, at its end and past it: answer, offset and whole buffer of each."""
     global texts
     texts += 1
-    for answer, at, buffer in book(text, b'#' * ROOM):
+    calls = list(book(text, b'#' * ROOM))
+    buffer = calls[-1][2]
+    calls += [(None, len(text), buffer), (-10, PAST, buffer)]
+    for answer, at, buffer in calls:
         answers['end' if answer is None else 'count' if answer > 0 else answer] += 1
         for x in (answer or 0, at, *buffer):
             d = (d * 257 + x + 1) % PRIME

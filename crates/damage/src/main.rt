@@ -98,6 +98,16 @@ fn feed_call(d: u64, a: Answer, at: usize, out: &[u8]) -> u64 {
     feed_bytes(feed(feed(d, signed(a)), at as u64), out)
 }
 
+// Two calls more: the end mark comes again, and an offset past the text is refused by 10. Both leave all as it was.
+fn feed_after(d: u64, text: &[u8], out: &mut [u8]) -> u64 {
+    let again = line_reader::call_at(text, text.len(), out);
+    let a = again.answer;
+    let e = feed_call(d, a, again.at, out);
+    let past = line_reader::call_at(text, 1000, out);
+    let b = past.answer;
+    feed_call(e, b, past.at, out)
+}
+
 // A digest with the calls on a text through the end mark, each from what the last one left, in a buffer of 256 bytes that is `#` all over
 // at first. Aloud, a line for each answer is printed.
 fn feed_calls(start: u64, text: &[u8], aloud: bool) -> u64 {
@@ -114,7 +124,7 @@ fn feed_calls(start: u64, text: &[u8], aloud: bool) -> u64 {
             say(answer, &out);
         }
         if is_end(answer) {
-            return d;
+            return feed_after(d, text, &mut out);
         }
         calls += 1;
     }

@@ -36,6 +36,12 @@ say-requires c κs = search needs
 is-end-requires : tie.Need-is-end-requires Inv-loop μ-loop
 is-end-requires c κs = search needs
 
+slice-aggregate-feed-after : tie.Need-slice-aggregate-feed-after Inv-loop μ-loop
+slice-aggregate-feed-after c = search needs
+
+feed-after-requires : tie.Need-feed-after-requires Inv-loop μ-loop
+feed-after-requires c κs = search needs
+
 returns : tie.Need-returns Inv-loop μ-loop
 returns c = search needs
 
@@ -65,6 +71,8 @@ feed-calls-spec =
     slice-aggregate-say
     say-requires
     is-end-requires
+    slice-aggregate-feed-after
+    feed-after-requires
     returns
     add-calls
     loop-less
