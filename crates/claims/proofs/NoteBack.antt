@@ -18,8 +18,7 @@ use Rattle.tape.specs.Fine.{FineSym, FineSyms, FineScalar, FineName, FineHead, 
 use Rattle.tape.specs.declared.Frame.{Frame}
 use Rattle.tape.specs.declared.Frame.the-variants.{Top, List as ListF, Sexp, Struct}
 use Rattle.reader.specs.Grammar.{skip, note, notes, field, name, head, numeric}
-use Rattle.writer.specs.Text.{symText, scalarText, nameText, opening, text}
-use Rattle.tree.specs.Text.{notesText}
+use Rattle.writer.specs.Text.{symText, scalarText, nameText, notesText, opening, text}
 use Rattle.tokens.proofs.SymbolBack.{Begins, symbol-back, symbol-id-back, symbol-begins, id-begins}
 use Rattle.claims.proofs.FirstBytes.{First, startsSymbol, first-more, first-is, first-as, leads, start-leads, symbol-leads, no-blank}
 use Rattle.claims.proofs.ScalarBack.{no-symbol, marker-first, marker-symbol, scalar-told}

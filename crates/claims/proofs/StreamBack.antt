@@ -17,8 +17,7 @@ use Rattle.tape.specs.Fine.{FineScalar, FineHead, FineMarker, Inner, Fine, Fine
 use Rattle.tape.specs.declared.Frame.{Frame}
 use Rattle.tape.specs.declared.Frame.the-variants.{Top, List as ListF, Sexp, Struct}
 use Rattle.reader.specs.Grammar.{skip, opener, opens, closes, comma, gap, head, free, scalar as scalarOf, body, sequence, meaning}
-use Rattle.writer.specs.Text.{symText, scalarText, nameText, opening, closing, separator, broken, deeper, blanks, text, texts, streamText}
-use Rattle.tree.specs.Text.{notesText}
+use Rattle.writer.specs.Text.{symText, scalarText, nameText, notesText, opening, closing, separator, broken, deeper, blanks, text, texts, streamText}
 use Rattle.text_rules.proofs.DigitLaws.{never}
 use Rattle.claims.proofs.FirstBytes.{First, startsSymbol, first-more, other, leads, no-blank, no-end, word-opens}
 use Rattle.claims.proofs.ScalarBack.{scalar-told, scalar-long, marker-back, marker-first}

@@ -22,9 +22,9 @@ use Rattle.tape.specs.declared.Frame.{Frame}
 use Rattle.tape.specs.declared.Frame.the-variants.{Top, List as ListF, Sexp, Struct}
 use Rattle.reader.specs.Grammar.{skip, opener, opens, closes, free, body, sequence, meaning}
 use Rattle.reader.specs.Outcome.{answer, leaves}
-use Rattle.writer.specs.Text.{scalarText, nameText, opening, closing, separator}
+use Rattle.writer.specs.Text.{scalarText, nameText, notesText, opening, closing, separator}
 use Rattle.writer.specs.Outcome.{measured}
-use Rattle.tree.specs.Text.{notesText, lead, element, elements, treeText}
+use Rattle.tree.specs.Text.{lead, element, elements, treeText}
 use Rattle.tree.specs.Outcome.{unsuited, refusal, written}
 use Rattle.tape.proofs.FineBack.{tape-fine}
 use Rattle.tape.proofs.Accepted.{tape-accepted, tape-nodes}

@@ -76,7 +76,7 @@ module _ (d : ℕ) (k : Frame) (s : List ℕ) (at e : ℕ) (nz : d ≡ 0 → ⊥
   bad-turn c = walk-bad k d (part s at e) nz some-left (c .told)
 
   -- behind a child without a body the rest of the nodes starts at r
-  single-step : (n : Node) (r : ℕ) → at < r → childOf k (part s at e) ≡ single (headAt k (part s at e)) n (r - at)
+  pub single-step : (n : Node) (r : ℕ) → at < r → childOf k (part s at e) ≡ single (headAt k (part s at e)) n (r - at)
       → walk d k (part s at e) ≡ join (headAt k (part s at e)) n (fault n) (walk d k (part s r e))
   single-step n r g c =
       let y : at + (r - at) ≡ r = omega arith in

@@ -330,7 +330,7 @@ fn clob_at(tape: &[u8], at: usize, end: usize) -> Scanned
     Scanned::Is(Scalar::Clob(n))
 }
 
-fn scalar_at(tape: &[u8], at: usize, end: usize) -> Scanned
+pub fn scalar_at(tape: &[u8], at: usize, end: usize) -> Scanned
     requires { ⌜ at ≤ end ⌝ }
     requires { ⌜ end ≤ length (now tape) ⌝ }
     ensures { λ r. ⌜ scanned r (part (now (tape .entry)) at end) ≡ scalarOf (part (now (tape .entry)) at end) ⌝ }
@@ -370,7 +370,7 @@ fn scalar_at(tape: &[u8], at: usize, end: usize) -> Scanned
 }
 
 // How many bytes a scalar takes.
-fn size_of(s: Scalar) -> usize
+pub fn size_of(s: Scalar) -> usize
     requires { ⌜ sizeOf s < 18446744073709551616 ⌝ }
     ensures { λ r. ⌜ r ≡ sizeOf s ⌝ }
 {
@@ -473,7 +473,7 @@ fn syms_end(tape: &[u8], at: usize, end: usize, n: u8) -> Place
     Place::At(p)
 }
 
-fn notes_end(tape: &[u8], at: usize, end: usize) -> Place
+pub fn notes_end(tape: &[u8], at: usize, end: usize) -> Place
     requires { ⌜ at ≤ end ⌝ }
     requires { ⌜ end ≤ length (now tape) ⌝ }
     ensures { λ r. ⌜ r ≡ placeOf at (notesOf (part (now (tape .entry)) at end)) ⌝ }

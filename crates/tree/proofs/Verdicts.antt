@@ -18,6 +18,7 @@ use Rattle.tape.specs.Bytes.{part, first}
 use Rattle.tape.specs.Tree.{Scalar, Head, Nodes, scalar, marker, nil, more, size}
 use Rattle.tape.specs.Tape.{past, kind, lengthOf, nameOf, headOf, scalarOf, Value, absent, leaf, body, openOf, valueOf, Child, bad, single, tree, free, behind, childOf, Walked, turn, level, walk, bodyOf, nodesOf}
 use Rattle.tape.specs.Verdict.{verdict}
+use Rattle.tape.specs.Fine.{Bytes}
 use Rattle.tape.specs.Refusal.{numbereds}
 use Rattle.tape.specs.Answer.{counted, refused}
 use Rattle.tape.specs.declared.Frame.{Frame}
@@ -26,9 +27,12 @@ use Rattle.tape.proofs.Reading.{if-all}
 use Rattle.tape.proofs.Walking.{walk-end}
 use Rattle.tape.proofs.CodeReading.{value-marker, notes-none}
 use Rattle.tape.proofs.CodeFacts.{first-inner}
+use Rattle.tape.proofs.FineBack.{tape-fine}
+use Rattle.writer.specs.Steps.{items}
 use Rattle.writer.proofs.Verdicts.{answered-refused, left-kept, wrote-laid, wrote-counted, wrote-clipped, nodes-walked}
-use Rattle.tree.specs.Text.{elements, treeText}
+use Rattle.tree.specs.Text.{treeText}
 use Rattle.tree.specs.Outcome.{isMarker, unsuited, refusal, written, leaves}
+use Rattle.tree.proofs.Texts.{items-tree}
 
 -- ---- the first node is the marker exactly where the first byte is 14
 
@@ -195,10 +199,10 @@ module _ (t : List ℕ) (f : ℕ) (nz : f ≡ 0 → ⊥) (e : refusal t ≡ f) w
   unfolding leaves
   kept-by b = rw e (left-kept f nz _ b)
 
-module _ (t b b′ : List ℕ) (r : ℕ) (e : refusal t ≡ 0) (w : Wrote b b′ 0 r (elements false Top (walk 65 Top (part t 0 (length t - 8)) .0))) where
+module _ (t b b′ : List ℕ) (r : ℕ) (m : Bytes t) (v : verdict t ≡ 0) (o : size (bodyOf t .0) ≡ 1) (e : refusal t ≡ 0) (w : Wrote b b′ 0 r (items 3 Top 0 (walk 65 Top (part t 0 (length t - 8)) .0))) where
   whole : Wrote b b′ 0 r (treeText (nodesOf t))
-  unfolding treeText
-  whole = subst (λ (ns : Nodes). Wrote b b′ 0 r (elements false Top ns)) (nodes-walked t) w
+  unfolding nodesOf
+  whole = subst (Wrote b b′ 0 r) (ap (items 3 Top 0) (nodes-walked t) ∙ items-tree 64 (nodesOf t) (tape-fine t m v) o) w
 
   pub laid-by : b′ ≡ leaves t b
   unfolding leaves

@@ -3,16 +3,10 @@ use Prim.Native.Nat.{ℕ}
 use mathlib.Core.List.{List, [], _∷_, _++_}
 use mathlib.Core.Bool.{Bool, true, false}
 use Rattle.output.specs.Logic.{ascii}
-use Rattle.text_rules.specs.Text.{Sym}
 use Rattle.tape.specs.Tree.{Node, Nodes, scalar, nest, marker, nil, more}
 use Rattle.tape.specs.declared.Frame.{Frame}
 use Rattle.tape.specs.declared.Frame.the-variants.{Top}
-use Rattle.writer.specs.Text.{symText, scalarText, nameText, opening, closing, separator}
-
--- annotations `a::`
-unfoldable pub notesText : List Sym → List ℕ
-notesText [] = []
-notesText (s ∷ ss) = symText s ++ ascii "::" ++ notesText ss
+use Rattle.writer.specs.Text.{scalarText, nameText, notesText, opening, closing, separator}
 
 -- a separator stands before every child but the first: `, ` in lists and structs, a blank in sexps, as in Compact
 unfoldable pub lead : Bool → Frame → List ℕ

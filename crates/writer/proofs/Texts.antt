@@ -1,25 +1,19 @@
--- The text of names, of text nodes and of a walk's turns. Assumes nothing.
+-- The text of names and of text nodes. Assumes nothing.
 use Prim.Native.Nat.{ℕ, zero, suc, _+_, _-_, _<_, _≤_}
 use mathlib.Core.Path.{_≡_, refl, sym, ap, _∙_}
-use mathlib.Core.List.{List, [], _∷_, _++_, append-assoc}
+use mathlib.Core.List.{List}
 use mathlib.Core.Option.{Option, none, some}
 use native.Mathlib.Omega.{arith}
 use lib.ListN.{length, take, drop}
-use Rattle.output.specs.Logic.{ascii}
 use Rattle.text_rules.specs.Text.{Sym}
 use Rattle.tape.specs.Bytes.{part}
-use Rattle.tape.specs.Tree.{Scalar, Head, Node, Nodes, symbol, scalar, nest, marker, nil, more, encodeSym}
-use Rattle.tape.specs.Tape.{past, symOf, nameOf, notesOf, headOf, symbolOf, Walked, join, walk}
-use Rattle.tape.specs.Steps.{meantScalar, sizeOf, scanned, headAt}
+use Rattle.tape.specs.Tree.{Head, encodeSym}
+use Rattle.tape.specs.Tape.{past, symOf, nameOf, notesOf, headOf}
 use Rattle.tape.specs.declared.Frame.{Frame}
 use Rattle.tape.specs.declared.Frame.the-variants.{Struct}
-use Rattle.tape.specs.declared.Scalar.{Scalar as ScalarC}
-use Rattle.tape.specs.declared.Scanned.the-variants.{Bad as NoScalar, Is}
 use Rattle.tape.proofs.Parts.{part-length}
-use Rattle.tape.proofs.Reading.{Sound, something, nothing, sym-sound}
+use Rattle.tape.proofs.Reading.{Sound, something, sym-sound}
 use Rattle.tape.proofs.CodeFacts.{part-text}
-use Rattle.tape.proofs.Turns.{LeafTurn, MarkerTurn, TreeTurn}
-use Rattle.writer.specs.Text.{symText, scalarText, nameText, opening, closing, separator, broken, deeper, blanks, text, texts}
 use Rattle.writer.specs.Steps.{nameIn}
 
 -- ---- text nodes
@@ -62,40 +56,3 @@ name-head k l h m e = go (nameOf k l) e
         → past {B = Option Sym} o none (λ a n. a) ≡ h .0
     go none e = let z : _≡_ {A = ℕ} 0 1 = cc in absurd (omega arith)
     go (some (a, n)) e = behind a n (notesOf (drop n l)) e
-
--- ---- a turn: the text of the child at a place, and the text of the children behind it
-
-module _ (y : ℕ) (k : Frame) (w : ℕ) (d : ℕ) (s : List ℕ) (at e : ℕ) where
-  abbrev front : Option Sym → List ℕ
-  front a = blanks w ++ nameText a
-
-  -- the text of the children from a place on
-  abbrev left : ℕ → List ℕ
-  left p = texts y k w (walk d k (part s p e) .0)
-
-  pub text-leaf : (p : ℕ) (x : ScalarC) (r : ℕ) → LeafTurn d k s at e p x r
-      → left at ≡ (blanks w ++ nameText (nameIn k (part s at e)) ++ scalarText (meantScalar x (part s p e)) ++ separator y k) ++ left r
-  unfolding texts text
-  text-leaf p x r u =
-      ap (λ (v : Walked). texts y k w (v .0)) (u .step)
-      ∙ ap (λ (a : Option Sym). (front a ++ scalarText (meantScalar x (part s p e)) ++ separator y k) ++ left r) (sym (name-head k _ _ _ (u .read)))
-
-  pub text-marker : (r : ℕ) → MarkerTurn d k s at e r → left at ≡ (blanks w ++ nameText (nameIn k (part s at e)) ++ ascii "$ion_1_0" ++ separator y k) ++ left r
-  unfolding texts text
-  text-marker r u =
-      ap (λ (v : Walked). texts y k w (v .0)) (u .step)
-      ∙ ap (λ (a : Option Sym). (front a ++ ascii "$ion_1_0" ++ separator y k) ++ left r) (sym (name-head k _ _ _ (u .read)))
-
-  -- a container is written in three parts
-  glue : (F O B I W C S : List ℕ) → (F ++ (O ++ B ++ I ++ W ++ C)) ++ S ≡ ((F ++ (O ++ B)) ++ I) ++ (W ++ C ++ S)
-  glue F O B I W C S = simp append-assoc
-
-  pub text-tree : (f : Frame) (q r : ℕ) → TreeTurn d k s at e f q r
-      → left at
-      ≡ ((blanks w ++ nameText (nameIn k (part s at e)) ++ (opening f ++ broken y)) ++ texts y f (deeper y w) (walk (d - 1) f (part s q r) .0) ++ (blanks w ++ closing f ++ separator y k)) ++ left r
-  unfolding texts text
-  text-tree f q r u =
-      let i : List ℕ = texts y f (deeper y w) (walk (d - 1) f (part s q r) .0) in
-      ap (λ (v : Walked). texts y k w (v .0)) (u .step)
-      ∙ ap (λ (a : Option Sym). (front a ++ (opening f ++ broken y ++ i ++ blanks w ++ closing f) ++ separator y k) ++ left r) (sym (name-head k _ _ _ (u .read)))
-      ∙ ap (λ (x : List ℕ). x ++ left r) (glue (front (nameIn k (part s at e))) (opening f) (broken y) i (blanks w) (closing f) (separator y k))

@@ -8,7 +8,7 @@ use native.Mathlib.Omega.{arith}
 use lib.Dec.{leb, ltb, eqb}
 use lib.Ieee.{Float, binary64, toBits, isNan}
 use lib.ListN.{length, take, drop}
-use borrow.Author.Tests.{lt-ltb, le-ltb, le-leb, lt-leb}
+use borrow.Author.Tests.{lt-ltb, le-ltb, le-leb, lt-leb, ne-eqb}
 use Rattle.output.specs.Logic.{if}
 use Rattle.output.specs.Wrote.{Wrote, limit}
 use Rattle.output.proofs.Laws.{sets-front}
@@ -24,8 +24,11 @@ use Rattle.tape.specs.Answer.{Outcome, counted, refused}
 use Rattle.tape.specs.declared.Frame.{Frame}
 use Rattle.tape.specs.declared.Frame.the-variants.{Top}
 use Rattle.tape.proofs.CodeFacts.{first-inner}
-use Rattle.writer.specs.Text.{texts, streamText}
+use Rattle.tape.proofs.Walking.{verdict-told}
+use Rattle.writer.specs.Text.{streamText}
+use Rattle.writer.specs.Steps.{items}
 use Rattle.writer.specs.Outcome.{laid, refusal, measured, answered, left, streamed, leaves}
+use Rattle.writer.proofs.Items.{items-texts}
 
 -- ---- a tape's own refusal is at most 4
 
@@ -179,9 +182,17 @@ module _ {s b b′ : List ℕ} {r : ℕ} (w : Wrote b b′ 0 r s) where
       rw (lt-leb (length s) (length b) (omega arith))
 
 -- the nodes that a writer walks are the tape's
+walked : (t : List ℕ) → walk 65 Top (part t 0 (length t - 8)) ≡ bodyOf t
+unfolding bodyOf
+walked t = let n : length t - 8 - 0 ≡ length t - 8 = omega arith in ap (λ (i : ℕ). walk 65 Top (take i t)) n
+
 pub nodes-walked : (t : List ℕ) → walk 65 Top (part t 0 (length t - 8)) .0 ≡ nodesOf t
-unfolding nodesOf bodyOf
-nodes-walked t = let n : length t - 8 - 0 ≡ length t - 8 = omega arith in ap (λ (i : ℕ). walk 65 Top (take i t) .0) n
+unfolding nodesOf
+nodes-walked t = ap (λ (w : Walked). w .0) (walked t)
+
+-- and nothing is wrong with them
+pub fine-walked : (t : List ℕ) → verdict t ≡ 0 → walk 65 Top (part t 0 (length t - 8)) .1 ≡ 0
+fine-walked t v = ap (λ (w : Walked). w .1) (walked t) ∙ verdict-told t v .nodes
 
 -- ---- of a streaming text
 
@@ -194,10 +205,10 @@ module _ (y : ℕ) (t : List ℕ) (f : ℕ) (nz : f ≡ 0 → ⊥) (e : refusal 
   unfolding leaves
   kept-by b = rw e (left-kept f nz _ b)
 
-module _ (y : ℕ) (t b b′ : List ℕ) (r : ℕ) (e : refusal y t ≡ 0) (w : Wrote b b′ 0 r (texts y Top 0 (walk 65 Top (part t 0 (length t - 8)) .0))) where
+module _ (y : ℕ) (t b b′ : List ℕ) (r : ℕ) (l : y ≤ 2) (e : refusal y t ≡ 0) (w : Wrote b b′ 0 r (items y Top 0 (walk 65 Top (part t 0 (length t - 8)) .0))) where
   stream : Wrote b b′ 0 r (streamText y (nodesOf t))
   unfolding streamText
-  stream = subst (λ (ns : Nodes). Wrote b b′ 0 r (texts y Top 0 ns)) (nodes-walked t) w
+  stream = subst (Wrote b b′ 0 r) (ap (items y Top 0) (nodes-walked t) ∙ items-texts y (ne-eqb y 3 (λ q. omega arith)) Top 0 (nodesOf t)) w
 
   pub laid-by : b′ ≡ leaves y t b
   unfolding leaves

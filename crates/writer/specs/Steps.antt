@@ -1,11 +1,81 @@
--- What the contracts of the writer's parts name. Assumes nothing: these are definitions.
-use mathlib.Core.List.{List}
+-- What the contracts of the writer's parts name: one walk writes the streaming texts, whose layouts are 0, 1 and 2, and the tree text, which is
+-- its layout 3. Assumes nothing: these are definitions.
+use Prim.Native.Nat.{ℕ, _+_}
+use mathlib.Core.List.{List, [], _++_}
+use mathlib.Core.Bool.{Bool, true, false}
 use mathlib.Core.Option.{Option, none}
-use Prim.Native.Nat.{ℕ}
+use lib.Dec.{eqb}
+use lib.ListN.{take, drop}
+use Rattle.output.specs.Logic.{if, ascii}
 use Rattle.text_rules.specs.Text.{Sym}
-use Rattle.tape.specs.Tape.{past, nameOf}
+use Rattle.tape.specs.Tree.{Scalar, Head, Node, Nodes, scalar, nest, marker, nil, more}
+use Rattle.tape.specs.Tape.{past, nameOf, notesOf, Value, absent, leaf, body, valueOf, walk}
 use Rattle.tape.specs.declared.Frame.{Frame}
+use Rattle.tape.specs.declared.Frame.the-variants.{List as ListF, Sexp, Struct}
+use Rattle.writer.specs.Text.{scalarText, nameText, notesText, opening, closing, separator, broken, deeper, blanks}
 
 -- the name of the child that the bytes l start with, if it has one
 abbrev pub nameIn : Frame → List ℕ → Option Sym
 nameIn k l = past (nameOf k l) none (λ a n. a)
+
+-- the annotations that the bytes l start with
+abbrev pub notesIn : List ℕ → List Sym
+notesIn l = past (notesOf l) [] (λ ss n. ss)
+
+-- how many bytes were read
+abbrev pub taken : {A : Type 0} → Option (A × ℕ) → ℕ
+taken o = past o 0 (λ a n. n)
+
+-- the frame of a container by its kind byte: 10 list, 11 sexp, 12 struct
+unfoldable pub frameOf : ℕ → Frame
+frameOf k = if (eqb k 10) ListF (if (eqb k 11) Sexp Struct)
+
+-- what stands before a value: blanks, its name, and in the tree text its annotations
+unfoldable pub front : ℕ → ℕ → Head → List ℕ
+front y w h = blanks w ++ nameText (h .0) ++ if (eqb y 3) (notesText (h .1)) []
+
+-- what follows a child: a separator, but nothing behind the last child in the tree text
+unfoldable pub ending : ℕ → Frame → Bool → List ℕ
+ending y k last = if (if (eqb y 3) last false) [] (separator y k)
+
+abbrev pub isNil : Nodes → Bool
+isNil nil = true
+isNil (more h n ns) = false
+
+-- the text of a node before which w blanks stand, and that of the nodes of a body
+unfoldable mutual
+  pub item : ℕ → ℕ → Node → List ℕ
+  item y w (scalar s) = scalarText s
+  item y w (nest k ns) = (opening k ++ broken y) ++ items y k (deeper y w) ns ++ (blanks w ++ closing k)
+  item y w marker = ascii "$ion_1_0"
+
+  pub items : ℕ → Frame → ℕ → Nodes → List ℕ
+  items y k w nil = []
+  items y k w (more h n ns) = (front y w h ++ (item y w n ++ ending y k (isNil ns))) ++ items y k w ns
+
+-- ---- the value that the bytes l start with, where a marker may stand too; d: how many bodies may be opened
+
+abbrev pub nodeIs : ℕ → List ℕ → Value → Node
+nodeIs d l absent = marker
+nodeIs d l (leaf n m) = n
+nodeIs d l (body k m) = nest k (walk d k (take m (drop 5 l)) .0)
+
+abbrev pub sizeIs : Value → ℕ
+sizeIs absent = 0
+sizeIs (leaf n m) = m
+sizeIs (body k m) = 5 + m
+
+-- 2 where no value is whole, else what is wrong in a container
+abbrev pub problemIs : ℕ → List ℕ → Value → ℕ
+problemIs d l absent = 2
+problemIs d l (leaf n m) = 0
+problemIs d l (body k m) = walk d k (take m (drop 5 l)) .1
+
+unfoldable pub nodeAt : ℕ → List ℕ → Node
+nodeAt d l = nodeIs d l (valueOf true l)
+
+unfoldable pub sizeAt : List ℕ → ℕ
+sizeAt l = sizeIs (valueOf true l)
+
+unfoldable pub problemAt : ℕ → List ℕ → ℕ
+problemAt d l = problemIs d l (valueOf true l)

@@ -37,6 +37,11 @@ unfoldable pub nameText : Option Sym → List ℕ
 nameText none = []
 nameText (some s) = symText s ++ ascii ": "
 
+-- annotations `a::`, in the tree text alone
+unfoldable pub notesText : List Sym → List ℕ
+notesText [] = []
+notesText (s ∷ ss) = symText s ++ ascii "::" ++ notesText ss
+
 unfoldable pub opening : Frame → List ℕ
 opening Top = []
 opening ListF = ascii "["

@@ -5,24 +5,36 @@ ghost use Prim.Native.Nat.{_+_, _*_, _<_, _≤_};
 ghost use lib.ListN.{length, take, drop};
 ghost use Rattle.output.specs.Wrote.{Wrote, limit};
 ghost use Rattle.tape.specs.Bytes.{part};
-ghost use Rattle.tape.specs.Tape.{walk};
-ghost use Rattle.tape.specs.Steps.{meantScalar, sizeOf};
-ghost use Rattle.output.specs.Logic.{ascii};
-ghost use Rattle.writer.specs.Text.{scalarText, nameText, blanks, opening, broken, closing, separator, texts};
+ghost use mathlib.Core.Option.{some};
+ghost use mathlib.Core.Bool.{false};
+ghost use lib.Dec.{eqb};
+ghost use mathlib.Core.List.{[]};
+ghost use Rattle.tape.specs.Tape.{past, notesOf, headOf, scalarOf, walk};
+ghost use Rattle.tape.specs.Steps.{placeOf, meantScalar, sizeOf, headAt};
+ghost use Rattle.tape.specs.declared.Place.the-variants.{At};
+ghost use Rattle.output.specs.Logic.{if, ascii};
+ghost use Rattle.writer.specs.Text.{scalarText, nameText, notesText, blanks, closing};
 ghost use Rattle.text_rules.specs.Text.{symbolText, stringText, clobText};
 ghost use Rattle.tape.specs.declared.Frame.the-variants.{Struct};
-ghost use Rattle.writer.specs.Steps.{nameIn};
+ghost use Rattle.writer.specs.Steps.{nameIn, notesIn, taken, frameOf, front, ending, item, items, nodeAt, sizeAt, problemAt};
 use crate::whitespace_config;
-use tape::Child;
 use tape::Frame;
+use tape::Place;
 use tape::Scalar;
+use tape::Scanned;
 use tape::Symbol;
 use text_rules::text_formatter;
+
+// Where writing and reading stand: the next position of the buffer, and the next place of the tape.
+pub struct Step {
+    pub pos: usize,
+    pub at: usize,
+}
 
 // ---- scalars
 
 // The symbol, string or clob of n bytes whose node stands at a place: its bytes start 5 behind the kind byte.
-pub fn write_symbol_text(
+fn write_symbol_text(
     buf: &mut [u8],
     pos: usize,
     tape: &[u8],
@@ -63,14 +75,7 @@ fn write_clob(buf: &mut [u8], pos: usize, tape: &[u8], at: usize, n: usize, end:
 }
 
 // The scalar s, whose node stands at a place.
-pub fn write_scalar(
-    buf: &mut [u8],
-    pos: usize,
-    tape: &[u8],
-    at: usize,
-    end: usize,
-    s: Scalar,
-) -> usize
+fn write_scalar(buf: &mut [u8], pos: usize, tape: &[u8], at: usize, end: usize, s: Scalar) -> usize
     requires { ⌜ pos ≤ limit ⌝ }
     requires { ⌜ at + sizeOf s ≤ end ⌝ }
     requires { ⌜ end ≤ length (now tape) ⌝ }
@@ -122,7 +127,7 @@ fn write_name(buf: &mut [u8], pos: usize, tape: &[u8], at: usize, end: usize) ->
 }
 
 // A field's name, where the child at a place has one.
-pub fn encode_field_name(
+fn encode_field_name(
     buf: &mut [u8],
     pos: usize,
     tape: &[u8],
@@ -143,7 +148,56 @@ pub fn encode_field_name(
     }
 }
 
-// What stands before the value of the child at a place: blanks, and its name.
+// What ends an annotation.
+fn write_colons(buf: &mut [u8], pos: usize) -> usize
+    ensures { λ r. ⌜ Wrote (now (buf .entry)) (now (buf .exit)) pos r (ascii "::") ⌝ }
+{
+    let p = output::put(buf, pos, b':');
+    output::put(buf, p, b':')
+}
+
+// The annotations at a place; the value behind them stands at `value`.
+fn write_notes(
+    buf: &mut [u8],
+    pos: usize,
+    tape: &[u8],
+    at: usize,
+    end: usize,
+    value: usize,
+) -> usize
+    requires { ⌜ pos ≤ limit ⌝ }
+    requires { ⌜ at ≤ end ⌝ }
+    requires { ⌜ end ≤ length (now tape) ⌝ }
+    requires { ⌜ placeOf at (notesOf (part (now tape) at end)) ≡ At value ⌝ }
+    ensures { λ r. ⌜ Wrote (now (buf .entry)) (now (buf .exit)) pos r (notesText (notesIn (part (now (tape .entry)) at end))) ⌝ }
+{
+    if at == value {
+        return pos;
+    }
+    let mut p = pos;
+    let mut from = at + 2;
+    while from < value {
+        let s = tape::sym_at(tape, from, end);
+        match s {
+            Symbol::Bad => {
+                return p;
+            }
+            Symbol::Text(n) => {
+                p = write_symbol_text(buf, p, tape, from, n, end);
+                p = write_colons(buf, p);
+                from = from + (5 + n);
+            }
+            Symbol::Id(i) => {
+                p = text_formatter::format_symbol_id(buf, p, i);
+                p = write_colons(buf, p);
+                from = from + 5;
+            }
+        }
+    }
+    p
+}
+
+// What stands before the value of the child at a place: blanks, its name, and in the tree text its annotations.
 fn write_front(
     buf: &mut [u8],
     pos: usize,
@@ -151,103 +205,132 @@ fn write_front(
     at: usize,
     end: usize,
     frame: Frame,
+    layout: u32,
     width: usize,
-) -> usize
+) -> Step
     requires { ⌜ pos ≤ limit ⌝ }
     requires { ⌜ at ≤ end ⌝ }
     requires { ⌜ end ≤ length (now tape) ⌝ }
-    ensures { λ r. ⌜ Wrote (now (buf .entry)) (now (buf .exit)) pos r (blanks width ++ nameText (nameIn frame (part (now (tape .entry)) at end))) ⌝ }
+    requires { ⌜ headOf frame (part (now tape) at end) ≡ some (headAt frame (part (now tape) at end), taken (headOf frame (part (now tape) at end))) ⌝ }
+    ensures text { λ r. ⌜ Wrote (now (buf .entry)) (now (buf .exit)) pos (r .pos) (front layout width (headAt frame (part (now (tape .entry)) at end))) ⌝ }
+    ensures place { λ r. ⌜ r .at ≡ at + taken (headOf frame (part (now (tape .entry)) at end)) ⌝ }
+{
+    let o = output::put_repeated(buf, pos, b' ', width);
+    let p = encode_field_name(buf, o, tape, at, end, frame);
+    let Place::At(from) = tape::name_end(tape, at, end, frame) else {
+        return Step { pos: p, at };
+    };
+    let Place::At(value) = tape::notes_end(tape, from, end) else {
+        return Step { pos: p, at };
+    };
+    if layout == 3 {
+        let q = write_notes(buf, p, tape, from, end, value);
+        return Step { pos: q, at: value };
+    }
+    Step { pos: p, at: value }
+}
+
+// Whether nothing follows a child: in the tree text, behind the last.
+fn ends_bare(layout: u32, last: bool) -> bool
+    ensures { λ r. ⌜ r ≡ if (eqb layout 3) last false ⌝ }
+{
+    if layout != 3 {
+        return false;
+    }
+    last
+}
+
+// What follows a child; `last`: no other follows it.
+fn write_ending(buf: &mut [u8], pos: usize, layout: u32, frame: Frame, last: bool) -> usize
+    requires { ⌜ pos ≤ limit ⌝ }
+    ensures { λ r. ⌜ Wrote (now (buf .entry)) (now (buf .exit)) pos r (ending layout frame last) ⌝ }
+{
+    if ends_bare(layout, last) {
+        return pos;
+    }
+    whitespace_config::write_separator(buf, pos, layout, frame)
+}
+
+// The scalar at a place.
+fn write_leaf(buf: &mut [u8], pos: usize, tape: &[u8], at: usize, end: usize) -> Step
+    requires { ⌜ pos ≤ limit ⌝ }
+    requires { ⌜ at ≤ end ⌝ }
+    requires { ⌜ end ≤ length (now tape) ⌝ }
+    ensures text { λ r. ⌜ Wrote (now (buf .entry)) (now (buf .exit)) pos (r .pos) (past (scalarOf (part (now (tape .entry)) at end)) [] (λ s n. scalarText s)) ⌝ }
+    ensures place { λ r. ⌜ r .at ≡ at + taken (scalarOf (part (now (tape .entry)) at end)) ⌝ }
+{
+    let Scanned::Is(s) = tape::scalar_at(tape, at, end) else {
+        return Step { pos, at };
+    };
+    let p = write_scalar(buf, pos, tape, at, end, s);
+    Step {
+        pos: p,
+        at: at + tape::size_of(s),
+    }
+}
+
+// The frame of a container by its kind byte.
+fn frame_of(k: u8) -> Frame
+    ensures { λ r. ⌜ r ≡ frameOf k ⌝ }
+{
+    if k == 10 {
+        return Frame::List;
+    }
+    if k == 11 {
+        return Frame::Sexp;
+    }
+    Frame::Struct
+}
+
+// What follows the last child of a container.
+fn write_close(buf: &mut [u8], pos: usize, width: usize, frame: Frame) -> usize
+    requires { ⌜ pos ≤ limit ⌝ }
+    ensures { λ r. ⌜ Wrote (now (buf .entry)) (now (buf .exit)) pos r (blanks width ++ closing frame) ⌝ }
 {
     let p = output::put_repeated(buf, pos, b' ', width);
-    encode_field_name(buf, p, tape, at, end, frame)
+    whitespace_config::write_end(buf, p, frame)
 }
 
-// The child at a place that is the scalar s, whose node stands at `value`.
-fn write_leaf(
-    buf: &mut [u8],
-    pos: usize,
+// ---- values and the nodes of a body, where nothing is wrong with them
+
+// The value at a place, before which `width` blanks stand. A body is opened while `depth` more may be.
+fn write_value(
     tape: &[u8],
     at: usize,
     end: usize,
-    frame: Frame,
+    depth: usize,
     layout: u32,
     width: usize,
-    value: usize,
-    s: Scalar,
-) -> usize
-    requires { ⌜ pos ≤ limit ⌝ }
-    requires { ⌜ at ≤ end ⌝ }
-    requires { ⌜ end ≤ length (now tape) ⌝ }
-    requires { ⌜ value + sizeOf s ≤ end ⌝ }
-    ensures { λ r. ⌜ Wrote (now (buf .entry)) (now (buf .exit)) pos r (blanks width ++ nameText (nameIn frame (part (now (tape .entry)) at end)) ++ scalarText (meantScalar s (part (now (tape .entry)) value end)) ++ separator layout frame) ⌝ }
-{
-    let p = write_front(buf, pos, tape, at, end, frame, width);
-    let q = write_scalar(buf, p, tape, value, end, s);
-    whitespace_config::write_separator(buf, q, layout, frame)
-}
-
-// The child at a place that is a version marker.
-fn write_marker(
     buf: &mut [u8],
     pos: usize,
-    tape: &[u8],
-    at: usize,
-    end: usize,
-    frame: Frame,
-    layout: u32,
-    width: usize,
-) -> usize
-    requires { ⌜ pos ≤ limit ⌝ }
+) -> Step
     requires { ⌜ at ≤ end ⌝ }
     requires { ⌜ end ≤ length (now tape) ⌝ }
-    ensures { λ r. ⌜ Wrote (now (buf .entry)) (now (buf .exit)) pos r (blanks width ++ nameText (nameIn frame (part (now (tape .entry)) at end)) ++ ascii "$ion_1_0" ++ separator layout frame) ⌝ }
-{
-    let p = write_front(buf, pos, tape, at, end, frame, width);
-    let q = output::put_bytes(buf, p, b"$ion_1_0");
-    whitespace_config::write_separator(buf, q, layout, frame)
-}
-
-// The child at a place that is a container of the kind `inner`, up to its first child.
-fn write_open(
-    buf: &mut [u8],
-    pos: usize,
-    tape: &[u8],
-    at: usize,
-    end: usize,
-    frame: Frame,
-    layout: u32,
-    width: usize,
-    inner: Frame,
-) -> usize
     requires { ⌜ pos ≤ limit ⌝ }
-    requires { ⌜ at ≤ end ⌝ }
-    requires { ⌜ end ≤ length (now tape) ⌝ }
-    ensures { λ r. ⌜ Wrote (now (buf .entry)) (now (buf .exit)) pos r (blanks width ++ nameText (nameIn frame (part (now (tape .entry)) at end)) ++ (opening inner ++ broken layout)) ⌝ }
+    requires { ⌜ 2 * depth + width ≤ 128 ⌝ }
+    requires { ⌜ problemAt depth (part (now tape) at end) ≡ 0 ⌝ }
+    ensures text { λ r. ⌜ Wrote (now (buf .entry)) (now (buf .exit)) pos (r .pos) (item layout width (nodeAt depth (part (now (tape .entry)) at end))) ⌝ }
+    ensures place { λ r. ⌜ r .at ≡ at + sizeAt (part (now (tape .entry)) at end) ⌝ }
 {
-    let p = write_front(buf, pos, tape, at, end, frame, width);
-    whitespace_config::write_start(buf, p, layout, inner)
+    let k = tape[at];
+    if k < 10 {
+        return write_leaf(buf, pos, tape, at, end);
+    }
+    if k == 14 {
+        let p = output::put_bytes(buf, pos, b"$ion_1_0");
+        return Step { pos: p, at: at + 1 };
+    }
+    let inner = frame_of(k);
+    let start = at + 5;
+    let stop = start + tape::u32_at(tape, at + 1) as usize;
+    let p = whitespace_config::write_start(buf, pos, layout, inner);
+    let deeper = whitespace_config::indentation(layout, width);
+    let q = write_nodes(tape, start, stop, inner, depth, layout, deeper, buf, p);
+    let r = write_close(buf, q, width, inner);
+    Step { pos: r, at: stop }
 }
 
-// What follows the last child of a container of the kind `inner`.
-fn write_close(
-    buf: &mut [u8],
-    pos: usize,
-    frame: Frame,
-    layout: u32,
-    width: usize,
-    inner: Frame,
-) -> usize
-    requires { ⌜ pos ≤ limit ⌝ }
-    ensures { λ r. ⌜ Wrote (now (buf .entry)) (now (buf .exit)) pos r (blanks width ++ closing inner ++ separator layout frame) ⌝ }
-{
-    let from = output::put_repeated(buf, pos, b' ', width);
-    let p = whitespace_config::write_end(buf, from, inner);
-    whitespace_config::write_separator(buf, p, layout, frame)
-}
-
-// ---- the nodes of a body
-
-// The text of the nodes of a body, with `width` blanks before each, up to a structural problem. A body is opened while `depth` more may be.
+// The nodes of a body, with `width` blanks before each. This body and those inside it are `depth` at most.
 pub fn write_nodes(
     tape: &[u8],
     from: usize,
@@ -263,7 +346,8 @@ pub fn write_nodes(
     requires { ⌜ end ≤ length (now tape) ⌝ }
     requires { ⌜ pos ≤ limit ⌝ }
     requires { ⌜ 2 * depth + width ≤ 130 ⌝ }
-    ensures { λ r. ⌜ Wrote (now (buf .entry)) (now (buf .exit)) pos r (texts layout frame width (walk depth frame (part (now (tape .entry)) from end) .0)) ⌝ }
+    requires { ⌜ walk depth frame (part (now tape) from end) .1 ≡ 0 ⌝ }
+    ensures { λ r. ⌜ Wrote (now (buf .entry)) (now (buf .exit)) pos r (items layout frame width (walk depth frame (part (now (tape .entry)) from end) .0)) ⌝ }
 {
     if depth == 0 {
         return pos;
@@ -271,27 +355,10 @@ pub fn write_nodes(
     let mut at = from;
     let mut p = pos;
     while at < end {
-        let c = tape::child_at(tape, at, end, frame);
-        match c {
-            Child::Bad => {
-                return p;
-            }
-            Child::Leaf(value, s, next) => {
-                p = write_leaf(buf, p, tape, at, end, frame, layout, width, value, s);
-                at = next;
-            }
-            Child::Marker(next) => {
-                p = write_marker(buf, p, tape, at, end, frame, layout, width);
-                at = next;
-            }
-            Child::Open(f, start, stop) => {
-                p = write_open(buf, p, tape, at, end, frame, layout, width, f);
-                let deeper = whitespace_config::indentation(layout, width);
-                p = write_nodes(tape, start, stop, f, depth - 1, layout, deeper, buf, p);
-                p = write_close(buf, p, frame, layout, width, f);
-                at = stop;
-            }
-        }
+        let f = write_front(buf, p, tape, at, end, frame, layout, width);
+        let v = write_value(tape, f.at, end, depth - 1, layout, width, buf, f.pos);
+        p = write_ending(buf, v.pos, layout, frame, v.at == end);
+        at = v.at;
     }
     p
 }

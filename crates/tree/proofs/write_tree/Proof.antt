@@ -5,7 +5,8 @@ use mathlib.Core.Path.{sym, _∙_}
 use native.Mathlib.Omega.{arith}
 use Rattle.output.proofs.Laws.{wrote-length}
 use Rattle.tape.proofs.Walking.{verdict-told}
-use Rattle.writer.proofs.Verdicts.{verdict-most}
+use Rattle.tape.specs.Fine.{Bytes}
+use Rattle.writer.proofs.Verdicts.{verdict-most, fine-walked}
 use Rattle.tree.proofs.Verdicts.{tape-bad, tape-many, tape-numbered, tape-marked, tape-good, refused-by, kept-by, laid-by, counted-by, clipped-by}
 use borrow.Author.Needs.{needs}
 use Rattle.tree.proofs.write_tree.Statement.{statement}
@@ -61,8 +62,8 @@ returns-4 c =
 sub-end : tie.Need-sub-end
 sub-end c = verdict-told (now (c .before .before .before .before .before .before .before .before .before .before .args .tape)) (sym (c .before .before .before .before .before .before .before .check-tape .ensures .fault) ∙ c .before .before .before .before .before .if1 .left) .least
 
-write-elements-requires : tie.Need-write-elements-requires
-write-elements-requires c κs = (omega arith, (omega arith, omega arith))
+write-nodes-requires : tie.Need-write-nodes-requires
+write-nodes-requires c κs = (omega arith, (omega arith, (omega arith, (omega arith, fine-walked (now (c .before .before .before .before .before .before .before .before .before .before .before .args .tape)) (sym (c .before .before .before .before .before .before .before .before .check-tape .ensures .fault) ∙ c .before .before .before .before .before .before .if1 .left)))))
 
 same-length : tie.Need-same-length
 same-length c = search needs
@@ -74,8 +75,10 @@ returns-5 c =
     let v = sym (k .fault) ∙ c .before .before .before .before .before .before .before .before .before .before .if1 .left in
     let n = k .counts (c .before .before .before .before .before .before .before .before .before .before .if1 .left) in
     let e = tape-good t v (sym (n .count) ∙ c .before .before .before .before .before .before .before .before .if2 .left) (sym (n .numbered) ∙ c .before .before .before .before .before .before .before .if3 .left) (c .before .before .before .before .before .if4 .left) in
-    let w = c .before .before .before .write-elements .ensures in
-    (clipped-by _ _ _ _ e w (rw (wrote-length w) at (c .if5 .taken)), laid-by _ _ _ _ e w)
+    let m : Bytes t = λ i. c .before .before .before .before .before .before .before .before .before .before .before .before .before .before .shared-slice-known .given i .fits in
+    let o = sym (n .count) ∙ c .before .before .before .before .before .before .before .before .if2 .left in
+    let w = c .before .before .before .write-nodes .ensures in
+    (clipped-by _ _ _ _ m v o e w (rw (wrote-length w) at (c .if5 .taken)), laid-by _ _ _ _ m v o e w)
 
 same-length-2 : tie.Need-same-length-2
 same-length-2 c = search needs
@@ -87,8 +90,10 @@ returns-6 c =
     let v = sym (k .fault) ∙ c .before .before .before .before .before .before .before .before .before .before .if1 .left in
     let n = k .counts (c .before .before .before .before .before .before .before .before .before .before .if1 .left) in
     let e = tape-good t v (sym (n .count) ∙ c .before .before .before .before .before .before .before .before .if2 .left) (sym (n .numbered) ∙ c .before .before .before .before .before .before .before .if3 .left) (c .before .before .before .before .before .if4 .left) in
-    let w = c .before .before .before .write-elements .ensures in
-    (counted-by _ _ _ _ e w (rw (wrote-length w) at (c .if5 .left)), laid-by _ _ _ _ e w)
+    let m : Bytes t = λ i. c .before .before .before .before .before .before .before .before .before .before .before .before .before .before .shared-slice-known .given i .fits in
+    let o = sym (n .count) ∙ c .before .before .before .before .before .before .before .before .if2 .left in
+    let w = c .before .before .before .write-nodes .ensures in
+    (counted-by _ _ _ _ m v o e w (rw (wrote-length w) at (c .if5 .left)), laid-by _ _ _ _ m v o e w)
 
 pub write-tree-spec : {M : Type 1} → statement M
 write-tree-spec =
@@ -102,7 +107,7 @@ write-tree-spec =
     shared-slice-read-if4
     returns-4
     sub-end
-    write-elements-requires
+    write-nodes-requires
     same-length
     returns-5
     same-length-2

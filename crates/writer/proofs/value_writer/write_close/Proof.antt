@@ -10,21 +10,12 @@ put-repeated-requires c κs = search needs
 write-end-requires : tie.Need-write-end-requires
 write-end-requires c κs = search needs
 
-write-separator-requires : tie.Need-write-separator-requires
-write-separator-requires c κs = search needs
-
 same-length : tie.Need-same-length
 same-length c = search needs
 
 returns : tie.Need-returns
-returns c = wrote-then (wrote-then (c .before .before .before .before .before .before .before .before .before .before .put-repeated .ensures) (c .before .before .before .before .before .before .write-end .ensures)) (c .before .before .write-separator .ensures)
+returns c = wrote-then (c .before .before .before .before .before .before .put-repeated .ensures) (c .before .before .write-end .ensures)
 
 pub write-close-spec : {M : Type 1} → statement M
 write-close-spec =
-    tie.close
-    (tie.spec
-    put-repeated-requires
-    write-end-requires
-    write-separator-requires
-    same-length
-    returns)
+    tie.close (tie.spec put-repeated-requires write-end-requires same-length returns)

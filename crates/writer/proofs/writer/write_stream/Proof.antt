@@ -5,7 +5,7 @@ use Prim.Native.Nat.{_≤_}
 use native.Mathlib.Omega.{arith}
 use Rattle.output.proofs.Laws.{wrote-length}
 use Rattle.tape.proofs.Walking.{verdict-told}
-use Rattle.writer.proofs.Verdicts.{verdict-most, layout-bad, tape-bad, tape-noted, tape-good, refused-by, kept-by, laid-by, counted-by, clipped-by}
+use Rattle.writer.proofs.Verdicts.{verdict-most, layout-bad, tape-bad, tape-noted, tape-good, fine-walked, refused-by, kept-by, laid-by, counted-by, clipped-by}
 use borrow.Author.Needs.{needs}
 use Rattle.writer.proofs.writer.write_stream.Statement.{statement}
 use Rattle.writer.proofs.writer.write_stream.Tie as tie
@@ -42,7 +42,7 @@ sub-end : tie.Need-sub-end
 sub-end c = verdict-told (now (c .before .before .before .before .before .before .before .args .tape)) (sym (c .before .before .before .check-tape .ensures .fault) ∙ c .before .if2 .left) .least
 
 write-nodes-requires : tie.Need-write-nodes-requires
-write-nodes-requires c κs = (omega arith, (omega arith, (omega arith, omega arith)))
+write-nodes-requires c κs = (omega arith, (omega arith, (omega arith, (omega arith, fine-walked (now (c .before .before .before .before .before .before .before .before .args .tape)) (sym (c .before .before .before .before .check-tape .ensures .fault) ∙ c .before .before .if2 .left)))))
 
 same-length : tie.Need-same-length
 same-length c = search needs
@@ -52,7 +52,7 @@ returns-4 c =
     let k = c .before .before .before .before .before .before .before .before .check-tape .ensures .counts (c .before .before .before .before .before .before .if2 .left) in
     let e = tape-good _ (now (c .before .before .before .before .before .before .before .before .before .before .before .before .args .tape)) (c .before .before .before .before .before .before .before .before .before .if1 .left) (sym (c .before .before .before .before .before .before .before .before .check-tape .ensures .fault) ∙ c .before .before .before .before .before .before .if2 .left) (sym (k .noted) ∙ c .before .before .before .before .before .if3 .left) in
     let w = c .before .before .before .write-nodes .ensures in
-    (clipped-by _ _ _ _ _ e w (rw (wrote-length w) at (c .if4 .taken)), laid-by _ _ _ _ _ e w)
+    (clipped-by _ _ _ _ _ (c .before .before .before .before .before .before .before .before .before .if1 .left) e w (rw (wrote-length w) at (c .if4 .taken)), laid-by _ _ _ _ _ (c .before .before .before .before .before .before .before .before .before .if1 .left) e w)
 
 same-length-2 : tie.Need-same-length-2
 same-length-2 c = search needs
@@ -62,7 +62,7 @@ returns-5 c =
     let k = c .before .before .before .before .before .before .before .before .check-tape .ensures .counts (c .before .before .before .before .before .before .if2 .left) in
     let e = tape-good _ (now (c .before .before .before .before .before .before .before .before .before .before .before .before .args .tape)) (c .before .before .before .before .before .before .before .before .before .if1 .left) (sym (c .before .before .before .before .before .before .before .before .check-tape .ensures .fault) ∙ c .before .before .before .before .before .before .if2 .left) (sym (k .noted) ∙ c .before .before .before .before .before .if3 .left) in
     let w = c .before .before .before .write-nodes .ensures in
-    (counted-by _ _ _ _ _ e w (rw (wrote-length w) at (c .if4 .left)), laid-by _ _ _ _ _ e w)
+    (counted-by _ _ _ _ _ (c .before .before .before .before .before .before .before .before .before .if1 .left) e w (rw (wrote-length w) at (c .if4 .left)), laid-by _ _ _ _ _ (c .before .before .before .before .before .before .before .before .before .if1 .left) e w)
 
 pub write-stream-spec : {M : Type 1} → statement M
 write-stream-spec =

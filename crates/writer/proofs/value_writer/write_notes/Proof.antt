@@ -1,16 +1,15 @@
--- `write_notes` meets its contract. The invariant: the annotations before `from` are written, those from there on are left. Assumes nothing.
+-- `value_writer::write_notes` meets its contract. The invariant: the annotations before `from` are written, those from there on are left. Assumes nothing.
 use native.Mathlib.Omega.{arith}
 use denote.Ref.{now}
 use Prim.Native.Nat.{_-_, _≤_}
 use Rattle.output.proofs.Laws.{wrote-none, wrote-then, wrote-length, wrote-bound}
 use Rattle.tape.specs.Bytes.{part}
-use Rattle.writer.specs.Text.{symText}
-use Rattle.tree.specs.Text.{notesText}
-use Rattle.tree.specs.Steps.{notesIn}
-use Rattle.tree.proofs.Texts.{Noting, notes-done, note-bad, note-fits, note-written, notes-absent, notes-room, notes-start}
+use Rattle.writer.specs.Text.{symText, notesText}
+use Rattle.writer.specs.Steps.{notesIn}
+use Rattle.writer.proofs.Notes.{Noting, notes-done, note-bad, note-fits, note-written, notes-absent, notes-room, notes-start}
 use borrow.Author.Needs.{needs}
-use Rattle.tree.proofs.write_notes.Statement.{statement}
-use Rattle.tree.proofs.write_notes.Tie as tie
+use Rattle.writer.proofs.value_writer.write_notes.Statement.{statement}
+use Rattle.writer.proofs.value_writer.write_notes.Tie as tie
 
 abbrev Inv-loop : tie.InvT-loop
 Inv-loop buf₀ pos tape at end value p₀ from₀ buf p from = (value ≤ end) × Noting buf₀ buf pos p (notesText (notesIn (part tape at end))) tape from end value

@@ -1,8 +1,8 @@
--- `write_colons` meets its contract. Assumes nothing.
+-- `value_writer::write_colons` meets its contract. Assumes nothing.
 use Rattle.output.proofs.Laws.{wrote-then}
 use borrow.Author.Needs.{needs}
-use Rattle.tree.proofs.write_colons.Statement.{statement}
-use Rattle.tree.proofs.write_colons.Tie as tie
+use Rattle.writer.proofs.value_writer.write_colons.Statement.{statement}
+use Rattle.writer.proofs.value_writer.write_colons.Tie as tie
 
 put-requires : tie.Need-put-requires
 put-requires c κs = search needs

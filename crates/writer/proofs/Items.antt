@@ -1,0 +1,130 @@
+-- The text that the walk writes: in the layouts 0 to 2 it is the streaming text. Assumes nothing.
+use Prim.Native.Nat.{ℕ, _+_, _-_, _<_, _≤_}
+use mathlib.Core.Path.{_≡_, refl, sym, ap, _∙_}
+use mathlib.Core.List.{List, [], _++_, append-assoc, append-nil}
+use mathlib.Core.Bool.{Bool, true, false}
+use mathlib.Core.Option.{Option}
+use native.Mathlib.Omega.{arith}
+use lib.Dec.{eqb}
+use lib.ListN.{length, getD, take, drop}
+use Rattle.output.specs.Logic.{if, ascii}
+use Rattle.tape.specs.Bytes.{part, leNumber}
+use Rattle.tape.specs.Tree.{Scalar, Head, Node, Nodes, scalar, nest, marker, nil, more}
+use Rattle.tape.specs.Tape.{past, kind, lengthOf, headOf, scalarOf, walk}
+use Rattle.tape.specs.Steps.{headAt}
+use Rattle.tape.specs.declared.Frame.{Frame}
+use Rattle.writer.specs.Text.{scalarText, nameText, notesText, opening, closing, separator, broken, deeper, blanks, text, texts}
+use Rattle.tape.proofs.Parts.{part-length, part-first, part-number, part-inner}
+use Rattle.writer.specs.Steps.{taken, frameOf, front, ending, isNil, item, items, nodeAt, sizeAt, problemAt}
+use Rattle.writer.proofs.Turning.{OpenHere, some-here, scalar-here, marker-node, marker-size, open-here, turn-here, left-nil}
+
+-- ---- a turn of the walk
+
+module _ (y : ℕ) (w : ℕ) (d : ℕ) (k : Frame) (s : List ℕ) (at e : ℕ) (nz : d ≡ 0 → ⊥) (h : at < e) (i : e ≤ length s) (z : walk d k (part s at e) .1 ≡ 0) where
+  abbrev value : ℕ
+  value = at + taken (headOf k (part s at e))
+
+  abbrev next : ℕ
+  next = value + sizeAt (part s value e)
+
+  -- the text from a place on is that of the child there, and what is left
+  pub items-turn : items y k w (walk d k (part s at e) .0)
+      ≡ (front y w (headAt k (part s at e)) ++ (item y w (nodeAt (d - 1) (part s value e)) ++ ending y k (eqb next e))) ++ items y k w (walk d k (part s next e) .0)
+  unfolding items
+  items-turn =
+      let t = turn-here d k s at e nz h i z in
+      ap (items y k w) (t .nodes)
+      ∙ ap (λ (b : Bool). (front y w (headAt k (part s at e)) ++ (item y w (nodeAt (d - 1) (part s value e)) ++ ending y k b)) ++ items y k w (walk d k (part s next e) .0)) (left-nil d k s next e nz (t .behind) i (t .fine))
+
+-- ---- a value of the walk
+
+-- a container: its body, its text, and where it ends
+pub record Container (y w d : ℕ) (s : List ℕ) (at e : ℕ) (f : Frame) (start stop : ℕ) : Type 0 where
+  pub fine : walk d f (part s start stop) .1 ≡ 0
+  pub written : item y w (nodeAt d (part s at e)) ≡ (opening f ++ broken y) ++ items y f (deeper y w) (walk d f (part s start stop) .0) ++ (blanks w ++ closing f)
+  pub place : stop ≡ at + sizeAt (part s at e)
+  pub room : stop ≤ e
+
+module _ (y w d : ℕ) (s : List ℕ) (at e : ℕ) (i : e ≤ length s) (z : problemAt d (part s at e) ≡ 0) where
+  pub value-place : at < e
+  value-place = let h = some-here d (part s at e) z in let n = part-length s at e i in omega arith
+
+  first-byte : kind (part s at e) ≡ getD s at 0
+  first-byte = part-first s at e value-place
+
+  pub scalar-text : getD s at 0 < 10 → item y w (nodeAt d (part s at e)) ≡ past (scalarOf (part s at e)) [] (λ s n. scalarText s)
+  unfolding item
+  scalar-text h =
+      let k = first-byte in
+      let r = scalar-here d (part s at e) z (omega arith) in
+      ap (item y w) (r .node) ∙ sym (ap (λ (o : Option (Scalar × ℕ)). past o [] (λ s n. scalarText s)) (r .read))
+
+  pub scalar-size : getD s at 0 < 10 → sizeAt (part s at e) ≡ taken (scalarOf (part s at e))
+  scalar-size h =
+      let k = first-byte in
+      let r = scalar-here d (part s at e) z (omega arith) in
+      r .size ∙ sym (ap (λ (o : Option (Scalar × ℕ)). taken o) (r .read))
+
+  pub marker-text : getD s at 0 ≡ 14 → item y w (nodeAt d (part s at e)) ≡ ascii "$ion_1_0"
+  unfolding item
+  marker-text h = ap (item y w) (marker-node d (part s at e) z (first-byte ∙ h))
+
+  pub marker-length : getD s at 0 ≡ 14 → sizeAt (part s at e) ≡ 1
+  marker-length h = marker-size d (part s at e) z (first-byte ∙ h)
+
+  module _ (h : 10 ≤ getD s at 0) (m : getD s at 0 ≡ 14 → ⊥) where
+    opened : OpenHere d (frameOf (kind (part s at e))) (part s at e)
+    opened = let k = first-byte in open-here d (part s at e) z (omega arith) (λ e. m (sym k ∙ e))
+
+    pub header-room : at + 5 ≤ e
+    header-room = let r = opened .room in let n = part-length s at e i in omega arith
+
+    length-here : lengthOf (part s at e) ≡ leNumber 4 (drop (at + 1) s)
+    length-here = let r = header-room in part-number s at e 4 1 (omega arith)
+
+    pub container : (f : Frame) → f ≡ frameOf (getD s at 0) → (n : ℕ) → n ≡ leNumber 4 (drop (at + 1) s) → Container y w d s at e f (at + 5) (at + 5 + n)
+    unfolding item
+    container f g n j =
+        let o = opened in
+        let r = o .room in
+        let len = part-length s at e i in
+        let q : lengthOf (part s at e) ≡ n = length-here ∙ sym j in
+        let k : frameOf (kind (part s at e)) ≡ f = ap frameOf first-byte ∙ sym g in
+        let inner : take (lengthOf (part s at e)) (drop 5 (part s at e)) ≡ part s (at + 5) (at + 5 + n) = ap (λ (x : ℕ). take x (drop 5 (part s at e))) q ∙ part-inner s at e 5 n (omega arith) in
+        let body : Frame → List ℕ → List ℕ = λ f l. (opening f ++ broken y) ++ items y f (deeper y w) (walk d f l .0) ++ (blanks w ++ closing f) in
+        record {
+          fine = ap (λ (x : Frame). walk d x (part s (at + 5) (at + 5 + n)) .1) (sym k) ∙ ap (λ (l : List ℕ). walk d (frameOf (kind (part s at e))) l .1) (sym inner) ∙ o .fine;
+          written = ap (item y w) (o .node) ∙ ap (body (frameOf (kind (part s at e)))) inner ∙ ap (λ (x : Frame). body x (part s (at + 5) (at + 5 + n))) k;
+          place = let v = o .size in omega arith;
+          room = omega arith;
+        }
+
+-- ---- the streaming text
+
+module _ (y : ℕ) (q : eqb y 3 ≡ false) where
+  front-plain : (w : ℕ) (h : Head) → front y w h ≡ blanks w ++ nameText (h .0)
+  unfolding front
+  front-plain w h = ap (λ (b : Bool). blanks w ++ nameText (h .0) ++ if b (notesText (h .1)) []) q ∙ append-nil _
+
+  ending-plain : (k : Frame) (last : Bool) → ending y k last ≡ separator y k
+  unfolding ending
+  ending-plain k last = ap (λ (b : Bool). if (if b last false) [] (separator y k)) q
+
+  mutual
+    unfolding item text items texts
+
+    item-text : (w : ℕ) (n : Node) → item y w n ≡ text y w n
+    item-text w (scalar s) = refl
+    item-text w (nest k ns) =
+        ap (λ (x : List ℕ). (opening k ++ broken y) ++ x ++ (blanks w ++ closing k)) (items-texts k (deeper y w) ns)
+        ∙ simp append-assoc
+    item-text w marker = refl
+
+    pub items-texts : (k : Frame) (w : ℕ) (ns : Nodes) → items y k w ns ≡ texts y k w ns
+    items-texts k w nil = refl
+    items-texts k w (more h n ns) =
+        ap (λ (x : List ℕ). (x ++ (item y w n ++ ending y k (isNil ns))) ++ items y k w ns) (front-plain w h)
+        ∙ ap (λ (x : List ℕ). (blanks w ++ nameText (h .0) ++ (item y w n ++ x)) ++ items y k w ns) (ending-plain k (isNil ns))
+        ∙ ap (λ (x : List ℕ). (blanks w ++ nameText (h .0) ++ (x ++ separator y k)) ++ items y k w ns) (item-text w n)
+        ∙ ap (λ (x : List ℕ). (blanks w ++ nameText (h .0) ++ (text y w n ++ separator y k)) ++ x) (items-texts k w ns)
+        ∙ ap (λ (x : List ℕ). x ++ texts y k w ns) (sym (append-assoc (blanks w ++ nameText (h .0)) (text y w n) (separator y k)))

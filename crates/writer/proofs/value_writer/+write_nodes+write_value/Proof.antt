@@ -1,0 +1,304 @@
+-- `value_writer::write_nodes` and `value_writer::write_value` meet their contracts. The walk's invariant: the text of the nodes before `at` is written,
+-- that of the nodes from `at` on is left, and nothing is wrong with these. Assumes nothing.
+use mathlib.Core.Path.{_≡_, refl, sym, ap, _∙_}
+use native.Mathlib.Omega.{arith}
+use denote.Ref.{now}
+use Prim.Native.Nat.{ℕ, _+_, _*_, _-_, _<_, _≤_}
+use lib.ListN.{getD}
+use Rattle.output.proofs.Laws.{Progress, start, more, finish, wrote-none, wrote-then, wrote-length, wrote-bound}
+use Rattle.tape.specs.Bytes.{part}
+use Rattle.tape.specs.Tape.{Walked, walk}
+use Rattle.tape.proofs.Walking.{walk-end}
+use Rattle.tape.proofs.Parts.{part-length}
+use Rattle.writer.specs.Steps.{items}
+use Rattle.writer.proofs.Layouts.{deeper-most}
+use Rattle.writer.proofs.Turning.{head-here, turn-here}
+use Rattle.writer.proofs.Items.{Container, items-turn, value-place, scalar-text, scalar-size, marker-text, marker-length, header-room, container}
+use borrow.Author.Needs.{needs}
+use borrow.Fn.Kinds.{In}
+use borrow.Fn.PlainCycle.{Measures, is, falls, and}
+use Rattle.output.proofs.put_bytes.Reads as put-bytes
+use Rattle.tape.proofs.u32_at.Reads as u32-at
+use Rattle.writer.proofs.value_writer.write_nodes.Reads as nodes
+use Rattle.writer.proofs.value_writer.write_nodes.Kinds as nodes-kinds
+use Rattle.writer.proofs.value_writer.+write_nodes+write_value.Lts-write_nodes as nodes-lts
+use Rattle.writer.proofs.value_writer.write_value.Reads as value
+use Rattle.writer.proofs.value_writer.write_value.Kinds as value-kinds
+use Rattle.writer.proofs.value_writer.+write_nodes+write_value.Lts-write_value as value-lts
+use Rattle.writer.proofs.value_writer.frame_of.Reads as frame-of
+use Rattle.writer.proofs.value_writer.write_close.Reads as write-close
+use Rattle.writer.proofs.value_writer.write_ending.Reads as write-ending
+use Rattle.writer.proofs.value_writer.write_front.Reads as write-front
+use Rattle.writer.proofs.value_writer.write_leaf.Reads as write-leaf
+use Rattle.writer.proofs.whitespace_config.indentation.Reads as indentation
+use Rattle.writer.proofs.whitespace_config.write_start.Reads as write-start
+use Rattle.writer.proofs.value_writer.+write_nodes+write_value.{statement}
+use Rattle.writer.proofs.value_writer.+write_nodes+write_value.Tie.{close}
+
+-- the body's depth counts twice, so that a value of the same depth stands between two bodies
+abbrev μ-nodes : Measures 2 nodes-kinds.ps ℕ
+μ-nodes κs a = 2 * (a .1 .1 .1 .1 .0)
+
+abbrev μ-value : Measures 2 value-kinds.ps ℕ
+μ-value κs a = 1 + 2 * (a .1 .1 .1 .0)
+
+abbrev nodes-at : ℕ → In 2 nodes-kinds.ps
+nodes-at t = and 2 nodes-kinds.ps (is 2 nodes-kinds.ps μ-nodes t) nodes.Pre
+
+abbrev nodes-below : ℕ → In 2 nodes-kinds.ps
+nodes-below t = and 2 nodes-kinds.ps (falls 2 nodes-kinds.ps _<_ μ-nodes t) nodes.Pre
+
+abbrev value-at : ℕ → In 2 value-kinds.ps
+value-at t = and 2 value-kinds.ps (is 2 value-kinds.ps μ-value t) value.Pre
+
+abbrev value-below : ℕ → In 2 value-kinds.ps
+value-below t = and 2 value-kinds.ps (falls 2 value-kinds.ps _<_ μ-value t) value.Pre
+
+abbrev nodes-calls : ℕ → nodes-lts.Claims
+nodes-calls t = (write-front.Asked, write-front.Learnt, value-below t, value.Post, write-ending.Asked, write-ending.Learnt)
+
+abbrev value-calls : ℕ → value-lts.Claims
+value-calls t = (write-leaf.Asked, write-leaf.Learnt, put-bytes.Asked, put-bytes.Learnt, frame-of.Asked, frame-of.Learnt, u32-at.Asked, u32-at.Learnt, write-start.Asked, write-start.Learnt, indentation.Asked, indentation.Learnt, nodes-below t, nodes.Post, write-close.Asked, write-close.Learnt)
+
+abbrev Inv : nodes-lts.InvT-loop
+Inv tape from end frame depth layout width buf₀ pos at₀ p₀ buf at p =
+    (at ≤ end)
+    × (walk depth frame (part tape at end) .1 ≡ 0)
+    × Progress buf₀ buf pos p (items layout frame width (walk depth frame (part tape from end) .0)) (items layout frame width (walk depth frame (part tape at end) .0))
+
+abbrev μ-loop : nodes-lts.MeasureT-loop
+μ-loop tape from end frame depth layout width buf₀ pos at₀ p₀ buf at p = end - at
+
+module _ (t : ℕ) where
+  -- ---- the nodes of a body
+
+  nodes-returns : nodes-lts.Need-returns (nodes-calls t) (nodes-at t) nodes.Post Inv μ-loop
+  unfolding items walk
+  nodes-returns c = rw (c .if1 .taken) (wrote-none _ _ (c .before .before .before .pre .1 .1 .1 .0) (search needs))
+
+  nodes-loop-holds : nodes-lts.Need-loop-holds (nodes-calls t) (nodes-at t) nodes.Post Inv μ-loop
+  nodes-loop-holds c = (c .before .before .before .pre .1 .0, c .before .before .before .pre .1 .1 .1 .1 .1, start _ _ _ (c .before .before .before .pre .1 .1 .1 .0) (search needs))
+
+  nodes-write-front-requires : nodes-lts.Need-write-front-requires (nodes-calls t) (nodes-at t) nodes.Post Inv μ-loop
+  nodes-write-front-requires c κs =
+      let s = c .before .before .before .before .before .before in
+      let a = s .args in
+      let l = c .before .before .loop in
+      let nz = c .before .before .before .if1 .left in
+      let lt = c .before .loop-test .taken in
+      (wrote-bound (l .inv .2 .wrote), (l .inv .0, (s .pre .1 .1 .0, head-here (a .depth) (a .frame) (now (a .tape)) (l .at) (a .end) nz lt (s .pre .1 .1 .0) (l .inv .1))))
+
+  nodes-sub-write-value : nodes-lts.Need-sub-write-value (nodes-calls t) (nodes-at t) nodes.Post Inv μ-loop
+  nodes-sub-write-value c = search needs
+
+  nodes-write-value-requires : nodes-lts.Need-write-value-requires (nodes-calls t) (nodes-at t) nodes.Post Inv μ-loop
+  nodes-write-value-requires c κs =
+      let s = c .before .before .before .before .before .before .before .before .before .before in
+      let a = s .args in
+      let l = c .before .before .before .before .before .before .loop in
+      let nz = c .before .before .before .before .before .before .before .if1 .left in
+      let lt = c .before .before .before .before .before .loop-test .taken in
+      let u = turn-here (a .depth) (a .frame) (now (a .tape)) (l .at) (a .end) nz lt (s .pre .1 .1 .0) (l .inv .1) in
+      let f = c .before .before .before .write-front .ensures in
+      let z = s .pre .0 in
+      let m = s .pre .1 .1 .1 .1 .0 in
+      (omega arith, (rw (f .1) (u .within), (s .pre .1 .1 .0, (wrote-bound (f .0), (omega arith, rw (f .1) (u .value))))))
+
+  nodes-write-ending-requires : nodes-lts.Need-write-ending-requires (nodes-calls t) (nodes-at t) nodes.Post Inv μ-loop
+  nodes-write-ending-requires c κs = wrote-bound (c .before .before .before .before .write-value .ensures .0)
+
+  nodes-loop-less : nodes-lts.Need-loop-less (nodes-calls t) (nodes-at t) nodes.Post Inv μ-loop
+  nodes-loop-less c =
+      let s = c .before .before .before .before .before .before .before .before .before .before .before .before .before .before .before .before .before .before in
+      let a = s .args in
+      let l = c .before .before .before .before .before .before .before .before .before .before .before .before .before .before .loop in
+      let nz = c .before .before .before .before .before .before .before .before .before .before .before .before .before .before .before .if1 .left in
+      let lt = c .before .before .before .before .before .before .before .before .before .before .before .before .before .loop-test .taken in
+      let u = turn-here (a .depth) (a .frame) (now (a .tape)) (l .at) (a .end) nz lt (s .pre .1 .1 .0) (l .inv .1) in
+      let f = c .before .before .before .before .before .before .before .before .before .before .before .write-front .ensures .1 in
+      let v = rw f at (c .before .before .before .before .before .before .before .write-value .ensures .1) in
+      let g = u .forth in
+      let b = u .behind in
+      omega arith
+
+  nodes-loop-again : nodes-lts.Need-loop-again (nodes-calls t) (nodes-at t) nodes.Post Inv μ-loop
+  nodes-loop-again c =
+      let s = c .before .before .before .before .before .before .before .before .before .before .before .before .before .before .before .before .before .before in
+      let a = s .args in
+      let l = c .before .before .before .before .before .before .before .before .before .before .before .before .before .before .loop in
+      let nz = c .before .before .before .before .before .before .before .before .before .before .before .before .before .before .before .if1 .left in
+      let lt = c .before .before .before .before .before .before .before .before .before .before .before .before .before .loop-test .taken in
+      let u = turn-here (a .depth) (a .frame) (now (a .tape)) (l .at) (a .end) nz lt (s .pre .1 .1 .0) (l .inv .1) in
+      let f = c .before .before .before .before .before .before .before .before .before .before .before .write-front .ensures in
+      let v = rw (f .1) at (c .before .before .before .before .before .before .before .write-value .ensures) in
+      let e = rw (v .1) at (c .before .before .write-ending .ensures) in (
+        rw (v .1) (u .behind),
+        rw (v .1) (u .fine),
+        rw (v .1) (more (l .inv .2) (wrote-then (f .0) (wrote-then (v .0) e)) (items-turn (a .layout) (a .width) (a .depth) (a .frame) (now (a .tape)) (l .at) (a .end) nz lt (s .pre .1 .1 .0) (l .inv .1))),
+      )
+
+  nodes-same-length : nodes-lts.Need-same-length (nodes-calls t) (nodes-at t) nodes.Post Inv μ-loop
+  nodes-same-length c = wrote-length (c .before .loop .inv .2 .wrote)
+
+  nodes-returns-2 : nodes-lts.Need-returns-2 (nodes-calls t) (nodes-at t) nodes.Post Inv μ-loop
+  unfolding items
+  nodes-returns-2 c =
+      let a = c .before .before .before .before .before .args in
+      let l = c .before .loop in
+      let n = part-length (now (a .tape)) (l .at) (a .end) (c .before .before .before .before .before .pre .1 .1 .0) in
+      let z = c .loop-test .left in
+      finish (l .inv .2) (ap (λ (w : Walked). items (a .layout) (a .frame) (a .width) (w .0)) (walk-end (a .frame) (a .depth) _ (c .before .before .if1 .left) (omega arith)))
+
+  -- ---- a value
+
+  value-shared-slice-read-k : value-lts.Need-shared-slice-read-k (value-calls t) (value-at t) value.Post
+  value-shared-slice-read-k c =
+      let s = c .before .before .before in
+      let a = s .args in
+      let i = s .pre .1 .1 .0 in
+      let z = s .pre .1 .1 .1 .1 .1 in
+      let p = value-place (a .layout) (a .width) (a .depth) (now (a .tape)) (a .at) (a .end) i z in
+      omega arith
+
+  value-write-leaf-requires : value-lts.Need-write-leaf-requires (value-calls t) (value-at t) value.Post
+  value-write-leaf-requires c κs = (c .before .before .before .before .before .pre .1 .1 .1 .0, (c .before .before .before .before .before .pre .1 .0, c .before .before .before .before .before .pre .1 .1 .0))
+
+  value-same-length : value-lts.Need-same-length (value-calls t) (value-at t) value.Post
+  value-same-length c = search needs
+
+  value-returns : value-lts.Need-returns (value-calls t) (value-at t) value.Post
+  value-returns c =
+      let s = c .before .before .before .before .before .before .before .before in
+      let a = s .args in
+      let i = s .pre .1 .1 .0 in
+      let z = s .pre .1 .1 .1 .1 .1 in
+      let h = c .before .before .before .before .if1 .taken in
+      (rw (scalar-text (a .layout) (a .width) (a .depth) (now (a .tape)) (a .at) (a .end) i z h) (c .before .before .write-leaf .ensures .0), rw (scalar-size (a .layout) (a .width) (a .depth) (now (a .tape)) (a .at) (a .end) i z h) (c .before .before .write-leaf .ensures .1))
+
+  value-slice-aggregate-put-bytes : value-lts.Need-slice-aggregate-put-bytes (value-calls t) (value-at t) value.Post
+  value-slice-aggregate-put-bytes c = search needs
+
+  value-put-bytes-requires : value-lts.Need-put-bytes-requires (value-calls t) (value-at t) value.Post
+  value-put-bytes-requires c κs = c .before .before .before .before .before .before .before .pre .1 .1 .1 .0
+
+  value-add-t28 : value-lts.Need-add-t28 (value-calls t) (value-at t) value.Post
+  value-add-t28 c =
+      let s = c .before .before .before .before .before .before .before .before .before .before in
+      let a = s .args in
+      let i = s .pre .1 .1 .0 in
+      let z = s .pre .1 .1 .1 .1 .1 in
+      let p = value-place (a .layout) (a .width) (a .depth) (now (a .tape)) (a .at) (a .end) i z in
+      let k = c .before .before .before .before .before .before .before .before .before .shared-slice-known .given in
+      omega arith
+
+  value-same-length-2 : value-lts.Need-same-length-2 (value-calls t) (value-at t) value.Post
+  value-same-length-2 c = search needs
+
+  value-returns-2 : value-lts.Need-returns-2 (value-calls t) (value-at t) value.Post
+  value-returns-2 c =
+      let s = c .before .before .before .before .before .before .before .before .before .before in
+      let a = s .args in
+      let i = s .pre .1 .1 .0 in
+      let z = s .pre .1 .1 .1 .1 .1 in
+      let h = c .before .before .before .before .before .if2 .taken in
+      (rw (marker-text (a .layout) (a .width) (a .depth) (now (a .tape)) (a .at) (a .end) i z h) (c .before .before .put-bytes .ensures), rw (marker-length (a .layout) (a .width) (a .depth) (now (a .tape)) (a .at) (a .end) i z h))
+
+  value-frame-of-requires : value-lts.Need-frame-of-requires (value-calls t) (value-at t) value.Post
+  value-frame-of-requires c κs = search needs
+
+  value-add-start : value-lts.Need-add-start (value-calls t) (value-at t) value.Post
+  value-add-start c =
+      let s = c .before .before .before .before .before .before in
+      let a = s .args in
+      let i = s .pre .1 .1 .0 in
+      let z = s .pre .1 .1 .1 .1 .1 in
+      let h : 10 ≤ getD (now (a .tape)) (a .at) 0 = let x = c .before .before .if1 .left in omega arith in
+      let m = c .before .if2 .left in
+      let r = header-room (a .layout) (a .width) (a .depth) (now (a .tape)) (a .at) (a .end) i z h m in
+      let k = c .before .before .before .before .before .shared-slice-known .given in
+      omega arith
+
+  value-add-u32-at : value-lts.Need-add-u32-at (value-calls t) (value-at t) value.Post
+  value-add-u32-at c =
+      let s = c .before .before .before .before .before .before in
+      let a = s .args in
+      let i = s .pre .1 .1 .0 in
+      let z = s .pre .1 .1 .1 .1 .1 in
+      let h : 10 ≤ getD (now (a .tape)) (a .at) 0 = let x = c .before .before .if1 .left in omega arith in
+      let m = c .before .if2 .left in
+      let r = header-room (a .layout) (a .width) (a .depth) (now (a .tape)) (a .at) (a .end) i z h m in
+      let k = c .before .before .before .before .before .shared-slice-known .given in
+      omega arith
+
+  value-u32-at-requires : value-lts.Need-u32-at-requires (value-calls t) (value-at t) value.Post
+  value-u32-at-requires c κs =
+      let s = c .before .before .before .before .before .before in
+      let a = s .args in
+      let i = s .pre .1 .1 .0 in
+      let z = s .pre .1 .1 .1 .1 .1 in
+      let h : 10 ≤ getD (now (a .tape)) (a .at) 0 = let x = c .before .before .if1 .left in omega arith in
+      let m = c .before .if2 .left in
+      let r = header-room (a .layout) (a .width) (a .depth) (now (a .tape)) (a .at) (a .end) i z h m in
+      omega arith
+
+  value-add-stop : value-lts.Need-add-stop (value-calls t) (value-at t) value.Post
+  value-add-stop c =
+      let s = c .before .before .before .before .before .before .before in
+      let a = s .args in
+      let i = s .pre .1 .1 .0 in
+      let z = s .pre .1 .1 .1 .1 .1 in
+      let h : 10 ≤ getD (now (a .tape)) (a .at) 0 = let x = c .before .before .before .if1 .left in omega arith in
+      let m = c .before .before .if2 .left in
+      let r = header-room (a .layout) (a .width) (a .depth) (now (a .tape)) (a .at) (a .end) i z h m in
+      let q = container (a .layout) (a .width) (a .depth) (now (a .tape)) (a .at) (a .end) i z h m _ (c .before .frame-of .ensures) _ (c .u32-at .ensures .0) in
+      let k = c .before .before .before .before .before .before .shared-slice-known .given in
+      let o = q .room in
+      omega arith
+
+  value-write-start-requires : value-lts.Need-write-start-requires (value-calls t) (value-at t) value.Post
+  value-write-start-requires c κs = c .before .before .before .before .before .before .before .before .pre .1 .1 .1 .0
+
+  value-indentation-requires : value-lts.Need-indentation-requires (value-calls t) (value-at t) value.Post
+  value-indentation-requires c κs = let m = c .before .before .before .before .before .before .before .before .before .before .before .pre .1 .1 .1 .1 .0 in omega arith
+
+  value-write-nodes-requires : value-lts.Need-write-nodes-requires (value-calls t) (value-at t) value.Post
+  value-write-nodes-requires c κs =
+      let s = c .before .before .before .before .before .before .before .before .before .before .before .before .before in
+      let a = s .args in
+      let i = s .pre .1 .1 .0 in
+      let z = s .pre .1 .1 .1 .1 .1 in
+      let h : 10 ≤ getD (now (a .tape)) (a .at) 0 = let x = c .before .before .before .before .before .before .before .before .before .if1 .left in omega arith in
+      let m = c .before .before .before .before .before .before .before .before .if2 .left in
+      let r = header-room (a .layout) (a .width) (a .depth) (now (a .tape)) (a .at) (a .end) i z h m in
+      let q = container (a .layout) (a .width) (a .depth) (now (a .tape)) (a .at) (a .end) i z h m _ (c .before .before .before .before .before .before .before .frame-of .ensures) _ (c .before .before .before .before .before .before .u32-at .ensures .0) in
+      let y = s .pre .0 in
+      let o = q .room in
+      let b = s .pre .1 .1 .1 .1 .0 in
+      let d = deeper-most (a .layout) (a .width) in
+      let j = c .before .indentation .ensures in
+      (omega arith, (omega arith, (omega arith, (wrote-bound (c .before .before .before .before .write-start .ensures), (omega arith, q .fine)))))
+
+  value-write-close-requires : value-lts.Need-write-close-requires (value-calls t) (value-at t) value.Post
+  value-write-close-requires c κs = wrote-bound (c .before .before .before .write-nodes .ensures)
+
+  value-same-length-3 : value-lts.Need-same-length-3 (value-calls t) (value-at t) value.Post
+  value-same-length-3 c = search needs
+
+  value-returns-3 : value-lts.Need-returns-3 (value-calls t) (value-at t) value.Post
+  value-returns-3 c =
+      let s = c .before .before .before .before .before .before .before .before .before .before .before .before .before .before .before .before .before .before .before .before in
+      let a = s .args in
+      let i = s .pre .1 .1 .0 in
+      let z = s .pre .1 .1 .1 .1 .1 in
+      let h : 10 ≤ getD (now (a .tape)) (a .at) 0 = let x = c .before .before .before .before .before .before .before .before .before .before .before .before .before .before .before .before .if1 .left in omega arith in
+      let m = c .before .before .before .before .before .before .before .before .before .before .before .before .before .before .before .if2 .left in
+      let r = header-room (a .layout) (a .width) (a .depth) (now (a .tape)) (a .at) (a .end) i z h m in
+      let q = container (a .layout) (a .width) (a .depth) (now (a .tape)) (a .at) (a .end) i z h m _ (c .before .before .before .before .before .before .before .before .before .before .before .before .before .before .frame-of .ensures) _ (c .before .before .before .before .before .before .before .before .before .before .before .before .before .u32-at .ensures .0) in
+      let b = rw (c .before .before .before .before .before .before .before .before .indentation .ensures) at (c .before .before .before .before .before .before .write-nodes .ensures) in
+      (rw (q .written) (wrote-then (wrote-then (c .before .before .before .before .before .before .before .before .before .before .before .write-start .ensures) b) (c .before .before .write-close .ensures)), q .place)
+
+pub +write-nodes+write-value-spec : {M : Type 1} → statement M
++write-nodes+write-value-spec = close μ-nodes μ-value (λ t. nodes-lts.spec (nodes-calls t) (nodes-at t) nodes.Post Inv μ-loop
+    (nodes-returns t) (nodes-loop-holds t) (nodes-write-front-requires t) (nodes-sub-write-value t) (nodes-write-value-requires t) (nodes-write-ending-requires t) (nodes-loop-less t) (nodes-loop-again t) (nodes-same-length t) (nodes-returns-2 t))
+    λ t. value-lts.spec (value-calls t) (value-at t) value.Post
+    (value-shared-slice-read-k t) (value-write-leaf-requires t) (value-same-length t) (value-returns t) (value-slice-aggregate-put-bytes t) (value-put-bytes-requires t) (value-add-t28 t) (value-same-length-2 t) (value-returns-2 t) (value-frame-of-requires t) (value-add-start t) (value-add-u32-at t) (value-u32-at-requires t) (value-add-stop t) (value-write-start-requires t) (value-indentation-requires t) (value-write-nodes-requires t) (value-write-close-requires t) (value-same-length-3 t) (value-returns-3 t)
