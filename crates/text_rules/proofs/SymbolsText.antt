@@ -1,12 +1,16 @@
 -- Which symbol text is written bare. Assumes nothing.
-use Prim.Native.Nat.{ℕ}
+use Prim.Native.Nat.{ℕ, _<_}
 use mathlib.Core.Path.{_≡_, refl, sym}
 use mathlib.Core.Bool.{Bool, true, false, _&&_, _||_, not}
-use mathlib.Core.List.{List}
+use mathlib.Core.List.{List, [], _∷_}
+use lib.Dec.{eqb}
+use lib.ListN.{length, getD}
+use native.Mathlib.Omega.{arith}
 use Rattle.output.specs.Logic.{if, byte}
+use Rattle.text_rules.specs.Texts.{starts, strip, same}
 use Rattle.text_rules.specs.Words.{isKeyword, resemblesSymbolId, resemblesVersionMarker, isIdentifier}
 use Rattle.text_rules.specs.Text.{marked, symbolText}
-use Rattle.text_rules.specs.WordSteps.{isBare}
+use Rattle.text_rules.specs.WordSteps.{special, isBare}
 use Rattle.text_rules.proofs.DigitLaws.{never}
 
 -- a word that is bare is an identifier, and no keyword, number or version
@@ -49,3 +53,22 @@ symbol-bare s h = rw (symbol-choice s, h)
 
 pub symbol-marked : (s : List ℕ) → isBare s ≡ false → symbolText s ≡ marked (byte "'") s
 symbol-marked s h = rw (symbol-choice s, h)
+
+-- an identifier that starts with no byte of a quoted-only spelling is bare
+pub plain-bare : (s : List ℕ) → isIdentifier s ≡ true → special (getD s 0 0) ≡ false → isBare s ≡ true
+unfolding isBare isIdentifier isKeyword resemblesSymbolId resemblesVersionMarker same starts strip special
+plain-bare [] h e = never (sym h)
+plain-bare (c ∷ t) h e = go (eqb c (byte "$")) (eqb c (byte "t")) (eqb c (byte "f")) (eqb c (byte "n")) refl refl refl refl e
+  where
+    go : (d t′ f n : Bool) → eqb c (byte "$") ≡ d → eqb c (byte "t") ≡ t′ → eqb c (byte "f") ≡ f → eqb c (byte "n") ≡ n → d || t′ || f || n ≡ false → isBare (c ∷ t) ≡ true
+    go true t′ f n a b g k e = never e
+    go false true f n a b g k e = never e
+    go false false true n a b g k e = never e
+    go false false false true a b g k e = never e
+    go false false false false a b g k e = rw (h, a, b, g, k)
+
+-- an identifier has a byte
+pub identifier-some : (s : List ℕ) → isIdentifier s ≡ true → 0 < length s
+unfolding isIdentifier
+identifier-some [] h = never (sym h)
+identifier-some (c ∷ t) h = omega arith

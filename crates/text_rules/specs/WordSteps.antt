@@ -1,12 +1,12 @@
 -- What the contracts of the word readers say. Assumes nothing: these are definitions.
 use Prim.Native.Nat.{ℕ, _+_, _-_, _≤_}
 use mathlib.Core.Path.{_≡_}
-use mathlib.Core.Bool.{Bool, not, _&&_}
+use mathlib.Core.Bool.{Bool, not, _&&_, _||_}
 use mathlib.Core.List.{List}
 use mathlib.Core.Option.{none, some}
-use lib.Dec.{leb}
+use lib.Dec.{leb, eqb}
 use lib.ListN.{length, take, drop}
-use Rattle.output.specs.Logic.{if}
+use Rattle.output.specs.Logic.{if, byte}
 use Rattle.text_rules.specs.Texts.{strip}
 use Rattle.text_rules.specs.Digits.{past}
 use Rattle.text_rules.specs.Words.{isKeyword, resemblesSymbolId, resemblesVersionMarker, isIdentifier, word, behind, kindOf}
@@ -43,6 +43,10 @@ pub record WordAt (text : List ℕ) (at : ℕ) (r : Word) : Type 0 where
   pub rest : drop (r .end) text ≡ behind (drop at text)
   pub bytes : take (r .end - at) (drop at text) ≡ word (drop at text)
   pub kind : r .kind ≡ kindOf (word (drop at text))
+
+-- a byte that a quoted-only spelling starts with: `$`, or a keyword's first letter
+unfoldable pub special : ℕ → Bool
+special c = eqb c (byte "$") || eqb c (byte "t") || eqb c (byte "f") || eqb c (byte "n")
 
 -- symbol text that is written bare
 unfoldable pub isBare : List ℕ → Bool

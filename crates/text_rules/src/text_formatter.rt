@@ -3,7 +3,7 @@ ghost use Prim.Native.Nat.{_≤_};
 ghost use mathlib.Core.Path.{_≡_};
 ghost use Rattle.output.specs.Wrote.{Wrote, limit};
 ghost use Rattle.text_rules.specs.Text.{marked, symbolText, symbolIdText, stringText, nullText, boolText, bitsText, floatText};
-ghost use Rattle.text_rules.specs.WordSteps.{isBare};
+ghost use Rattle.text_rules.specs.WordSteps.{special, isBare};
 
 // A null of the types 1 to 4. Few literals to a function keep its proof small.
 fn put_null_number(buf: &mut [u8], pos: usize, t: u8) -> usize
@@ -142,12 +142,31 @@ pub fn format_string(buf: &mut [u8], pos: usize, text: &[u8]) -> usize
     put_marked(buf, pos, b'"', text)
 }
 
-// Text that stands bare. A name that starts with another letter than those of the keywords, and not with `$`, is only looked through once.
+// A byte that a quoted-only spelling starts with: `$`, or a keyword's first letter.
+fn is_special(b: u8) -> bool
+    ensures { λ r. ⌜ r ≡ special b ⌝ }
+{
+    if b == b'$' {
+        return true;
+    }
+    if b == b't' {
+        return true;
+    }
+    if b == b'f' {
+        return true;
+    }
+    b == b'n'
+}
+
+// Text that stands bare. An identifier that starts with no such byte is only looked through once.
 fn is_bare(text: &[u8]) -> bool
     ensures { λ r. ⌜ r ≡ isBare (now (text .entry)) ⌝ }
 {
     if !crate::words::token_is_identifier(text) {
         return false;
+    }
+    if !is_special(text[0]) {
+        return true;
     }
     if crate::words::token_is_keyword(text) {
         return false;
