@@ -8,7 +8,7 @@ ghost use Rattle.output.specs.Logic.{if};
 ghost use Rattle.text_rules.specs.Utf8.{valid};
 ghost use Rattle.tape.specs.Bytes.{part, first};
 ghost use Rattle.tape.specs.Tree.{null, bool, clob};
-ghost use Rattle.tape.specs.Tape.{kind, textOf, symOf, symsOf, nameOf, notesOf, headOf, byteOf, intOf, floatAs, floatOf, decimalOf, timestampOf, sizedOf, scalarOf, openOf, valueOf, textFault, symFault, nameFault, walk};
+ghost use Rattle.tape.specs.Tape.{kind, textOf, symOf, symsOf, nameOf, notesOf, headOf, byteOf, intOf, floatAs, floatOf, decimalOf, timestampOf, sizedOf, scalarOf, openOf, valueOf, free, textFault, symFault, nameFault, walk};
 ghost use Rattle.tape.specs.Refusal.{symNumbered, nameNumbered};
 ghost use Rattle.tape.specs.CheckSteps.{leafOf, scalarLeaf, leafMet, met, frameOf, symsFront, notesFront, headFront, Checks, Refuses, TapeChecks};
 use crate::Frame;
@@ -293,11 +293,12 @@ fn open_met(tape: &[u8], at: usize, end: usize, frame: Frame) -> Met
     Met::Open(frame, n)
 }
 
-// `free`: a marker may stand here.
-fn value_met(tape: &[u8], at: usize, end: usize, free: bool) -> Met
+// The value at a place, of the child that starts at `from`.
+fn value_met(tape: &[u8], at: usize, end: usize, from: usize, frame: Frame) -> Met
+    requires { ⌜ from < end ⌝ }
     requires { ⌜ at ≤ end ⌝ }
     requires { ⌜ end ≤ length (now tape) ⌝ }
-    ensures { λ r. ⌜ r ≡ met (valueOf free (part (now (tape .entry)) at end)) ⌝ }
+    ensures { λ r. ⌜ r ≡ met (valueOf (free frame (part (now (tape .entry)) from end)) (part (now (tape .entry)) at end)) ⌝ }
 {
     if at == end {
         return Met::Bad(2);
@@ -312,7 +313,7 @@ fn value_met(tape: &[u8], at: usize, end: usize, free: bool) -> Met
     if k != 14 {
         return Met::Bad(2);
     }
-    if free {
+    if crate::is_free(tape, from, end, frame) {
         return Met::Leaf(1, false);
     }
     Met::Bad(2)
@@ -423,7 +424,7 @@ fn check_nodes(tape: &[u8], from: usize, end: usize, frame: Frame, depth: usize)
         else {
             return refused(2);
         };
-        let v = value_met(tape, p, end, crate::is_free(tape, at, end, frame));
+        let v = value_met(tape, p, end, at, frame);
         match v {
             Met::Bad(f) => {
                 return refused(f);

@@ -26,7 +26,6 @@ use Rattle.tape.proofs.check.check_nodes.Kinds as kinds
 use Rattle.tape.proofs.check.+check_nodes.Lts-check_nodes as lts
 use Rattle.tape.proofs.check.refused.Reads as refused
 use Rattle.tape.proofs.check.head_seen.Reads as head-seen
-use Rattle.tape.proofs.is_free.Reads as is-free
 use Rattle.tape.proofs.check.value_met.Reads as value-met
 use Rattle.tape.proofs.check.either.Reads as either
 use Rattle.tape.proofs.check.+check_nodes.{statement}
@@ -42,7 +41,7 @@ abbrev below : ℕ → In 1 kinds.ps
 below t = and 1 kinds.ps (falls 1 kinds.ps _<_ μ t) own.Pre
 
 abbrev callees : ℕ → lts.Claims
-callees t = (refused.Asked, refused.Learnt, head-seen.Asked, head-seen.Learnt, is-free.Asked, is-free.Learnt, value-met.Asked, value-met.Learnt, either.Asked, either.Learnt, below t, own.Post)
+callees t = (refused.Asked, refused.Learnt, head-seen.Asked, head-seen.Learnt, value-met.Asked, value-met.Learnt, either.Asked, either.Learnt, below t, own.Post)
 
 abbrev Inv : lts.InvT-loop
 Inv tape from end frame depth at₀ count₀ noted₀ numbered₀ at count noted numbered =
@@ -86,10 +85,10 @@ module _ (t : ℕ) (c : lts.After-known-told (callees t) (at t) own.Post Inv μ-
 
 module _ (t : ℕ) (c : lts.After-value-met (callees t) (at t) own.Post Inv μ-loop) where
   abbrev it : lts.After-known-told (callees t) (at t) own.Post Inv μ-loop
-  it = c .before .before
+  it = c .before
 
   value-is : (v : Met) → c .value-met .result ≡ v → v ≡ met (valueOf (free (frame t it) (part (tape t it) (place t it) (end t it))) (part (tape t it) (behind t it) (end t it)))
-  value-is v e = sym e ∙ c .value-met .ensures ∙ ap (λ (f : Bool). met (valueOf f (part (tape t it) (behind t it) (end t it)))) (c .before .is-free .ensures)
+  value-is v e = sym e ∙ c .value-met .ensures
 
   leaf : (n : ℕ) (b : Bool) → c .value-met .result ≡ M.Leaf n b → LeafSeen (depth t it) (frame t it) (tape t it) (place t it) (end t it) (behind t it + n) b
   leaf n b e = single-turn (depth t it) (frame t it) (tape t it) (place t it) (end t it) (opened t it) (left t it) (fits t it) (head t it) n b (value-is _ e)
@@ -129,11 +128,8 @@ module _ (t : ℕ) where
       let u = headless-turn (a .depth) (a .frame) (now (a .tape)) (l .at) (a .end) (c .before .before .before .before .before .before .if1 .left) (c .before .before .before .before .loop-test .taken) (s .pre .1 .1) (l .noted) (l .numbered) (sym (c .before .enum-told .given .1) ∙ c .before .before .before .head-seen .ensures) in
       refuse (l .inv .2) _ 2 (u .fault) (u .some) (c .refused2 .ensures .fault)
 
-  is-free-requires : lts.Need-is-free-requires (callees t) (at t) own.Post Inv μ-loop
-  is-free-requires c κs = (left t c, fits t c)
-
   value-met-requires : lts.Need-value-met-requires (callees t) (at t) own.Post Inv μ-loop
-  value-met-requires c κs = (head t (c .before) .within, fits t (c .before))
+  value-met-requires c κs = (left t c, (head t c .within, fits t c))
 
   enum-known-v : lts.Need-enum-known-v (callees t) (at t) own.Post Inv μ-loop
   enum-known-v c = search needs
@@ -144,9 +140,9 @@ module _ (t : ℕ) where
   returns-3 : lts.Need-returns-3 (callees t) (at t) own.Post Inv μ-loop
   returns-3 c =
       let v = c .before .before .before .before in
-      let g = v .before .before in
+      let g = v .before in
       let u = refused-turn (depth t g) (frame t g) (tape t g) (place t g) (end t g) (opened t g) (left t g) (fits t g) (head t g) _ (value-is t v _ (c .before .before .v .given .1)) in
-      refuse (c .before .before .before .before .before .before .before .before .before .before .before .loop .inv .2) _ _ (u .fault) (u .some) (c .refused3 .ensures .fault)
+      refuse (c .before .before .before .before .before .before .before .before .before .before .loop .inv .2) _ _ (u .fault) (u .some) (c .refused3 .ensures .fault)
 
   enum-known-v-2 : lts.Need-enum-known-v-2 (callees t) (at t) own.Post Inv μ-loop
   enum-known-v-2 c = search needs
@@ -156,7 +152,7 @@ module _ (t : ℕ) where
 
   add-count : lts.Need-add-count (callees t) (at t) own.Post Inv μ-loop
   add-count c =
-      let l = c .before .before .before .before .before .before .before .before .before .before .before .loop in
+      let l = c .before .before .before .before .before .before .before .before .before .before .loop in
       let u = leaf t (c .before .before .before .before) _ _ (c .before .before .v2 .given .1) in
       let f = u .forth in
       let w = u .within in
@@ -178,8 +174,8 @@ module _ (t : ℕ) where
 
   loop-again : lts.Need-loop-again (callees t) (at t) own.Post Inv μ-loop
   loop-again c =
-      let l = c .before .before .before .before .before .before .before .before .before .before .before .loop in
-      let i = c .before .before .before .before .before .before in
+      let l = c .before .before .before .before .before .before .before .before .before .before .loop in
+      let i = c .before .before .before .before .before in
       let h = head t i in
       let hd = headAt (frame t i) (part (tape t i) (place t i) (end t i)) in
       let u = leaf t (c .before .before .before .before) _ _ (c .before .before .v2 .given .1) in
@@ -222,9 +218,9 @@ module _ (t : ℕ) where
   check-nodes-requires c κs =
       let u = tree t (c .before .before .before) _ _ (c .before .v3 .given .1) in
       let w = u .within in
-      let s = c .before .before .before .before .before .before .before .before .before .before .before .before .before in
+      let s = c .before .before .before .before .before .before .before .before .before .before .before .before in
       let z = s .pre .0 in
-      let nz = c .before .before .before .before .before .before .before .before .before .before .before .if1 .left in
+      let nz = c .before .before .before .before .before .before .before .before .before .before .if1 .left in
       let y = s .pre .1 .1 in
       (omega arith, (u .inner, omega arith))
 
@@ -233,10 +229,10 @@ module _ (t : ℕ) where
 
   returns-4 : lts.Need-returns-4 (callees t) (at t) own.Post Inv μ-loop
   returns-4 c =
-      let h = head t (c .before .before .before .before .before .before .before .before .before) in
+      let h = head t (c .before .before .before .before .before .before .before .before) in
       let u = tree t (c .before .before .before .before .before .before .before) _ _ (c .before .before .before .before .before .v3 .given .1) in
       let r = c .before .before .before .check-nodes .ensures in
-      refuse-node (c .before .before .before .before .before .before .before .before .before .before .before .before .before .before .loop .inv .2) _ _ _ _ (u .step) _ (h .sound) (λ z. c .before .if2 .taken (r .fault ∙ z)) (c .refused4 .ensures .fault ∙ r .fault)
+      refuse-node (c .before .before .before .before .before .before .before .before .before .before .before .before .before .loop .inv .2) _ _ _ _ (u .step) _ (h .sound) (λ z. c .before .if2 .taken (r .fault ∙ z)) (c .refused4 .ensures .fault ∙ r .fault)
 
   either-requires-2 : lts.Need-either-requires-2 (callees t) (at t) own.Post Inv μ-loop
   either-requires-2 c κs = search needs
@@ -246,8 +242,8 @@ module _ (t : ℕ) where
 
   add-count-2 : lts.Need-add-count-2 (callees t) (at t) own.Post Inv μ-loop
   add-count-2 c =
-      let s = c .before .before .before .before .before .before .before .before .before .before .before .before .before .before .before .before .before .before in
-      let l = c .before .before .before .before .before .before .before .before .before .before .before .before .before .before .before .loop in
+      let s = c .before .before .before .before .before .before .before .before .before .before .before .before .before .before .before .before .before in
+      let l = c .before .before .before .before .before .before .before .before .before .before .before .before .before .before .loop in
       let u = tree t (c .before .before .before .before .before .before .before .before) _ _ (c .before .before .before .before .before .before .v3 .given .1) in
       let f = u .forth in
       let w = u .within in
@@ -256,7 +252,7 @@ module _ (t : ℕ) where
 
   add-at-2 : lts.Need-add-at-2 (callees t) (at t) own.Post Inv μ-loop
   add-at-2 c =
-      let s = c .before .before .before .before .before .before .before .before .before .before .before .before .before .before .before .before .before .before in
+      let s = c .before .before .before .before .before .before .before .before .before .before .before .before .before .before .before .before .before in
       let u = tree t (c .before .before .before .before .before .before .before .before) _ _ (c .before .before .before .before .before .before .v3 .given .1) in
       let g = u .inner in
       let w = u .within in
@@ -264,7 +260,7 @@ module _ (t : ℕ) where
 
   add-at-3 : lts.Need-add-at-3 (callees t) (at t) own.Post Inv μ-loop
   add-at-3 c =
-      let s = c .before .before .before .before .before .before .before .before .before .before .before .before .before .before .before .before .before .before in
+      let s = c .before .before .before .before .before .before .before .before .before .before .before .before .before .before .before .before .before in
       let u = tree t (c .before .before .before .before .before .before .before .before) _ _ (c .before .before .before .before .before .before .v3 .given .1) in
       let g = u .inner in
       let w = u .within in
@@ -280,8 +276,8 @@ module _ (t : ℕ) where
   loop-again-2 : lts.Need-loop-again-2 (callees t) (at t) own.Post Inv μ-loop
   unfolding noted numbered
   loop-again-2 c =
-      let l = c .before .before .before .before .before .before .before .before .before .before .before .before .before .before .before .loop in
-      let i = c .before .before .before .before .before .before .before .before .before .before in
+      let l = c .before .before .before .before .before .before .before .before .before .before .before .before .before .before .loop in
+      let i = c .before .before .before .before .before .before .before .before .before in
       let h = head t i in
       let hd = headAt (frame t i) (part (tape t i) (place t i) (end t i)) in
       let u = tree t (c .before .before .before .before .before .before .before .before) _ _ (c .before .before .before .before .before .before .v3 .given .1) in
@@ -308,4 +304,4 @@ module _ (t : ℕ) where
 
 pub +check-nodes-spec : {M : Type 1} → statement M
 +check-nodes-spec = close μ λ t. lts.spec (callees t) (at t) own.Post Inv μ-loop
-    (refused-requires t) (returns t) (loop-holds t) (head-seen-requires t) (enum-known-p t) (enum-told t) (refused-requires-2 t) (returns-2 t) (is-free-requires t) (value-met-requires t) (enum-known-v t) (refused-requires-3 t) (returns-3 t) (enum-known-v-2 t) (either-requires t) (add-count t) (add-at t) (loop-less t) (loop-again t) (enum-known-v-3 t) (add-check-nodes t) (add-check-nodes-2 t) (add-check-nodes-3 t) (sub-check-nodes t) (check-nodes-requires t) (refused-requires-4 t) (returns-4 t) (either-requires-2 t) (either-requires-3 t) (add-count-2 t) (add-at-2 t) (add-at-3 t) (loop-less-2 t) (loop-again-2 t) (returns-5 t)
+    (refused-requires t) (returns t) (loop-holds t) (head-seen-requires t) (enum-known-p t) (enum-told t) (refused-requires-2 t) (returns-2 t) (value-met-requires t) (enum-known-v t) (refused-requires-3 t) (returns-3 t) (enum-known-v-2 t) (either-requires t) (add-count t) (add-at t) (loop-less t) (loop-again t) (enum-known-v-3 t) (add-check-nodes t) (add-check-nodes-2 t) (add-check-nodes-3 t) (sub-check-nodes t) (check-nodes-requires t) (refused-requires-4 t) (returns-4 t) (either-requires-2 t) (either-requires-3 t) (add-count-2 t) (add-at-2 t) (add-at-3 t) (loop-less-2 t) (loop-again-2 t) (returns-5 t)
