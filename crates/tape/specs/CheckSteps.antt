@@ -47,7 +47,7 @@ met (body k n) = M.Open k n
 unfoldable pub frameOf : ℕ → Frame
 frameOf k = if (eqb k 10) ListF (if (eqb k 11) Sexp Struct)
 
--- of what stands before a value, with its problem f: refused, or it ends at p; m and b as in `Front`
+-- of what stands before a value, with its problem f: refused, or it ends at p; m: there are annotations, b: there is an identifier but 0
 abbrev pub front : ℕ → ℕ → Bool → Bool → Front
 front zero p m b = F.Whole p m b
 front (suc f) p m b = F.Bad
@@ -56,7 +56,7 @@ front (suc f) p m b = F.Bad
 abbrev pub frontOf : {A : Type 0} → (A → ℕ) → (A → Bool) → (A → Bool) → ℕ → Option (A × ℕ) → Front
 frontOf f m b at o = past o F.Bad (λ a n. front (f a) (at + n) (m a) (b a))
 
--- of the symbols of an annotation, behind an identifier but 0 if b
+-- of symbols that are annotations, behind an identifier but 0 if b
 abbrev pub symsFront : ℕ → Bool → Option (List Sym × ℕ) → Front
 symsFront at b o = frontOf symsFault (λ ss. true) (λ ss. b || symsNumbered ss) at o
 

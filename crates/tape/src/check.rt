@@ -257,9 +257,11 @@ fn scalar_seen(tape: &[u8], at: usize, end: usize) -> Leaf
     if 9 < k {
         return Leaf::Bad(2);
     }
+    // the text of a symbol, 6, or of a string, 8
     text_seen(tape, at, end)
 }
 
+// A node without a body, as a value.
 fn leaf_met(s: Leaf) -> Met
     ensures { λ r. ⌜ r ≡ leafMet s ⌝ }
 {
@@ -269,7 +271,7 @@ fn leaf_met(s: Leaf) -> Met
     }
 }
 
-// The frame of a container, by its kind byte.
+// The frame of a container, by its kind byte 10, 11 or 12.
 fn frame_of(k: u8) -> Frame
     ensures { λ r. ⌜ r ≡ frameOf k ⌝ }
 {
