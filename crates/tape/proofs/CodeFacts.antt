@@ -1,32 +1,31 @@
 -- What validation says of what was read. Assumes nothing.
 use Prim.Native.Nat.{ℕ, zero, suc, _+_, _-_, _<_, _≤_}
-use mathlib.Core.Path.{_≡_, refl, ap, _∙_}
+use mathlib.Core.Path.{_≡_, refl, sym, ap, _∙_}
 use mathlib.Core.List.{List, [], _∷_}
-use mathlib.Core.Bool.{Bool, true, false, _||_, or-assoc, or-false}
+use mathlib.Core.Bool.{Bool, true, false, _||_, or-assoc, or-false, or-true}
 use mathlib.Core.Option.{Option, none, some}
 use native.Mathlib.Nat.{not-suc-le-zero}
 use native.Mathlib.Omega.{arith}
+use native.Mathlib.Decide.{decLe}
 use lib.ListN.{length, getD, take, drop}
 use lib.Seq.{take-take}
 use borrow.Author.Tests.{eq-eqb}
 use Rattle.output.specs.Logic.{if}
 use Rattle.text_rules.specs.Text.{Sym}
+use Rattle.text_rules.specs.Utf8.{valid}
 use Rattle.numbers.specs.Timestamp.{wellFormed}
 use Rattle.tape.specs.Bytes.{part, first}
-use Rattle.tape.specs.Tree.{Scalar, symbol, string, scalar}
-use Rattle.tape.specs.Tape.{past, kind, textOf, symOf, symsOf, nameOf, notesOf, headOf, timestampAs, timestampOf, symbolOf, sizedOf, absent, leaf, textFault, symFault, symsFault, nameFault, headFault, scalarFault}
-use Rattle.tape.specs.Refusal.{symNumbered, symsNumbered, nameNumbered, headNumbered, scalarNumbered, numbered}
-use Rattle.tape.specs.CheckSteps.{seen, seenScalar, met, symsFront, notesFront, front}
+use Rattle.tape.specs.Tree.{Scalar, Head, symbol, string, scalar}
+use Rattle.tape.specs.Tape.{past, kind, textOf, symOf, symsOf, nameOf, notesOf, headOf, timestampAs, timestampOf, symbolOf, sizedOf, scalarOf, absent, leaf, openOf, valueOf, textFault, symFault, symsFault, nameFault, headFault, scalarFault}
+use Rattle.tape.specs.Refusal.{annotated, symNumbered, symsNumbered, nameNumbered, headNumbered, scalarNumbered, numbered}
+use Rattle.tape.specs.CheckSteps.{whole, leafOf, scalarLeaf, leafMet, met, frameOf, frontOf, symsFront, notesFront, headFront}
 use Rattle.tape.specs.declared.Frame.{Frame}
 use Rattle.tape.specs.declared.Frame.the-variants.{Struct}
-use Rattle.tape.specs.declared.check.Seen.{Seen}
-use Rattle.tape.specs.declared.check.Seen.the-variants as S
-use Rattle.tape.specs.declared.check.Met.{Met}
-use Rattle.tape.specs.declared.check.Met.the-variants as M
+use Rattle.tape.specs.declared.check.Leaf.the-variants as L
 use Rattle.tape.specs.declared.check.Front.the-variants as F
 use Rattle.tape.proofs.Parts.{part-length, part-drop}
-use Rattle.tape.proofs.Reading.{Sound, something, Counted, counted, syms-count}
-use Rattle.tape.proofs.CodeReading.{timestamp-some, notes-some}
+use Rattle.tape.proofs.Reading.{if-all, Sound, something, Counted, counted, syms-count}
+use Rattle.tape.proofs.CodeReading.{timestamp-some, scalar-symbol, scalar-string, value-list, value-sexp, value-struct, notes-some}
 
 -- ---- the first of problems
 
@@ -34,136 +33,191 @@ pub first-inner : (p r : ℕ) → (p ≡ 0 → ⊥) → first p r ≡ p
 first-inner zero r nz = absurd (nz refl)
 first-inner (suc p) r nz = refl
 
-first-assoc : (a b c : ℕ) → first (first a b) c ≡ first a (first b c)
-first-assoc zero b c = refl
-first-assoc (suc a) b c = refl
+-- a problem in a head is 2
+abbrev Two : ℕ → Type 0
+Two p = (p ≡ 0 → ⊥) → p ≡ 2
 
-first-last : (a : ℕ) → first a 0 ≡ a
-first-last zero = refl
-first-last (suc a) = refl
+first-two : (p r : ℕ) → Two p → Two r → Two (first p r)
+first-two zero r e f = f
+first-two (suc p) r e f = e
+
+sym-two : (s : Sym) → Two (symFault s)
+unfolding textFault
+sym-two (Sym.text s) = if-all Two {b = valid s} {x = 0} {y = 2} (λ _ nz. absurd (nz refl)) (λ _ nz. refl)
+sym-two (Sym.id n) = λ nz. absurd (nz refl)
+
+syms-two : (ss : List Sym) → Two (symsFault ss)
+unfolding symsFault
+syms-two [] = λ nz. absurd (nz refl)
+syms-two (s ∷ ss) = first-two (symFault s) (symsFault ss) (sym-two s) (syms-two ss)
+
+name-two : (a : Option Sym) → Two (nameFault a)
+name-two none = λ nz. absurd (nz refl)
+name-two (some s) = sym-two s
+
+pub head-two : (h : Head) → Two (headFault h)
+unfolding headFault
+head-two h = first-two (nameFault (h .0)) (symsFault (h .1)) (name-two (h .0)) (syms-two (h .1))
 
 -- the bytes of a text node, on the tape
 pub part-text : (s : List ℕ) (at e n : ℕ) → at + 5 + n ≤ e → take n (drop 5 (part s at e)) ≡ take n (drop (at + 5) s)
 part-text s at e n h = ap (take n) (part-drop s at e 5) ∙ take-take n (e - (at + 5)) (drop (at + 5) s) (omega arith)
 
--- ---- what was read, where something was seen
+-- a kind that is none of 0 to 5
+pub six-on : (k : ℕ) → (k ≡ 0 → ⊥) → (k ≡ 1 → ⊥) → (k ≡ 2 → ⊥) → (k ≡ 3 → ⊥) → (k ≡ 4 → ⊥) → (k ≡ 5 → ⊥) → 6 ≤ k
+six-on k a b c d e f = omega arith
 
-record Read {A : Type 0} (f : A → ℕ) (g : A → Bool) (o : Option (A × ℕ)) (n p : ℕ) (b : Bool) : Type 0 where
+-- ---- what was read, where a leaf was seen
+
+record Read {A : Type 0} (f : A → ℕ) (g : A → Bool) (o : Option (A × ℕ)) (n : ℕ) (b : Bool) : Type 0 where
   it : A
   is : o ≡ some (it, n)
-  problem : f it ≡ p
+  sound : f it ≡ 0
   number : g it ≡ b
 
 module _ {A : Type 0} (f : A → ℕ) (g : A → Bool) where
-  seen-read : (o : Option (A × ℕ)) (n p : ℕ) (b : Bool) → S.Whole n p b ≡ seen f g o → Read f g o n p b
-  seen-read none n p b e = let z : _≡_ {A = ℕ} 0 1 = cc in absurd (omega arith)
-  seen-read (some (a, m)) n p b e = let i : m ≡ n = cc in record { it = a; is = ap (λ (j : ℕ). some (a, j)) i; problem = cc; number = cc }
-
-  seen-none : (o : Option (A × ℕ)) → S.Bad ≡ seen f g o → o ≡ none
-  seen-none none e = refl
-  seen-none (some (a, m)) e = let z : _≡_ {A = ℕ} 0 1 = cc in absurd (omega arith)
+  leaf-read : (o : Option (A × ℕ)) (n : ℕ) (b : Bool) → L.Whole n b ≡ leafOf f g o → Read f g o n b
+  leaf-read none n b e = let z : _≡_ {A = ℕ} 0 1 = cc in absurd (omega arith)
+  leaf-read (some (a, m)) n b e = go (f a) refl e
+    where
+      go : (p : ℕ) → f a ≡ p → L.Whole n b ≡ whole p m (g a) → Read f g (some (a, m)) n b
+      go zero z e = let i : m ≡ n = cc in record { it = a; is = ap (λ (j : ℕ). some (a, j)) i; sound = z; number = cc }
+      go (suc p) z e = let z : _≡_ {A = ℕ} 0 1 = cc in absurd (omega arith)
 
   -- it ends within the part
-  pub seen-within : (enc : A → List ℕ) (s : List ℕ) (at e : ℕ) (o : Option (A × ℕ)) (n p : ℕ) (b : Bool) → at ≤ e → e ≤ length s → Sound enc (part s at e) o → S.Whole n p b ≡ seen f g o
+  pub leaf-within : (enc : A → List ℕ) (s : List ℕ) (at e : ℕ) (o : Option (A × ℕ)) (n : ℕ) (b : Bool) → at ≤ e → e ≤ length s → Sound enc (part s at e) o → L.Whole n b ≡ leafOf f g o
       → at + n ≤ e
-  seen-within enc s at e none n p b h i w z = let z : _≡_ {A = ℕ} 0 1 = cc in absurd (omega arith)
-  seen-within enc s at e (some (a, m)) n p b h i (something w t) z = let y : m ≡ n = cc in let l = part-length s at e i in omega arith
+  leaf-within enc s at e none n b h i w z = let z : _≡_ {A = ℕ} 0 1 = cc in absurd (omega arith)
+  leaf-within enc s at e (some (a, m)) n b h i (something w t) z =
+      let r = leaf-read (some (a, m)) n b z in
+      let y : m ≡ n = ap (λ (o : Option (A × ℕ)). past o 0 (λ x j. j)) (r .is) in
+      let l = part-length s at e i in
+      omega arith
 
 -- what is made of what was read
-seen-map : {A B : Type 0} (f : B → ℕ) (g : B → Bool) (h : A → B) (o : Option (A × ℕ)) → seen (λ a. f (h a)) (λ a. g (h a)) o ≡ seen f g (past o none (λ a n. some (h a, n)))
-seen-map f g h none = refl
-seen-map f g h (some (a, n)) = refl
+leaf-map : {A B : Type 0} (f : B → ℕ) (g : B → Bool) (h : A → B) (o : Option (A × ℕ)) → leafOf (λ a. f (h a)) (λ a. g (h a)) o ≡ leafOf f g (past o none (λ a n. some (h a, n)))
+leaf-map f g h none = refl
+leaf-map f g h (some (a, n)) = refl
 
 module _ (l : List ℕ) where
-  pub seen-text : kind l ≡ 6 → seen textFault (λ s. false) (textOf l) ≡ seen symFault symNumbered (symOf l)
+  pub leaf-text : kind l ≡ 6 → leafOf textFault (λ s. false) (textOf l) ≡ leafOf symFault symNumbered (symOf l)
   unfolding symOf
-  seen-text k = simp (eq-eqb _ _ k) (seen-map symFault symNumbered Sym.text (textOf l))
+  leaf-text k = simp (eq-eqb _ _ k) (leaf-map symFault symNumbered Sym.text (textOf l))
 
-  pub seen-name : seen symFault symNumbered (symOf l) ≡ seen nameFault nameNumbered (nameOf Struct l)
+  pub leaf-name : leafOf symFault symNumbered (symOf l) ≡ leafOf nameFault nameNumbered (nameOf Struct l)
   unfolding nameOf
-  seen-name = seen-map nameFault nameNumbered some (symOf l)
+  leaf-name = leaf-map nameFault nameNumbered some (symOf l)
 
-  pub seen-symbol : seen symFault symNumbered (symOf l) ≡ seenScalar (symbolOf l)
+  pub leaf-symbol : leafOf symFault symNumbered (symOf l) ≡ scalarLeaf (symbolOf l)
   unfolding symbolOf scalarFault scalarNumbered
-  seen-symbol = seen-map scalarFault scalarNumbered symbol (symOf l)
+  leaf-symbol = leaf-map scalarFault scalarNumbered symbol (symOf l)
 
-  pub seen-string : seen textFault (λ s. false) (textOf l) ≡ seenScalar (sizedOf string l)
+  leaf-string : leafOf textFault (λ s. false) (textOf l) ≡ scalarLeaf (sizedOf string l)
   unfolding sizedOf scalarFault scalarNumbered
-  seen-string = seen-map scalarFault scalarNumbered string (textOf l)
+  leaf-string = leaf-map scalarFault scalarNumbered string (textOf l)
 
-  pub seen-timestamp : (b : Bool) → 16 ≤ length l → b ≡ wellFormed (timestampAs l) → S.Whole 16 (if b 0 2) false ≡ seenScalar (timestampOf l)
+  -- a symbol's text or a string
+  pub leaf-texts : 6 ≤ kind l → (kind l ≡ 7 → ⊥) → (kind l ≡ 9 → ⊥) → kind l ≤ 9 → leafOf textFault (λ s. false) (textOf l) ≡ scalarLeaf (scalarOf l)
+  leaf-texts h m n g = go (decLe (kind l) 6)
+    where
+      go : Dec (kind l ≤ 6) → leafOf textFault (λ s. false) (textOf l) ≡ scalarLeaf (scalarOf l)
+      go (yes e) = let k : kind l ≡ 6 = omega arith in leaf-text k ∙ leaf-symbol ∙ sym (ap scalarLeaf (scalar-symbol l (omega arith) (omega arith)))
+      go (no e) = let k : kind l ≡ 8 = omega arith in leaf-string ∙ sym (ap scalarLeaf (scalar-string l k))
+
+  pub leaf-timestamp : (b : Bool) → 16 ≤ length l → b ≡ wellFormed (timestampAs l) → whole (if b 0 2) 16 false ≡ scalarLeaf (timestampOf l)
   unfolding scalarFault scalarNumbered
-  seen-timestamp b h e = rw (timestamp-some l h, e)
+  leaf-timestamp b h e = rw (timestamp-some l h, e)
 
--- ---- a scalar as a value
+-- ---- values
 
-abbrev pub leafOf : Seen → Met
-leafOf S.Bad = M.Bad
-leafOf (S.Whole n f b) = M.Leaf n f b
-
-pub met-scalar : (o : Option (Scalar × ℕ)) → leafOf (seenScalar o) ≡ met (past o absent (λ s n. leaf (scalar s) n))
+pub met-scalar : (o : Option (Scalar × ℕ)) → leafMet (scalarLeaf o) ≡ met (past o absent (λ s n. leaf (scalar s) n))
 unfolding numbered
 met-scalar none = refl
 met-scalar (some (s, n)) = refl
 
--- ---- symbols, one after another, behind the problem f and, if b, an identifier but 0
+pub value-open : (f : Bool) (l : List ℕ) → 10 ≤ kind l → kind l < 13 → valueOf f l ≡ openOf (frameOf (kind l)) l
+unfolding frameOf
+value-open f l h g = go (decLe (kind l) 10) (decLe (kind l) 11)
+  where
+    go : Dec (kind l ≤ 10) → Dec (kind l ≤ 11) → valueOf f l ≡ openOf (frameOf (kind l)) l
+    go (yes a) b = let k : kind l ≡ 10 = omega arith in value-list f l k ∙ rw k
+    go (no a) (yes b) = let k : kind l ≡ 11 = omega arith in value-sexp f l k ∙ rw k
+    go (no a) (no b) = let k : kind l ≡ 12 = omega arith in value-struct f l k ∙ rw k
 
-pub front-end : (p f : ℕ) (b : Bool) (c : ℕ) (l : List ℕ) → c ≤ 0 → F.Whole p f true b ≡ symsFront p f b (symsOf c l)
-unfolding symsOf symsFault symsNumbered
-front-end p f b zero l h = let i : p ≡ p + 0 = omega arith in let x = first-last f in let y = or-false b in cc
-front-end p f b (suc c) l h = absurd (not-suc-le-zero h)
+-- ---- what stands before a value: j joins what was read at a place and what was read behind it
 
-module _ (s : List ℕ) (p e f : ℕ) (b : Bool) where
-  pub front-stop : (c : ℕ) → 0 < c → S.Bad ≡ seen symFault symNumbered (symOf (part s p e)) → F.Bad ≡ symsFront p f b (symsOf c (part s p e))
-  unfolding symsOf
-  front-stop zero h z = absurd (not-suc-le-zero h)
-  front-stop (suc c) h z = rw (seen-none symFault symNumbered (symOf (part s p e)) z)
-
-  pub front-step : (c n g : ℕ) (h : Bool) → 0 < c → S.Whole n g h ≡ seen symFault symNumbered (symOf (part s p e))
-      → symsFront p f b (symsOf c (part s p e)) ≡ symsFront (p + n) (first f g) (b || h) (symsOf (c - 1) (part s (p + n) e))
-  unfolding symsOf symsFault symsNumbered
-  front-step zero n g h i z = absurd (not-suc-le-zero i)
-  front-step (suc c) n g h i z =
-      let r = seen-read symFault symNumbered (symOf (part s p e)) n g h z in
-      let d : suc c - 1 ≡ c = omega arith in
-      rw (r .is, part-drop s p e n, d) (go (r .it) (r .problem) (r .number) (symsOf c (part s (p + n) e)))
+module _ {A B C : Type 0} (f : A → ℕ) (g : A → Bool) (f′ : B → ℕ) (f″ : C → ℕ) (m″ n″ : C → Bool) (j : A → B → C) (faults : (a : A) (x : B) → f″ (j a x) ≡ first (f a) (f′ x)) where
+  then-stop : (at p : ℕ) (o : Option (A × ℕ)) (rest : ℕ → Option (B × ℕ)) → L.Bad p ≡ leafOf f g o
+      → F.Bad ≡ frontOf f″ m″ n″ at (past o none (λ a i. past (rest i) none (λ x k. some (j a x, i + k))))
+  then-stop at p none rest z = refl
+  then-stop at p (some (a, i)) rest z = go (f a) refl z (rest i)
     where
-      go : (a : Sym) → symFault a ≡ g → symNumbered a ≡ h → (o : Option (List Sym × ℕ))
-          → symsFront p f b (past o none (λ ss m. some (a ∷ ss, n + m))) ≡ symsFront (p + n) (first f g) (b || h) o
-      go a x y none = refl
-      go a x y (some (ss, m)) =
-          let i : p + (n + m) ≡ p + n + m = omega arith in
-          rw (i, x, y, first-assoc f g (symsFault ss), or-assoc b h (symsNumbered ss))
+      go : (q : ℕ) → f a ≡ q → L.Bad p ≡ whole q i (g a) → (o : Option (B × ℕ)) → F.Bad ≡ frontOf f″ m″ n″ at (past o none (λ x k. some (j a x, i + k)))
+      go zero e z o = let y : _≡_ {A = ℕ} 0 1 = cc in absurd (omega arith)
+      go (suc q) e z none = refl
+      go (suc q) e z (some (x, k)) = rw (faults a x, e)
+
+  then-step : (m n : B → Bool) (at i : ℕ) (b : Bool) (o : Option (A × ℕ)) (rest : ℕ → Option (B × ℕ)) → L.Whole i b ≡ leafOf f g o
+      → ((a : A) (x : B) → m x ≡ m″ (j a x)) → ((a : A) (x : B) → g a ≡ b → n x ≡ n″ (j a x))
+      → frontOf f″ m″ n″ at (past o none (λ a i. past (rest i) none (λ x k. some (j a x, i + k)))) ≡ frontOf f′ m n (at + i) (rest i)
+  then-step m n at i b o rest z u v = let r = leaf-read f g o i b z in rw (r .is) (go (r .it) (r .sound) (r .number) (rest i))
+    where
+      go : (a : A) → f a ≡ 0 → g a ≡ b → (o : Option (B × ℕ)) → frontOf f″ m″ n″ at (past o none (λ x k. some (j a x, i + k))) ≡ frontOf f′ m n (at + i) o
+      go a e h none = refl
+      go a e h (some (x, k)) = let y : at + (i + k) ≡ at + i + k = omega arith in rw (faults a x, e, y, u a x, v a x h)
+
+-- ---- symbols, one after another, behind an identifier but 0 if b
+
+pub front-end : (p : ℕ) (b : Bool) (c : ℕ) (l : List ℕ) → c ≤ 0 → F.Whole p true b ≡ symsFront p b (symsOf c l)
+unfolding symsOf symsFault symsNumbered
+front-end p b zero l h = let i : p ≡ p + 0 = omega arith in let y = or-false b in cc
+front-end p b (suc c) l h = absurd (not-suc-le-zero h)
+
+module _ (s : List ℕ) (p e : ℕ) (b : Bool) where
+  pub front-stop : (c f : ℕ) → 0 < c → L.Bad f ≡ leafOf symFault symNumbered (symOf (part s p e)) → F.Bad ≡ symsFront p b (symsOf c (part s p e))
+  unfolding symsOf symsFault
+  front-stop zero f h z = absurd (not-suc-le-zero h)
+  front-stop (suc c) f h z =
+      then-stop symFault symNumbered symsFault symsFault (λ ss. true) (λ ss. b || symsNumbered ss) _∷_ (λ a ss. refl) p f (symOf (part s p e)) (λ i. symsOf c (drop i (part s p e))) z
+
+  pub front-step : (c n : ℕ) (h : Bool) → 0 < c → L.Whole n h ≡ leafOf symFault symNumbered (symOf (part s p e))
+      → symsFront p b (symsOf c (part s p e)) ≡ symsFront (p + n) (b || h) (symsOf (c - 1) (part s (p + n) e))
+  unfolding symsOf symsFault symsNumbered
+  front-step zero n h i z = absurd (not-suc-le-zero i)
+  front-step (suc c) n h i z =
+      let d : c ≡ suc c - 1 = omega arith in
+      then-step symFault symNumbered symsFault symsFault (λ ss. true) (λ ss. b || symsNumbered ss) _∷_ (λ a ss. refl) (λ ss. true) (λ ss. b || h || symsNumbered ss) p n h (symOf (part s p e)) (λ i. symsOf c (drop i (part s p e))) z (λ a ss. refl)
+      (λ a ss y. or-assoc b h (symsNumbered ss) ∙ ap (λ (x : Bool). b || (x || symsNumbered ss)) (sym y))
+      ∙ ap (λ (l : List ℕ). symsFront (p + n) (b || h) (symsOf c l)) (part-drop s p e n)
+      ∙ ap (λ (i : ℕ). symsFront (p + n) (b || h) (symsOf i (part s (p + n) e))) d
 
 -- ---- annotations
 
-module _ (l : List ℕ) (at f : ℕ) (b : Bool) where
-  pub front-none : notesOf l ≡ some ([], 0) → F.Whole at f false b ≡ notesFront at f b (notesOf l)
+module _ (l : List ℕ) (at : ℕ) (m b : Bool) where
+  pub front-none : notesOf l ≡ some ([], 0) → F.Whole at m b ≡ notesFront at m b (notesOf l)
   unfolding symsFault symsNumbered
-  front-none e = let i : at + 0 ≡ at = omega arith in rw (e, i, first-last f, or-false b)
+  front-none e = let i : at + 0 ≡ at = omega arith in rw (e, i, or-false m, or-false b)
 
-  pub front-notes : kind l ≡ 13 → 1 ≤ getD l 1 0 → getD l 1 0 ≤ 16 → symsFront (at + 2) f b (symsOf (getD l 1 0) (drop 2 l)) ≡ notesFront at f b (notesOf l)
+  pub front-notes : kind l ≡ 13 → 1 ≤ getD l 1 0 → getD l 1 0 ≤ 16 → symsFront (at + 2) b (symsOf (getD l 1 0) (drop 2 l)) ≡ notesFront at m b (notesOf l)
   front-notes k h g = rw (notes-some l k h g) (go (symsOf (getD l 1 0) (drop 2 l)) (syms-count (getD l 1 0) (drop 2 l)))
     where
-      go : (o : Option (List Sym × ℕ)) → Counted (getD l 1 0) o → symsFront (at + 2) f b o ≡ notesFront at f b (past o none (λ ss n. some (ss, 2 + n)))
+      go : (o : Option (List Sym × ℕ)) → Counted (getD l 1 0) o → symsFront (at + 2) b o ≡ notesFront at m b (past o none (λ ss n. some (ss, 2 + n)))
       go none c = refl
       go (some ([], n)) (counted c) = absurd (omega arith)
-      go (some (s ∷ ss, n)) (counted c) = let i : at + 2 + n ≡ at + (2 + n) = omega arith in rw i
+      go (some (s ∷ ss, n)) (counted c) = let i : at + (2 + n) ≡ at + 2 + n = omega arith in rw (i, or-true m)
 
--- ---- heads
+-- ---- a head
 
-module _ (k : Frame) (s : List ℕ) (at e : ℕ) where
-  pub front-nameless : S.Bad ≡ seen nameFault nameNumbered (nameOf k (part s at e)) → F.Bad ≡ front at (headOf k (part s at e))
-  unfolding headOf
-  front-nameless z = rw (seen-none nameFault nameNumbered (nameOf k (part s at e)) z)
+module _ (k : Frame) (s : List ℕ) (at e : ℕ) (m b : Bool) where
+  pub front-nameless : (f : ℕ) → L.Bad f ≡ leafOf nameFault nameNumbered (nameOf k (part s at e)) → F.Bad ≡ headFront at m b (headOf k (part s at e))
+  unfolding headOf headFault
+  front-nameless f z =
+      then-stop nameFault nameNumbered symsFault headFault (λ h. m || annotated (h .1)) (λ h. b || headNumbered h) (λ a ss. (a, ss)) (λ a ss. refl) at f (nameOf k (part s at e)) (λ i. notesOf (drop i (part s at e))) z
 
-  pub front-head : (n f : ℕ) (b : Bool) → S.Whole n f b ≡ seen nameFault nameNumbered (nameOf k (part s at e))
-      → notesFront (at + n) f b (notesOf (part s (at + n) e)) ≡ front at (headOf k (part s at e))
+  pub front-head : (n : ℕ) (h : Bool) → L.Whole n h ≡ leafOf nameFault nameNumbered (nameOf k (part s at e))
+      → notesFront (at + n) m (b || h) (notesOf (part s (at + n) e)) ≡ headFront at m b (headOf k (part s at e))
   unfolding headOf headFault headNumbered
-  front-head n f b z =
-      let r = seen-read nameFault nameNumbered (nameOf k (part s at e)) n f b z in
-      rw (r .is, part-drop s at e n) (go (r .it) (r .problem) (r .number) (notesOf (part s (at + n) e)))
-    where
-      go : (a : Option Sym) → nameFault a ≡ f → nameNumbered a ≡ b → (o : Option (List Sym × ℕ)) → notesFront (at + n) f b o ≡ front at (past o none (λ ss m. some ((a, ss), n + m)))
-      go a x y none = refl
-      go a x y (some (ss, m)) = let i : at + (n + m) ≡ at + n + m = omega arith in rw (i, x, y)
+  front-head n h z =
+      ap (λ (l : List ℕ). notesFront (at + n) m (b || h) (notesOf l)) (sym (part-drop s at e n))
+      ∙ sym (then-step nameFault nameNumbered symsFault headFault (λ h. m || annotated (h .1)) (λ h. b || headNumbered h) (λ a ss. (a, ss)) (λ a ss. refl) (λ ss. m || annotated ss) (λ ss. b || h || symsNumbered ss) at n h (nameOf k (part s at e)) (λ i. notesOf (drop i (part s at e))) z
+      (λ a ss. refl) (λ a ss y. or-assoc b h (symsNumbered ss) ∙ ap (λ (x : Bool). b || (x || symsNumbered ss)) (sym y)))

@@ -27,34 +27,31 @@ passed-none w = record { fault = refl; sizes = omega arith; notes = refl; number
 pub refuse : {w v : Walked} {c : ℕ} {a b : Bool} → Passed w v c a b → (r : Checked) (f : ℕ) → v .1 ≡ f → (f ≡ 0 → ⊥) → r .fault ≡ f → Checks w r
 refuse i r f e nz g = record { fault = g ∙ sym (i .fault ∙ e); counts = λ z. absurd (nz (sym g ∙ z)) }
 
+-- a problem in a node behind a head without one
+pub join-fault : (h : Head) (n : Node) (p : ℕ) (u : Walked) → headFault h ≡ 0 → (p ≡ 0 → ⊥) → join h n p u .1 ≡ p
+join-fault h n p u z nz = ap (λ (x : ℕ). first (first x p) (u .1)) z ∙ first-inner p (u .1) nz
+
+or-both : (a b c d : Bool) → a || b || c || d ≡ a || (b || c || d)
+or-both a b c d = or-assoc (a || b) c d ∙ or-assoc a b (c || d) ∙ ap (λ (x : Bool). a || x) (sym (or-assoc b c d))
+
 -- the nodes left start with a child: its head h, its node n, and p, the first problem in the node
 module _ {w v : Walked} {c : ℕ} {a b : Bool} (i : Passed w v c a b) (h : Head) (n : Node) (p : ℕ) (u : Walked) (step : v ≡ join h n p u) where
   joined : v .1 ≡ first (first (headFault h) p) (u .1)
   joined = ap (λ (x : Walked). x .1) step
 
-  pub refuse-child : (r : Checked) → (first (headFault h) p ≡ 0 → ⊥) → r .fault ≡ first (headFault h) p → Checks w r
-  refuse-child r nz g = refuse i r (first (headFault h) p) (joined ∙ first-inner _ _ nz) nz g
-
-  pub refuse-head : (r : Checked) → (headFault h ≡ 0 → ⊥) → r .fault ≡ headFault h → Checks w r
-  refuse-head r nz g =
-      let e : first (headFault h) p ≡ headFault h = first-inner _ _ nz in
-      refuse-child r (λ z. nz (sym e ∙ z)) (g ∙ sym e)
-
   pub refuse-node : (r : Checked) → headFault h ≡ 0 → (p ≡ 0 → ⊥) → r .fault ≡ p → Checks w r
-  refuse-node r z nz g =
-      let e : first (headFault h) p ≡ p = ap (λ (x : ℕ). first x p) z in
-      refuse-child r (λ y. nz (sym e ∙ y)) (g ∙ sym e)
+  refuse-node r z nz g = refuse i r p (joined ∙ join-fault h n p u z nz) nz g
 
-  pub pass : (a′ b′ : Bool) → first (headFault h) p ≡ 0 → a′ ≡ a || (annotated (h .1) || noted n) → b′ ≡ b || (headNumbered h || numbered n) → Passed w u (c + 1) a′ b′
+  pub pass : (a′ b′ : Bool) → headFault h ≡ 0 → p ≡ 0 → a′ ≡ a || annotated (h .1) || noted n → b′ ≡ b || headNumbered h || numbered n → Passed w u (c + 1) a′ b′
   unfolding size noteds numbereds
-  pass a′ b′ z x y =
+  pass a′ b′ y z x q =
       let t : size (v .0) ≡ suc (size (u .0)) = ap (λ (x : Walked). size (x .0)) step in
       let s = i .sizes in
       record {
-        fault = i .fault ∙ joined ∙ ap (λ (x : ℕ). first x (u .1)) z;
+        fault = i .fault ∙ joined ∙ ap (λ (x : ℕ). first (first x p) (u .1)) y ∙ ap (λ (x : ℕ). first x (u .1)) z;
         sizes = omega arith;
-        notes = i .notes ∙ ap (λ (x : Walked). a || noteds (x .0)) step ∙ sym (or-assoc a (annotated (h .1) || noted n) (noteds (u .0))) ∙ ap (λ (x : Bool). x || noteds (u .0)) (sym x);
-        numbers = i .numbers ∙ ap (λ (x : Walked). b || numbereds (x .0)) step ∙ sym (or-assoc b (headNumbered h || numbered n) (numbereds (u .0))) ∙ ap (λ (x : Bool). x || numbereds (u .0)) (sym y);
+        notes = i .notes ∙ ap (λ (x : Walked). a || noteds (x .0)) step ∙ sym (ap (λ (x : Bool). x || noteds (u .0)) x ∙ or-both a (annotated (h .1)) (noted n) (noteds (u .0)));
+        numbers = i .numbers ∙ ap (λ (x : Walked). b || numbereds (x .0)) step ∙ sym (ap (λ (x : Bool). x || numbereds (u .0)) q ∙ or-both b (headNumbered h) (numbered n) (numbereds (u .0)));
       }
 
 -- no nodes are left

@@ -3,6 +3,7 @@ use Prim.Native.Nat.{ℕ, zero, suc, _+_, _-_, _<_, _≤_}
 use mathlib.Core.Path.{_≡_, refl, sym, ap, _∙_}
 use mathlib.Core.List.{List, [], _∷_, _++_, append-assoc}
 use mathlib.Core.Bool.{Bool, true, false, _||_, not}
+use mathlib.Core.Option.{some}
 use native.Mathlib.Omega.{arith}
 use native.Mathlib.Nat.{not-suc-le-zero}
 use lib.Dec.{ltb, eqb}
@@ -13,7 +14,7 @@ use Rattle.output.specs.Logic.{if}
 use Rattle.output.specs.Wrote.{leBytes}
 use Rattle.tape.specs.Bytes.{leNumber, first}
 use Rattle.tape.specs.Tree.{Head, Node, Nodes, nest, nil, size, tag, encodeHead, encodes, tape}
-use Rattle.tape.specs.Tape.{Child, bad, single, tree, childOf, headFault, Walked, fault, join, turn, level, walk, bodyOf, nodesOf}
+use Rattle.tape.specs.Tape.{headOf, Value, absent, leaf, body, valueOf, Child, bad, single, tree, free, behind, childOf, headFault, Walked, fault, join, turn, level, walk, bodyOf, nodesOf}
 use Rattle.tape.specs.Fine.{Bytes}
 use Rattle.tape.specs.Verdict.{misfit, countFault, verdict}
 use Rattle.tape.specs.declared.Frame.{Frame}
@@ -55,6 +56,21 @@ module _ (k : Frame) (d : ℕ) (l : List ℕ) (nz : d ≡ 0 → ⊥) where
       go zero l nz h e = absurd (nz refl)
       go (suc d) [] nz h e = absurd (not-suc-le-zero h)
       go (suc d) (x ∷ l) nz h e = ap (λ (c : Child). turn (walk d) c (x ∷ l) (λ m. level (walk d) k (m - 1) l)) e
+
+  -- a problem in a head comes before all that stands behind it
+  pub walk-headed : 0 < length l → (h : Head) (n : ℕ) → headOf k l ≡ some (h, n) → headFault h ≡ 2 → walk d k l .1 ≡ 2
+  unfolding walk level childOf
+  walk-headed i h n e z = go d l nz i e
+    where
+      by : (inner : Frame → List ℕ → Walked) (v : Value) (l : List ℕ) (rest : ℕ → Walked) → turn inner (behind h n v) l rest .1 ≡ 2
+      by inner absent l rest = refl
+      by inner (leaf v m) l rest = rw z
+      by inner (body f m) l rest = rw z
+
+      go : (d : ℕ) (l : List ℕ) → (d ≡ 0 → ⊥) → 0 < length l → headOf k l ≡ some (h, n) → walk d k l .1 ≡ 2
+      go zero l nz i e = absurd (nz refl)
+      go (suc d) [] nz i e = absurd (not-suc-le-zero i)
+      go (suc d) (x ∷ l) nz i e = rw e (by (walk d) (valueOf (free k (x ∷ l)) (drop n (x ∷ l))) (x ∷ l) (λ m. level (walk d) k (m - 1) l))
 
   pub walk-leaf : (h : Head) (n : Node) (m : ℕ) → 0 < length l → 0 < m → childOf k l ≡ single h n m → walk d k l ≡ join h n (fault n) (walk d k (drop m l))
   unfolding walk level

@@ -5,32 +5,32 @@ ghost use Prim.Native.Nat.{_+_, _<_, _≤_};
 ghost use lib.Dec.{eqb};
 ghost use lib.ListN.{length, take, drop};
 ghost use Rattle.output.specs.Logic.{if};
+ghost use Rattle.text_rules.specs.Utf8.{valid};
 ghost use Rattle.tape.specs.Bytes.{part, first};
 ghost use Rattle.tape.specs.Tree.{null, bool, clob};
-ghost use Rattle.tape.specs.Tape.{kind, textOf, symOf, symsOf, nameOf, notesOf, headOf, byteOf, intOf, floatAs, floatOf, decimalOf, timestampOf, sizedOf, scalarOf, openOf, valueOf, textFault, symFault, nameFault, walk};
+ghost use Rattle.tape.specs.Tape.{kind, textOf, symOf, symsOf, nameOf, notesOf, headOf, byteOf, intOf, floatAs, floatOf, decimalOf, timestampOf, sizedOf, scalarOf, openOf, valueOf, free, textFault, symFault, nameFault, walk};
 ghost use Rattle.tape.specs.Refusal.{symNumbered, nameNumbered};
-ghost use Rattle.tape.specs.CheckSteps.{seen, seenScalar, met, symsFront, notesFront, front, Checks, Refuses, TapeChecks};
+ghost use Rattle.tape.specs.CheckSteps.{leafOf, scalarLeaf, leafMet, met, frameOf, symsFront, notesFront, headFront, Checks, Refuses, TapeChecks};
 use crate::Frame;
 use crate::Place;
 
-// What stands at a place: nothing whole; or how many bytes it takes, what is wrong with it or 0, and whether an identifier but 0 is in it.
-pub enum Seen {
-    Bad,
-    Whole(usize, u8, bool),
+// A node without a body: refused, by what; or how many bytes it takes, and whether it is an identifier but 0.
+pub enum Leaf {
+    Bad(u8),
+    Whole(usize, bool),
 }
 
-// What stands before a value: nothing whole; or where it ends, what is wrong with it or 0, whether there are annotations, and whether an
-// identifier but 0 is in it.
+// What stands before a value: refused, always by 2; or where it ends, and, of it and of the nodes before it, whether there are annotations and
+// whether there is an identifier but 0.
 pub enum Front {
     Bad,
-    Whole(usize, u8, bool, bool),
+    Whole(usize, bool, bool),
 }
 
-// A value: none; one without a body, with the number of its bytes, what is wrong with it or 0, and whether it is an identifier but 0; a
-// container, with the length of its body.
+// A value: refused, by what; one without a body, as above; a container, with the length of its body.
 pub enum Met {
-    Bad,
-    Leaf(usize, u8, bool),
+    Bad(u8),
+    Leaf(usize, bool),
     Open(Frame, usize),
 }
 
@@ -58,167 +58,176 @@ fn either(a: bool, b: bool) -> bool
 // ---- contents
 
 // The n bytes of the text node at a place are UTF-8.
-fn text_fault(tape: &[u8], at: usize, n: usize) -> u8
+fn is_text(tape: &[u8], at: usize, n: usize) -> bool
     requires { ⌜ at + (5 + n) ≤ length (now tape) ⌝ }
-    ensures { λ r. ⌜ r ≡ textFault (take n (drop (at + 5) (now (tape .entry)))) ⌝ }
+    ensures { λ r. ⌜ r ≡ valid (take n (drop (at + 5) (now (tape .entry)))) ⌝ }
 {
     let from = at + 5;
     let to = from + n;
-    if text_rules::utf8::valid_utf8(&tape[from..to]) {
-        0
-    } else {
-        2
-    }
+    text_rules::utf8::valid_utf8(&tape[from..to])
 }
 
-fn null_seen(tape: &[u8], at: usize, end: usize) -> Seen
+fn null_seen(tape: &[u8], at: usize, end: usize) -> Leaf
     requires { ⌜ at ≤ end ⌝ }
     requires { ⌜ end ≤ length (now tape) ⌝ }
-    ensures { λ r. ⌜ r ≡ seenScalar (byteOf 12 null (part (now (tape .entry)) at end)) ⌝ }
+    ensures { λ r. ⌜ r ≡ scalarLeaf (byteOf 12 null (part (now (tape .entry)) at end)) ⌝ }
 {
     if end - at < 2 {
-        return Seen::Bad;
+        return Leaf::Bad(2);
     }
     if 12 < tape[at + 1] {
-        return Seen::Bad;
+        return Leaf::Bad(2);
     }
-    Seen::Whole(2, 0, false)
+    Leaf::Whole(2, false)
 }
 
-fn bool_seen(tape: &[u8], at: usize, end: usize) -> Seen
+fn bool_seen(tape: &[u8], at: usize, end: usize) -> Leaf
     requires { ⌜ at ≤ end ⌝ }
     requires { ⌜ end ≤ length (now tape) ⌝ }
-    ensures { λ r. ⌜ r ≡ seenScalar (byteOf 1 (λ b. bool (eqb b 1)) (part (now (tape .entry)) at end)) ⌝ }
+    ensures { λ r. ⌜ r ≡ scalarLeaf (byteOf 1 (λ b. bool (eqb b 1)) (part (now (tape .entry)) at end)) ⌝ }
 {
     if end - at < 2 {
-        return Seen::Bad;
+        return Leaf::Bad(2);
     }
     if 1 < tape[at + 1] {
-        return Seen::Bad;
+        return Leaf::Bad(2);
     }
-    Seen::Whole(2, 0, false)
+    Leaf::Whole(2, false)
 }
 
 // Only zeros, infinities and the one NaN have a text.
-fn bits_seen(b: u64) -> Seen
-    ensures { λ r. ⌜ r ≡ seenScalar (floatAs b) ⌝ }
+fn bits_seen(b: u64) -> Leaf
+    ensures { λ r. ⌜ r ≡ scalarLeaf (floatAs b) ⌝ }
 {
     if b == 0x7FF8_0000_0000_0000 {
-        return Seen::Whole(9, 0, false);
+        return Leaf::Whole(9, false);
     }
     let m = b % 0x8000_0000_0000_0000;
     if 0x7FF0_0000_0000_0000 < m {
-        return Seen::Bad;
+        return Leaf::Bad(2);
     }
     if m == 0 {
-        return Seen::Whole(9, 0, false);
+        return Leaf::Whole(9, false);
     }
     if m == 0x7FF0_0000_0000_0000 {
-        return Seen::Whole(9, 0, false);
+        return Leaf::Whole(9, false);
     }
-    Seen::Whole(9, 4, false)
+    Leaf::Bad(4)
 }
 
-fn float_seen(tape: &[u8], at: usize, end: usize) -> Seen
+fn float_seen(tape: &[u8], at: usize, end: usize) -> Leaf
     requires { ⌜ at ≤ end ⌝ }
     requires { ⌜ end ≤ length (now tape) ⌝ }
-    ensures { λ r. ⌜ r ≡ seenScalar (floatOf (part (now (tape .entry)) at end)) ⌝ }
+    ensures { λ r. ⌜ r ≡ scalarLeaf (floatOf (part (now (tape .entry)) at end)) ⌝ }
 {
     if end - at < 9 {
-        return Seen::Bad;
+        return Leaf::Bad(2);
     }
     bits_seen(crate::u64_at(tape, at + 1))
 }
 
-fn int_seen(tape: &[u8], at: usize, end: usize) -> Seen
+fn int_seen(tape: &[u8], at: usize, end: usize) -> Leaf
     requires { ⌜ at ≤ end ⌝ }
     requires { ⌜ end ≤ length (now tape) ⌝ }
-    ensures { λ r. ⌜ r ≡ seenScalar (intOf (part (now (tape .entry)) at end)) ⌝ }
+    ensures { λ r. ⌜ r ≡ scalarLeaf (intOf (part (now (tape .entry)) at end)) ⌝ }
 {
     if end - at < 9 {
-        return Seen::Bad;
+        return Leaf::Bad(2);
     }
-    Seen::Whole(9, 0, false)
+    Leaf::Whole(9, false)
 }
 
-fn decimal_seen(tape: &[u8], at: usize, end: usize) -> Seen
+fn decimal_seen(tape: &[u8], at: usize, end: usize) -> Leaf
     requires { ⌜ at ≤ end ⌝ }
     requires { ⌜ end ≤ length (now tape) ⌝ }
-    ensures { λ r. ⌜ r ≡ seenScalar (decimalOf (part (now (tape .entry)) at end)) ⌝ }
+    ensures { λ r. ⌜ r ≡ scalarLeaf (decimalOf (part (now (tape .entry)) at end)) ⌝ }
 {
     if end - at < 14 {
-        return Seen::Bad;
+        return Leaf::Bad(2);
     }
     if 1 < tape[at + 1] {
-        return Seen::Bad;
+        return Leaf::Bad(2);
     }
-    Seen::Whole(14, 0, false)
+    Leaf::Whole(14, false)
 }
 
 // The calendar.
-fn timestamp_seen(tape: &[u8], at: usize, end: usize) -> Seen
+fn timestamp_seen(tape: &[u8], at: usize, end: usize) -> Leaf
     requires { ⌜ at ≤ end ⌝ }
     requires { ⌜ end ≤ length (now tape) ⌝ }
-    ensures { λ r. ⌜ r ≡ seenScalar (timestampOf (part (now (tape .entry)) at end)) ⌝ }
+    ensures { λ r. ⌜ r ≡ scalarLeaf (timestampOf (part (now (tape .entry)) at end)) ⌝ }
 {
     if end - at < 16 {
-        return Seen::Bad;
+        return Leaf::Bad(2);
     }
     if numbers::timestamp::is_well_formed(crate::timestamp_of(tape, at)) {
-        return Seen::Whole(16, 0, false);
+        return Leaf::Whole(16, false);
     }
-    Seen::Whole(16, 2, false)
+    Leaf::Bad(2)
 }
 
 // A length and so many bytes of UTF-8, behind the kind byte.
-fn text_seen(tape: &[u8], at: usize, end: usize) -> Seen
+fn text_seen(tape: &[u8], at: usize, end: usize) -> Leaf
     requires { ⌜ at ≤ end ⌝ }
     requires { ⌜ end ≤ length (now tape) ⌝ }
-    ensures { λ r. ⌜ r ≡ seen textFault (λ s. false) (textOf (part (now (tape .entry)) at end)) ⌝ }
+    ensures { λ r. ⌜ r ≡ leafOf textFault (λ s. false) (textOf (part (now (tape .entry)) at end)) ⌝ }
 {
     let Place::At(n) = crate::length_at(tape, at, end) else {
-        return Seen::Bad;
+        return Leaf::Bad(2);
     };
-    Seen::Whole(5 + n, text_fault(tape, at, n), false)
+    if is_text(tape, at, n) {
+        return Leaf::Whole(5 + n, false);
+    }
+    Leaf::Bad(2)
+}
+
+// An identifier behind its kind byte.
+fn id_seen(tape: &[u8], at: usize, end: usize) -> Leaf
+    requires { ⌜ at ≤ end ⌝ }
+    requires { ⌜ end ≤ length (now tape) ⌝ }
+    requires { ⌜ kind (part (now tape) at end) ≡ 7 ⌝ }
+    ensures { λ r. ⌜ r ≡ leafOf symFault symNumbered (symOf (part (now (tape .entry)) at end)) ⌝ }
+{
+    if end - at < 5 {
+        return Leaf::Bad(2);
+    }
+    Leaf::Whole(5, crate::u32_at(tape, at + 1) != 0)
 }
 
 // A symbol's node.
-fn sym_seen(tape: &[u8], at: usize, end: usize) -> Seen
+fn sym_seen(tape: &[u8], at: usize, end: usize) -> Leaf
     requires { ⌜ at ≤ end ⌝ }
     requires { ⌜ end ≤ length (now tape) ⌝ }
-    ensures { λ r. ⌜ r ≡ seen symFault symNumbered (symOf (part (now (tape .entry)) at end)) ⌝ }
+    ensures { λ r. ⌜ r ≡ leafOf symFault symNumbered (symOf (part (now (tape .entry)) at end)) ⌝ }
 {
     if at == end {
-        return Seen::Bad;
+        return Leaf::Bad(2);
     }
     let k = tape[at];
     if k == 6 {
         return text_seen(tape, at, end);
     }
-    if k != 7 {
-        return Seen::Bad;
+    if k == 7 {
+        return id_seen(tape, at, end);
     }
-    if end - at < 5 {
-        return Seen::Bad;
-    }
-    Seen::Whole(5, 0, crate::u32_at(tape, at + 1) != 0)
+    Leaf::Bad(2)
 }
 
-fn clob_seen(tape: &[u8], at: usize, end: usize) -> Seen
+fn clob_seen(tape: &[u8], at: usize, end: usize) -> Leaf
     requires { ⌜ at ≤ end ⌝ }
     requires { ⌜ end ≤ length (now tape) ⌝ }
-    ensures { λ r. ⌜ r ≡ seenScalar (sizedOf clob (part (now (tape .entry)) at end)) ⌝ }
+    ensures { λ r. ⌜ r ≡ scalarLeaf (sizedOf clob (part (now (tape .entry)) at end)) ⌝ }
 {
     let Place::At(n) = crate::length_at(tape, at, end) else {
-        return Seen::Bad;
+        return Leaf::Bad(2);
     };
-    Seen::Whole(5 + n, 0, false)
+    Leaf::Whole(5 + n, false)
 }
 
-fn scalar_seen(tape: &[u8], at: usize, end: usize) -> Seen
+fn scalar_seen(tape: &[u8], at: usize, end: usize) -> Leaf
     requires { ⌜ at < end ⌝ }
     requires { ⌜ end ≤ length (now tape) ⌝ }
-    ensures { λ r. ⌜ r ≡ seenScalar (scalarOf (part (now (tape .entry)) at end)) ⌝ }
+    ensures { λ r. ⌜ r ≡ scalarLeaf (scalarOf (part (now (tape .entry)) at end)) ⌝ }
 {
     let k = tape[at];
     if k == 0 {
@@ -239,16 +248,40 @@ fn scalar_seen(tape: &[u8], at: usize, end: usize) -> Seen
     if k == 5 {
         return timestamp_seen(tape, at, end);
     }
-    if k <= 7 {
-        return sym_seen(tape, at, end);
-    }
-    if k == 8 {
-        return text_seen(tape, at, end);
+    if k == 7 {
+        return id_seen(tape, at, end);
     }
     if k == 9 {
         return clob_seen(tape, at, end);
     }
-    Seen::Bad
+    if 9 < k {
+        return Leaf::Bad(2);
+    }
+    // the text of a symbol, 6, or of a string, 8
+    text_seen(tape, at, end)
+}
+
+// A node without a body, as a value.
+fn leaf_met(s: Leaf) -> Met
+    ensures { λ r. ⌜ r ≡ leafMet s ⌝ }
+{
+    match s {
+        Leaf::Bad(f) => Met::Bad(f),
+        Leaf::Whole(n, b) => Met::Leaf(n, b),
+    }
+}
+
+// The frame of a container, by its kind byte 10, 11 or 12.
+fn frame_of(k: u8) -> Frame
+    ensures { λ r. ⌜ r ≡ frameOf k ⌝ }
+{
+    if k == 10 {
+        return Frame::List;
+    }
+    if k == 11 {
+        return Frame::Sexp;
+    }
+    Frame::Struct
 }
 
 fn open_met(tape: &[u8], at: usize, end: usize, frame: Frame) -> Met
@@ -257,73 +290,71 @@ fn open_met(tape: &[u8], at: usize, end: usize, frame: Frame) -> Met
     ensures { λ r. ⌜ r ≡ met (openOf frame (part (now (tape .entry)) at end)) ⌝ }
 {
     let Place::At(n) = crate::length_at(tape, at, end) else {
-        return Met::Bad;
+        return Met::Bad(2);
     };
     Met::Open(frame, n)
 }
 
-// `free`: a marker may stand here.
-fn value_met(tape: &[u8], at: usize, end: usize, free: bool) -> Met
+// The value at a place, of the child that starts at `from`.
+fn value_met(tape: &[u8], at: usize, end: usize, from: usize, frame: Frame) -> Met
+    requires { ⌜ from < end ⌝ }
     requires { ⌜ at ≤ end ⌝ }
     requires { ⌜ end ≤ length (now tape) ⌝ }
-    ensures { λ r. ⌜ r ≡ met (valueOf free (part (now (tape .entry)) at end)) ⌝ }
+    ensures { λ r. ⌜ r ≡ met (valueOf (free frame (part (now (tape .entry)) from end)) (part (now (tape .entry)) at end)) ⌝ }
 {
     if at == end {
-        return Met::Bad;
+        return Met::Bad(2);
     }
     let k = tape[at];
-    if k == 10 {
-        return open_met(tape, at, end, Frame::List);
+    if k < 10 {
+        return leaf_met(scalar_seen(tape, at, end));
     }
-    if k == 11 {
-        return open_met(tape, at, end, Frame::Sexp);
+    if k < 13 {
+        return open_met(tape, at, end, frame_of(k));
     }
-    if k == 12 {
-        return open_met(tape, at, end, Frame::Struct);
+    if k != 14 {
+        return Met::Bad(2);
     }
-    if k == 14 {
-        if free {
-            return Met::Leaf(1, 0, false);
-        }
-        return Met::Bad;
+    if crate::is_free(tape, from, end, frame) {
+        return Met::Leaf(1, false);
     }
-    let Seen::Whole(n, fault, numbered) = scalar_seen(tape, at, end) else {
-        return Met::Bad;
-    };
-    Met::Leaf(n, fault, numbered)
+    Met::Bad(2)
 }
 
 // ---- heads
 
-// n symbols from a place on, behind a problem or 0 and what was numbered before.
-fn syms_seen(tape: &[u8], at: usize, end: usize, n: u8, before: u8, already: bool) -> Front
+// n symbols from a place on. `already`: there was an identifier but 0 before.
+fn syms_seen(tape: &[u8], at: usize, end: usize, n: u8, already: bool) -> Front
     requires { ⌜ at ≤ end ⌝ }
     requires { ⌜ end ≤ length (now tape) ⌝ }
-    ensures { λ r. ⌜ r ≡ symsFront at before already (symsOf n (part (now (tape .entry)) at end)) ⌝ }
+    ensures { λ r. ⌜ r ≡ symsFront at already (symsOf n (part (now (tape .entry)) at end)) ⌝ }
 {
     let mut p = at;
     let mut left = n;
-    let mut fault = before;
     let mut numbered = already;
     while 0 < left {
-        let Seen::Whole(size, f, b) = sym_seen(tape, p, end) else {
+        let Leaf::Whole(size, b) = sym_seen(tape, p, end) else {
             return Front::Bad;
         };
-        fault = first_of(fault, f);
         numbered = either(numbered, b);
         p = p + size;
         left -= 1;
     }
-    Front::Whole(p, fault, true, numbered)
+    Front::Whole(p, true, numbered)
 }
 
-// The annotations at a place where the kind byte is theirs.
-fn noted_seen(tape: &[u8], at: usize, end: usize, before: u8, already: bool) -> Front
-    requires { ⌜ at < end ⌝ }
+// The annotations at a place, behind a name. `noted`, `numbered`: what was met before.
+fn notes_seen(tape: &[u8], at: usize, end: usize, noted: bool, numbered: bool) -> Front
+    requires { ⌜ at ≤ end ⌝ }
     requires { ⌜ end ≤ length (now tape) ⌝ }
-    requires { ⌜ kind (part (now tape) at end) ≡ 13 ⌝ }
-    ensures { λ r. ⌜ r ≡ notesFront at before already (notesOf (part (now (tape .entry)) at end)) ⌝ }
+    ensures { λ r. ⌜ r ≡ notesFront at noted numbered (notesOf (part (now (tape .entry)) at end)) ⌝ }
 {
+    if at == end {
+        return Front::Whole(at, noted, numbered);
+    }
+    if tape[at] != 13 {
+        return Front::Whole(at, noted, numbered);
+    }
     if end - at < 2 {
         return Front::Bad;
     }
@@ -334,48 +365,33 @@ fn noted_seen(tape: &[u8], at: usize, end: usize, before: u8, already: bool) -> 
     if 16 < n {
         return Front::Bad;
     }
-    syms_seen(tape, at + 2, end, n, before, already)
-}
-
-// The annotations at a place, behind a name.
-fn notes_seen(tape: &[u8], at: usize, end: usize, before: u8, already: bool) -> Front
-    requires { ⌜ at ≤ end ⌝ }
-    requires { ⌜ end ≤ length (now tape) ⌝ }
-    ensures { λ r. ⌜ r ≡ notesFront at before already (notesOf (part (now (tape .entry)) at end)) ⌝ }
-{
-    if at == end {
-        return Front::Whole(at, before, false, already);
-    }
-    if tape[at] != 13 {
-        return Front::Whole(at, before, false, already);
-    }
-    noted_seen(tape, at, end, before, already)
+    syms_seen(tape, at + 2, end, n, numbered)
 }
 
 // A name, where the child at a place has one.
-fn name_seen(tape: &[u8], at: usize, end: usize, frame: Frame) -> Seen
+fn name_seen(tape: &[u8], at: usize, end: usize, frame: Frame) -> Leaf
     requires { ⌜ at ≤ end ⌝ }
     requires { ⌜ end ≤ length (now tape) ⌝ }
-    ensures { λ r. ⌜ r ≡ seen nameFault nameNumbered (nameOf frame (part (now (tape .entry)) at end)) ⌝ }
+    ensures { λ r. ⌜ r ≡ leafOf nameFault nameNumbered (nameOf frame (part (now (tape .entry)) at end)) ⌝ }
 {
     match frame {
         Frame::Struct => sym_seen(tape, at, end),
-        Frame::Top => Seen::Whole(0, 0, false),
-        Frame::List => Seen::Whole(0, 0, false),
-        Frame::Sexp => Seen::Whole(0, 0, false),
+        Frame::Top => Leaf::Whole(0, false),
+        Frame::List => Leaf::Whole(0, false),
+        Frame::Sexp => Leaf::Whole(0, false),
     }
 }
 
-// The head of the child at a place.
-fn head_seen(tape: &[u8], at: usize, end: usize, frame: Frame) -> Front
+// The head of the child at a place. `noted`, `numbered`: what was met before.
+fn head_seen(tape: &[u8], at: usize, end: usize, frame: Frame, noted: bool, numbered: bool) -> Front
     requires { ⌜ at ≤ end ⌝ }
     requires { ⌜ end ≤ length (now tape) ⌝ }
-    ensures { λ r. ⌜ r ≡ front at (headOf frame (part (now (tape .entry)) at end)) ⌝ }
+    ensures { λ r. ⌜ r ≡ headFront at noted numbered (headOf frame (part (now (tape .entry)) at end)) ⌝ }
 {
-    let Seen::Whole(n, fault, numbered) = name_seen(tape, at, end, frame) else {
+    let Leaf::Whole(n, b) = name_seen(tape, at, end, frame) else {
         return Front::Bad;
     };
-    notes_seen(tape, at + n, end, fault, numbered)
+    notes_seen(tape, at + n, end, noted, either(numbered, b))
 }
 
 // ---- bodies
@@ -406,34 +422,28 @@ fn check_nodes(tape: &[u8], from: usize, end: usize, frame: Frame, depth: usize)
     let mut noted = false;
     let mut numbered = false;
     while at < end {
-        let Front::Whole(p, fault, notes, numbers) = head_seen(tape, at, end, frame) else {
+        let Front::Whole(p, notes, numbers) = head_seen(tape, at, end, frame, noted, numbered)
+        else {
             return refused(2);
         };
-        let v = value_met(tape, p, end, crate::is_free(tape, at, end, frame));
+        let v = value_met(tape, p, end, at, frame);
         match v {
-            Met::Bad => {
-                return refused(2);
+            Met::Bad(f) => {
+                return refused(f);
             }
-            Met::Leaf(n, own, number) => {
-                let f = first_of(fault, own);
-                if f != 0 {
-                    return refused(f);
-                }
-                noted = either(noted, notes);
-                numbered = either(numbered, either(numbers, number));
+            Met::Leaf(n, number) => {
+                noted = notes;
+                numbered = either(numbers, number);
                 count += 1;
                 at = p + n;
             }
             Met::Open(k, n) => {
-                if fault != 0 {
-                    return refused(fault);
-                }
                 let r = check_nodes(tape, p + 5, p + 5 + n, k, depth - 1);
                 if r.fault != 0 {
                     return refused(r.fault);
                 }
-                noted = either(noted, either(notes, r.noted));
-                numbered = either(numbered, either(numbers, r.numbered));
+                noted = either(notes, r.noted);
+                numbered = either(numbers, r.numbered);
                 count += 1;
                 at = p + 5 + n;
             }

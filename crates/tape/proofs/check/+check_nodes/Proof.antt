@@ -1,13 +1,13 @@
 -- `tape::check::check_nodes` meets its contract. The invariant: the nodes from `at` on are left, and what was gathered of those before. Assumes nothing.
 use mathlib.Core.Path.{_≡_, refl, sym, ap, _∙_}
 use mathlib.Core.List.{List}
-use mathlib.Core.Bool.{Bool, _||_}
+use mathlib.Core.Bool.{Bool, _||_, or-false}
 use native.Mathlib.Omega.{arith}
 use denote.Ref.{now}
 use lib.ListN.{length}
 use Prim.Native.Nat.{ℕ, _+_, _-_, _<_, _≤_}
-use Rattle.tape.specs.Bytes.{part, first}
-use Rattle.tape.specs.Tape.{valueOf, free, headFault, Walked, walk}
+use Rattle.tape.specs.Bytes.{part}
+use Rattle.tape.specs.Tape.{valueOf, free, walk}
 use Rattle.tape.specs.Refusal.{annotated, noted, headNumbered, numbered}
 use Rattle.tape.specs.Steps.{headAt}
 use Rattle.tape.specs.CheckSteps.{met}
@@ -16,8 +16,8 @@ use Rattle.tape.specs.declared.check.Met.{Met}
 use Rattle.tape.specs.declared.check.Met.the-variants as M
 use Rattle.tape.proofs.Walking.{walk-end}
 use Rattle.tape.proofs.Parts.{part-length}
-use Rattle.tape.proofs.Turns.{HeadSeen, LeafSeen, TreeTurn, headless-turn, head-turn, valueless-turn, single-turn, open-turn}
-use Rattle.tape.proofs.CodeWalk.{Passed, passed-none, refuse, refuse-child, refuse-head, refuse-node, refuse-deep, pass, passed-all}
+use Rattle.tape.proofs.Turns.{HeadSeen, LeafSeen, TreeTurn, headless-turn, head-turn, refused-turn, single-turn, open-turn}
+use Rattle.tape.proofs.CodeWalk.{Passed, passed-none, refuse, refuse-node, refuse-deep, pass, passed-all}
 use borrow.Author.Needs.{needs}
 use borrow.Fn.Kinds.{In}
 use borrow.Fn.PlainCycle.{Measures, is, falls, and}
@@ -26,9 +26,7 @@ use Rattle.tape.proofs.check.check_nodes.Kinds as kinds
 use Rattle.tape.proofs.check.+check_nodes.Lts-check_nodes as lts
 use Rattle.tape.proofs.check.refused.Reads as refused
 use Rattle.tape.proofs.check.head_seen.Reads as head-seen
-use Rattle.tape.proofs.is_free.Reads as is-free
 use Rattle.tape.proofs.check.value_met.Reads as value-met
-use Rattle.tape.proofs.check.first_of.Reads as first-of
 use Rattle.tape.proofs.check.either.Reads as either
 use Rattle.tape.proofs.check.+check_nodes.{statement}
 use Rattle.tape.proofs.check.+check_nodes.Tie.{close}
@@ -43,7 +41,7 @@ abbrev below : ℕ → In 1 kinds.ps
 below t = and 1 kinds.ps (falls 1 kinds.ps _<_ μ t) own.Pre
 
 abbrev callees : ℕ → lts.Claims
-callees t = (refused.Asked, refused.Learnt, head-seen.Asked, head-seen.Learnt, is-free.Asked, is-free.Learnt, value-met.Asked, value-met.Learnt, first-of.Asked, first-of.Learnt, either.Asked, either.Learnt, below t, own.Post)
+callees t = (refused.Asked, refused.Learnt, head-seen.Asked, head-seen.Learnt, value-met.Asked, value-met.Learnt, either.Asked, either.Learnt, below t, own.Post)
 
 abbrev Inv : lts.InvT-loop
 Inv tape from end frame depth at₀ count₀ noted₀ numbered₀ at count noted numbered =
@@ -73,15 +71,6 @@ module _ (t : ℕ) (c : lts.After-known-told (callees t) (at t) own.Post Inv μ-
   abbrev behind : ℕ
   behind = c .before .p .given .0 .0
 
-  abbrev problem : ℕ
-  problem = c .before .p .given .0 .1 .0
-
-  abbrev notes : Bool
-  notes = c .before .p .given .0 .1 .1 .0
-
-  abbrev numbers : Bool
-  numbers = c .before .p .given .0 .1 .1 .1 .0
-
   opened : depth ≡ 0 → ⊥
   opened = c .before .before .before .before .before .before .if1 .left
 
@@ -91,22 +80,18 @@ module _ (t : ℕ) (c : lts.After-known-told (callees t) (at t) own.Post Inv μ-
   fits : end ≤ length tape
   fits = c .before .before .before .before .before .before .before .before .pre .1 .1
 
-  head : HeadSeen frame tape place end behind problem notes numbers
-  head = head-turn frame tape place end _ _ _ _ (c .before .before .before .before .before .loop .inv .0) fits (sym (c .before .p .given .1) ∙ c .before .before .before .head-seen .ensures)
+  head : HeadSeen frame tape place end (c .before .before .before .before .before .loop .noted) (c .before .before .before .before .before .loop .numbered) behind (c .before .p .given .0 .1 .0) (c .before .p .given .0 .1 .1 .0)
+  head = head-turn frame tape place end _ _ _ _ _ (c .before .before .before .before .before .loop .inv .0) fits (sym (c .before .p .given .1) ∙ c .before .before .before .head-seen .ensures)
 
 module _ (t : ℕ) (c : lts.After-value-met (callees t) (at t) own.Post Inv μ-loop) where
   abbrev it : lts.After-known-told (callees t) (at t) own.Post Inv μ-loop
-  it = c .before .before
+  it = c .before
 
-  abbrev Value-is : Met → Type 0
-  Value-is v = v ≡ met (valueOf (free (frame t it) (part (tape t it) (place t it) (end t it))) (part (tape t it) (behind t it) (end t it)))
+  value-is : (v : Met) → c .value-met .result ≡ v → v ≡ met (valueOf (free (frame t it) (part (tape t it) (place t it) (end t it))) (part (tape t it) (behind t it) (end t it)))
+  value-is v e = sym e ∙ c .value-met .ensures
 
-  value-is : (v : Met) → c .value-met .result ≡ v → Value-is v
-  value-is v e = sym e ∙ c .value-met .ensures ∙ ap (λ (f : Bool). met (valueOf f (part (tape t it) (behind t it) (end t it)))) (c .before .is-free .ensures)
-
-  leaf : (n g : ℕ) (b : Bool) → c .value-met .result ≡ M.Leaf n g b
-      → LeafSeen (depth t it) (frame t it) (tape t it) (place t it) (end t it) (problem t it) (notes t it) (numbers t it) (behind t it + n) g b
-  leaf n g b e = single-turn (depth t it) (frame t it) (tape t it) (place t it) (end t it) (opened t it) (left t it) (fits t it) (head t it) n g b (value-is _ e)
+  leaf : (n : ℕ) (b : Bool) → c .value-met .result ≡ M.Leaf n b → LeafSeen (depth t it) (frame t it) (tape t it) (place t it) (end t it) (behind t it + n) b
+  leaf n b e = single-turn (depth t it) (frame t it) (tape t it) (place t it) (end t it) (opened t it) (left t it) (fits t it) (head t it) n b (value-is _ e)
 
   tree : (k : Frame) (n : ℕ) → c .value-met .result ≡ M.Open k n → TreeTurn (depth t it) (frame t it) (tape t it) (place t it) (end t it) k (behind t it + 5) (behind t it + 5 + n)
   tree k n e = open-turn (depth t it) (frame t it) (tape t it) (place t it) (end t it) (opened t it) (left t it) (fits t it) (head t it) k n (value-is _ e)
@@ -140,54 +125,35 @@ module _ (t : ℕ) where
       let s = c .before .before .before .before .before .before .before .before in
       let a = s .args in
       let l = c .before .before .before .before .before .loop in
-      refuse (l .inv .2) _ 2 (ap (λ (w : Walked). w .1) (headless-turn (a .depth) (a .frame) (now (a .tape)) (l .at) (a .end) (c .before .before .before .before .before .before .if1 .left) (c .before .before .before .before .loop-test .taken) (s .pre .1 .1) (sym (c .before .enum-told .given .1) ∙ c .before .before .before .head-seen .ensures))) (λ e. omega arith) (c .refused2 .ensures .fault)
-
-  is-free-requires : lts.Need-is-free-requires (callees t) (at t) own.Post Inv μ-loop
-  is-free-requires c κs = (left t c, fits t c)
+      let u = headless-turn (a .depth) (a .frame) (now (a .tape)) (l .at) (a .end) (c .before .before .before .before .before .before .if1 .left) (c .before .before .before .before .loop-test .taken) (s .pre .1 .1) (l .noted) (l .numbered) (sym (c .before .enum-told .given .1) ∙ c .before .before .before .head-seen .ensures) in
+      refuse (l .inv .2) _ 2 (u .fault) (u .some) (c .refused2 .ensures .fault)
 
   value-met-requires : lts.Need-value-met-requires (callees t) (at t) own.Post Inv μ-loop
-  value-met-requires c κs = (head t (c .before) .within, fits t (c .before))
+  value-met-requires c κs = (left t c, (head t c .within, fits t c))
 
-  enum-told-2 : lts.Need-enum-told-2 (callees t) (at t) own.Post Inv μ-loop
-  enum-told-2 c = search needs
+  enum-known-v : lts.Need-enum-known-v (callees t) (at t) own.Post Inv μ-loop
+  enum-known-v c = search needs
 
   refused-requires-3 : lts.Need-refused-requires-3 (callees t) (at t) own.Post Inv μ-loop
   refused-requires-3 c κs = search needs
 
   returns-3 : lts.Need-returns-3 (callees t) (at t) own.Post Inv μ-loop
   returns-3 c =
-      let v = c .before .before .before in
-      let g = v .before .before in
-      refuse (c .before .before .before .before .before .before .before .before .before .before .loop .inv .2) _ 2 (ap (λ (w : Walked). w .1) (valueless-turn (depth t g) (frame t g) (tape t g) (place t g) (end t g) (opened t g) (left t g) (fits t g) (head t g) (value-is t v _ (c .before .enum-told2 .given .1)))) (λ e. omega arith) (c .refused3 .ensures .fault)
+      let v = c .before .before .before .before in
+      let g = v .before in
+      let u = refused-turn (depth t g) (frame t g) (tape t g) (place t g) (end t g) (opened t g) (left t g) (fits t g) (head t g) _ (value-is t v _ (c .before .before .v .given .1)) in
+      refuse (c .before .before .before .before .before .before .before .before .before .before .loop .inv .2) _ _ (u .fault) (u .some) (c .refused3 .ensures .fault)
 
-  enum-known-v : lts.Need-enum-known-v (callees t) (at t) own.Post Inv μ-loop
-  enum-known-v c = search needs
-
-  first-of-requires : lts.Need-first-of-requires (callees t) (at t) own.Post Inv μ-loop
-  first-of-requires c κs = search needs
-
-  refused-requires-4 : lts.Need-refused-requires-4 (callees t) (at t) own.Post Inv μ-loop
-  refused-requires-4 c κs = search needs
-
-  returns-4 : lts.Need-returns-4 (callees t) (at t) own.Post Inv μ-loop
-  returns-4 c =
-      let u = leaf t (c .before .before .before .before .before .before) _ _ _ (c .before .before .before .before .v .given .1) in
-      let e = c .before .before .first-of .ensures ∙ u .problem in
-      refuse-child (c .before .before .before .before .before .before .before .before .before .before .before .before .before .loop .inv .2) _ _ _ _ (u .step) _ (λ z. c .before .if2 .taken (e ∙ z)) (c .refused4 .ensures .fault ∙ e)
+  enum-known-v-2 : lts.Need-enum-known-v-2 (callees t) (at t) own.Post Inv μ-loop
+  enum-known-v-2 c = search needs
 
   either-requires : lts.Need-either-requires (callees t) (at t) own.Post Inv μ-loop
   either-requires c κs = search needs
 
-  either-requires-2 : lts.Need-either-requires-2 (callees t) (at t) own.Post Inv μ-loop
-  either-requires-2 c κs = search needs
-
-  either-requires-3 : lts.Need-either-requires-3 (callees t) (at t) own.Post Inv μ-loop
-  either-requires-3 c κs = search needs
-
   add-count : lts.Need-add-count (callees t) (at t) own.Post Inv μ-loop
   add-count c =
-      let l = c .before .before .before .before .before .before .before .before .before .before .before .before .before .before .before .loop in
-      let u = leaf t (c .before .before .before .before .before .before .before .before) _ _ _ (c .before .before .before .before .before .before .v .given .1) in
+      let l = c .before .before .before .before .before .before .before .before .before .before .loop in
+      let u = leaf t (c .before .before .before .before) _ _ (c .before .before .v2 .given .1) in
       let f = u .forth in
       let w = u .within in
       let g = l .inv .1 in
@@ -195,58 +161,52 @@ module _ (t : ℕ) where
 
   add-at : lts.Need-add-at (callees t) (at t) own.Post Inv μ-loop
   add-at c =
-      let u = leaf t (c .before .before .before .before .before .before .before .before) _ _ _ (c .before .before .before .before .before .before .v .given .1) in
+      let u = leaf t (c .before .before .before .before) _ _ (c .before .before .v2 .given .1) in
       let w = u .within in
       record { fits = omega arith }
 
   loop-less : lts.Need-loop-less (callees t) (at t) own.Post Inv μ-loop
   loop-less c =
-      let u = leaf t (c .before .before .before .before .before .before .before .before) _ _ _ (c .before .before .before .before .before .before .v .given .1) in
+      let u = leaf t (c .before .before .before .before) _ _ (c .before .before .v2 .given .1) in
       let f = u .forth in
       let w = u .within in
       omega arith
 
   loop-again : lts.Need-loop-again (callees t) (at t) own.Post Inv μ-loop
   loop-again c =
-      let l = c .before .before .before .before .before .before .before .before .before .before .before .before .before .before .before .loop in
-      let u = leaf t (c .before .before .before .before .before .before .before .before) _ _ _ (c .before .before .before .before .before .before .v .given .1) in
+      let l = c .before .before .before .before .before .before .before .before .before .before .loop in
+      let i = c .before .before .before .before .before in
+      let h = head t i in
+      let hd = headAt (frame t i) (part (tape t i) (place t i) (end t i)) in
+      let u = leaf t (c .before .before .before .before) _ _ (c .before .before .v2 .given .1) in
       let f = u .forth in
       let g = l .inv .1 in (
         u .within,
         omega arith,
-        pass (l .inv .2) _ _ _ _ (u .step) _ _ (sym (c .before .before .before .before .first-of .ensures ∙ u .problem) ∙ c .before .before .before .if2 .left) (c .before .before .either .ensures ∙ ap (λ (b : Bool). l .noted || b) (u .notes))
-            (c .either3 .ensures ∙ ap (λ (b : Bool). l .numbered || b) (c .before .either2 .ensures ∙ u .numbers)),
+        pass (l .inv .2) _ _ _ _ (u .step) _ _ (h .sound) (u .sound) (h .notes ∙ sym (ap (λ (b : Bool). l .noted || annotated (hd .1) || b) (u .notes) ∙ or-false _))
+            (c .either .ensures ∙ ap (λ (b : Bool). b || c .before .before .v2 .given .0 .1 .0) (h .numbers) ∙ ap (λ (b : Bool). l .numbered || headNumbered hd || b) (sym (u .numbers))),
       )
 
-  enum-known-v-2 : lts.Need-enum-known-v-2 (callees t) (at t) own.Post Inv μ-loop
-  enum-known-v-2 c = search needs
-
-  refused-requires-5 : lts.Need-refused-requires-5 (callees t) (at t) own.Post Inv μ-loop
-  refused-requires-5 c κs = search needs
-
-  returns-5 : lts.Need-returns-5 (callees t) (at t) own.Post Inv μ-loop
-  returns-5 c =
-      let h = head t (c .before .before .before .before .before .before .before) in
-      let u = tree t (c .before .before .before .before .before) _ _ (c .before .before .before .v2 .given .1) in
-      refuse-head (c .before .before .before .before .before .before .before .before .before .before .before .before .loop .inv .2) _ _ _ _ (u .step) _ (λ z. c .before .if3 .taken (h .problem ∙ z)) (c .refused5 .ensures .fault ∙ h .problem)
+  enum-known-v-3 : lts.Need-enum-known-v-3 (callees t) (at t) own.Post Inv μ-loop
+  enum-known-v-3 c = search needs
 
   add-check-nodes : lts.Need-add-check-nodes (callees t) (at t) own.Post Inv μ-loop
   add-check-nodes c =
-      let u = tree t (c .before .before .before .before) _ _ (c .before .before .v2 .given .1) in
+      let u = tree t (c .before .before .before) _ _ (c .before .v3 .given .1) in
       let w = u .within in
       let g = u .inner in
       record { fits = omega arith }
 
   add-check-nodes-2 : lts.Need-add-check-nodes-2 (callees t) (at t) own.Post Inv μ-loop
   add-check-nodes-2 c =
-      let u = tree t (c .before .before .before .before) _ _ (c .before .before .v2 .given .1) in
+      let u = tree t (c .before .before .before) _ _ (c .before .v3 .given .1) in
       let w = u .within in
       let g = u .inner in
       record { fits = omega arith }
 
   add-check-nodes-3 : lts.Need-add-check-nodes-3 (callees t) (at t) own.Post Inv μ-loop
   add-check-nodes-3 c =
-      let u = tree t (c .before .before .before .before) _ _ (c .before .before .v2 .given .1) in
+      let u = tree t (c .before .before .before) _ _ (c .before .v3 .given .1) in
       let w = u .within in
       let g = u .inner in
       record { fits = omega arith }
@@ -256,41 +216,35 @@ module _ (t : ℕ) where
 
   check-nodes-requires : lts.Need-check-nodes-requires (callees t) (at t) own.Post Inv μ-loop
   check-nodes-requires c κs =
-      let u = tree t (c .before .before .before .before) _ _ (c .before .before .v2 .given .1) in
+      let u = tree t (c .before .before .before) _ _ (c .before .v3 .given .1) in
       let w = u .within in
-      let s = c .before .before .before .before .before .before .before .before .before .before .before .before .before .before in
+      let s = c .before .before .before .before .before .before .before .before .before .before .before .before in
       let z = s .pre .0 in
-      let nz = c .before .before .before .before .before .before .before .before .before .before .before .before .if1 .left in
+      let nz = c .before .before .before .before .before .before .before .before .before .before .if1 .left in
       let y = s .pre .1 .1 in
       (omega arith, (u .inner, omega arith))
 
-  refused-requires-6 : lts.Need-refused-requires-6 (callees t) (at t) own.Post Inv μ-loop
-  refused-requires-6 c κs = search needs
+  refused-requires-4 : lts.Need-refused-requires-4 (callees t) (at t) own.Post Inv μ-loop
+  refused-requires-4 c κs = search needs
 
-  returns-6 : lts.Need-returns-6 (callees t) (at t) own.Post Inv μ-loop
-  returns-6 c =
-      let h = head t (c .before .before .before .before .before .before .before .before .before .before) in
-      let u = tree t (c .before .before .before .before .before .before .before .before) _ _ (c .before .before .before .before .before .before .v2 .given .1) in
+  returns-4 : lts.Need-returns-4 (callees t) (at t) own.Post Inv μ-loop
+  returns-4 c =
+      let h = head t (c .before .before .before .before .before .before .before .before) in
+      let u = tree t (c .before .before .before .before .before .before .before) _ _ (c .before .before .before .before .before .v3 .given .1) in
       let r = c .before .before .before .check-nodes .ensures in
-      refuse-node (c .before .before .before .before .before .before .before .before .before .before .before .before .before .before .before .loop .inv .2) _ _ _ _ (u .step) _ (sym (h .problem) ∙ c .before .before .before .before .if3 .left) (λ z. c .before .if4 .taken (r .fault ∙ z)) (c .refused6 .ensures .fault ∙ r .fault)
+      refuse-node (c .before .before .before .before .before .before .before .before .before .before .before .before .before .loop .inv .2) _ _ _ _ (u .step) _ (h .sound) (λ z. c .before .if2 .taken (r .fault ∙ z)) (c .refused4 .ensures .fault ∙ r .fault)
 
-  either-requires-4 : lts.Need-either-requires-4 (callees t) (at t) own.Post Inv μ-loop
-  either-requires-4 c κs = search needs
+  either-requires-2 : lts.Need-either-requires-2 (callees t) (at t) own.Post Inv μ-loop
+  either-requires-2 c κs = search needs
 
-  either-requires-5 : lts.Need-either-requires-5 (callees t) (at t) own.Post Inv μ-loop
-  either-requires-5 c κs = search needs
-
-  either-requires-6 : lts.Need-either-requires-6 (callees t) (at t) own.Post Inv μ-loop
-  either-requires-6 c κs = search needs
-
-  either-requires-7 : lts.Need-either-requires-7 (callees t) (at t) own.Post Inv μ-loop
-  either-requires-7 c κs = search needs
+  either-requires-3 : lts.Need-either-requires-3 (callees t) (at t) own.Post Inv μ-loop
+  either-requires-3 c κs = search needs
 
   add-count-2 : lts.Need-add-count-2 (callees t) (at t) own.Post Inv μ-loop
   add-count-2 c =
-      let s = c .before .before .before .before .before .before .before .before .before .before .before .before .before .before .before .before .before .before .before .before .before in
-      let l = c .before .before .before .before .before .before .before .before .before .before .before .before .before .before .before .before .before .before .loop in
-      let u = tree t (c .before .before .before .before .before .before .before .before .before .before .before) _ _ (c .before .before .before .before .before .before .before .before .before .v2 .given .1) in
+      let s = c .before .before .before .before .before .before .before .before .before .before .before .before .before .before .before .before .before in
+      let l = c .before .before .before .before .before .before .before .before .before .before .before .before .before .before .loop in
+      let u = tree t (c .before .before .before .before .before .before .before .before) _ _ (c .before .before .before .before .before .before .v3 .given .1) in
       let f = u .forth in
       let w = u .within in
       let g = l .inv .1 in
@@ -298,23 +252,23 @@ module _ (t : ℕ) where
 
   add-at-2 : lts.Need-add-at-2 (callees t) (at t) own.Post Inv μ-loop
   add-at-2 c =
-      let s = c .before .before .before .before .before .before .before .before .before .before .before .before .before .before .before .before .before .before .before .before .before in
-      let u = tree t (c .before .before .before .before .before .before .before .before .before .before .before) _ _ (c .before .before .before .before .before .before .before .before .before .v2 .given .1) in
+      let s = c .before .before .before .before .before .before .before .before .before .before .before .before .before .before .before .before .before in
+      let u = tree t (c .before .before .before .before .before .before .before .before) _ _ (c .before .before .before .before .before .before .v3 .given .1) in
       let g = u .inner in
       let w = u .within in
       record { fits = omega arith }
 
   add-at-3 : lts.Need-add-at-3 (callees t) (at t) own.Post Inv μ-loop
   add-at-3 c =
-      let s = c .before .before .before .before .before .before .before .before .before .before .before .before .before .before .before .before .before .before .before .before .before in
-      let u = tree t (c .before .before .before .before .before .before .before .before .before .before .before) _ _ (c .before .before .before .before .before .before .before .before .before .v2 .given .1) in
+      let s = c .before .before .before .before .before .before .before .before .before .before .before .before .before .before .before .before .before in
+      let u = tree t (c .before .before .before .before .before .before .before .before) _ _ (c .before .before .before .before .before .before .v3 .given .1) in
       let g = u .inner in
       let w = u .within in
       record { fits = omega arith }
 
   loop-less-2 : lts.Need-loop-less-2 (callees t) (at t) own.Post Inv μ-loop
   loop-less-2 c =
-      let u = tree t (c .before .before .before .before .before .before .before .before .before .before .before) _ _ (c .before .before .before .before .before .before .before .before .before .v2 .given .1) in
+      let u = tree t (c .before .before .before .before .before .before .before .before) _ _ (c .before .before .before .before .before .before .v3 .given .1) in
       let f = u .forth in
       let w = u .within in
       omega arith
@@ -322,28 +276,25 @@ module _ (t : ℕ) where
   loop-again-2 : lts.Need-loop-again-2 (callees t) (at t) own.Post Inv μ-loop
   unfolding noted numbered
   loop-again-2 c =
-      let l = c .before .before .before .before .before .before .before .before .before .before .before .before .before .before .before .before .before .before .loop in
-      let i = c .before .before .before .before .before .before .before .before .before .before .before .before .before in
+      let l = c .before .before .before .before .before .before .before .before .before .before .before .before .before .before .loop in
+      let i = c .before .before .before .before .before .before .before .before .before in
       let h = head t i in
       let hd = headAt (frame t i) (part (tape t i) (place t i) (end t i)) in
-      let u = tree t (c .before .before .before .before .before .before .before .before .before .before .before) _ _ (c .before .before .before .before .before .before .before .before .before .v2 .given .1) in
+      let u = tree t (c .before .before .before .before .before .before .before .before) _ _ (c .before .before .before .before .before .before .v3 .given .1) in
       let f = u .forth in
       let g = l .inv .1 in
-      let x = c .before .before .before .before .before .before .check-nodes .result in
-      let r = c .before .before .before .before .before .before .check-nodes .ensures in
-      let z : headFault hd ≡ 0 = sym (h .problem) ∙ c .before .before .before .before .before .before .before .if3 .left in
-      let y = sym (r .fault) ∙ c .before .before .before .before .if4 .left in
-      let k = r .counts (c .before .before .before .before .if4 .left) in
-      let v : Walked = walk (depth t i - 1) (c .before .before .before .before .before .before .before .before .before .v2 .given .0 .0) (part (tape t i) (behind t i + 5) (behind t i + 5 + c .before .before .before .before .before .before .before .before .before .v2 .given .0 .1 .0)) in (
+      let x = c .before .before .before .before .check-nodes .result in
+      let r = c .before .before .before .before .check-nodes .ensures in
+      let k = r .counts (c .before .before .if2 .left) in (
         u .within,
         omega arith,
-        pass (l .inv .2) _ _ _ _ (u .step) _ _ (ap (λ (j : ℕ). first j (v .1)) z ∙ y)
-            (c .before .before .either5 .ensures ∙ ap (λ (b : Bool). l .noted || b) (c .before .before .before .either4 .ensures ∙ ap (λ (b : Bool). b || x .noted) (h .notes) ∙ ap (λ (b : Bool). annotated (hd .1) || b) (k .noted)))
-            (c .either7 .ensures ∙ ap (λ (b : Bool). l .numbered || b) (c .before .either6 .ensures ∙ ap (λ (b : Bool). b || x .numbered) (h .numbers) ∙ ap (λ (b : Bool). headNumbered hd || b) (k .numbered))),
+        pass (l .inv .2) _ _ _ _ (u .step) _ _ (h .sound) (sym (r .fault) ∙ c .before .before .if2 .left)
+            (c .before .either2 .ensures ∙ ap (λ (b : Bool). b || x .noted) (h .notes) ∙ ap (λ (b : Bool). l .noted || annotated (hd .1) || b) (k .noted))
+            (c .either3 .ensures ∙ ap (λ (b : Bool). b || x .numbered) (h .numbers) ∙ ap (λ (b : Bool). l .numbered || headNumbered hd || b) (k .numbered)),
       )
 
-  returns-7 : lts.Need-returns-7 (callees t) (at t) own.Post Inv μ-loop
-  returns-7 c =
+  returns-5 : lts.Need-returns-5 (callees t) (at t) own.Post Inv μ-loop
+  returns-5 c =
       let s = c .before .before .before .before in
       let a = s .args in
       let l = c .before .loop in
@@ -353,4 +304,4 @@ module _ (t : ℕ) where
 
 pub +check-nodes-spec : {M : Type 1} → statement M
 +check-nodes-spec = close μ λ t. lts.spec (callees t) (at t) own.Post Inv μ-loop
-    (refused-requires t) (returns t) (loop-holds t) (head-seen-requires t) (enum-known-p t) (enum-told t) (refused-requires-2 t) (returns-2 t) (is-free-requires t) (value-met-requires t) (enum-told-2 t) (refused-requires-3 t) (returns-3 t) (enum-known-v t) (first-of-requires t) (refused-requires-4 t) (returns-4 t) (either-requires t) (either-requires-2 t) (either-requires-3 t) (add-count t) (add-at t) (loop-less t) (loop-again t) (enum-known-v-2 t) (refused-requires-5 t) (returns-5 t) (add-check-nodes t) (add-check-nodes-2 t) (add-check-nodes-3 t) (sub-check-nodes t) (check-nodes-requires t) (refused-requires-6 t) (returns-6 t) (either-requires-4 t) (either-requires-5 t) (either-requires-6 t) (either-requires-7 t) (add-count-2 t) (add-at-2 t) (add-at-3 t) (loop-less-2 t) (loop-again-2 t) (returns-7 t)
+    (refused-requires t) (returns t) (loop-holds t) (head-seen-requires t) (enum-known-p t) (enum-told t) (refused-requires-2 t) (returns-2 t) (value-met-requires t) (enum-known-v t) (refused-requires-3 t) (returns-3 t) (enum-known-v-2 t) (either-requires t) (add-count t) (add-at t) (loop-less t) (loop-again t) (enum-known-v-3 t) (add-check-nodes t) (add-check-nodes-2 t) (add-check-nodes-3 t) (sub-check-nodes t) (check-nodes-requires t) (refused-requires-4 t) (returns-4 t) (either-requires-2 t) (either-requires-3 t) (add-count-2 t) (add-at-2 t) (add-at-3 t) (loop-less-2 t) (loop-again-2 t) (returns-5 t)

@@ -5,7 +5,7 @@ use denote.Ref.{now}
 use Rattle.tape.specs.Bytes.{part}
 use Rattle.tape.specs.Tape.{scalarFault}
 use Rattle.tape.specs.Refusal.{scalarNumbered}
-use Rattle.tape.specs.CheckSteps.{seenScalar}
+use Rattle.tape.specs.CheckSteps.{scalarLeaf}
 use Rattle.tape.proofs.Parts.{part-length, part-byte}
 use Rattle.tape.proofs.CodeReading.{decimal-short, decimal-over, decimal-some}
 use borrow.Author.Needs.{needs}
@@ -21,7 +21,7 @@ returns c =
     let a = s .args in
     let l = part (now (a .tape)) (a .at) (a .end) in
     let n = part-length (now (a .tape)) (a .at) (a .end) (s .pre .1) in
-    sym (ap seenScalar (decimal-short l (omega arith)))
+    sym (ap scalarLeaf (decimal-short l (omega arith)))
 
 add-if2 : tie.Need-add-if2
 add-if2 c = search needs
@@ -36,7 +36,7 @@ returns-2 c =
     let l = part (now (a .tape)) (a .at) (a .end) in
     let n = part-length (now (a .tape)) (a .at) (a .end) (s .pre .1) in
     let b = part-byte (now (a .tape)) (a .at) (a .end) 1 (omega arith) in
-    sym (ap seenScalar (decimal-over l (omega arith) (omega arith)))
+    sym (ap scalarLeaf (decimal-over l (omega arith) (omega arith)))
 
 returns-3 : tie.Need-returns-3
 unfolding scalarFault scalarNumbered
@@ -46,7 +46,7 @@ returns-3 c =
     let l = part (now (a .tape)) (a .at) (a .end) in
     let n = part-length (now (a .tape)) (a .at) (a .end) (s .pre .1) in
     let b = part-byte (now (a .tape)) (a .at) (a .end) 1 (omega arith) in
-    sym (ap seenScalar (decimal-some l (omega arith) (omega arith)))
+    sym (ap scalarLeaf (decimal-some l (omega arith) (omega arith)))
 
 pub decimal-seen-spec : {M : Type 1} → statement M
 decimal-seen-spec =

@@ -5,7 +5,7 @@ use denote.Ref.{now}
 use Prim.Native.Nat.{ℕ}
 use Rattle.tape.specs.Bytes.{part}
 use Rattle.tape.specs.Tape.{floatAs}
-use Rattle.tape.specs.CheckSteps.{seenScalar}
+use Rattle.tape.specs.CheckSteps.{scalarLeaf}
 use Rattle.tape.proofs.Parts.{part-length, part-number}
 use Rattle.tape.proofs.CodeReading.{float-short, float-some}
 use borrow.Author.Needs.{needs}
@@ -21,7 +21,7 @@ returns c =
     let a = s .args in
     let l = part (now (a .tape)) (a .at) (a .end) in
     let n = part-length (now (a .tape)) (a .at) (a .end) (s .pre .1) in
-    sym (ap seenScalar (float-short l (omega arith)))
+    sym (ap scalarLeaf (float-short l (omega arith)))
 
 add-u64-at : tie.Need-add-u64-at
 add-u64-at c = search needs
@@ -39,7 +39,7 @@ returns-2 c =
     let l = part (now (a .tape)) (a .at) (a .end) in
     let n = part-length (now (a .tape)) (a .at) (a .end) (s .pre .1) in
     let u = part-number (now (a .tape)) (a .at) (a .end) 8 1 (omega arith) in
-    c .bits-seen .ensures ∙ ap (λ (b : ℕ). seenScalar (floatAs b)) (c .before .u64-at .ensures ∙ sym u) ∙ sym (ap seenScalar (float-some l (omega arith)))
+    c .bits-seen .ensures ∙ ap (λ (b : ℕ). scalarLeaf (floatAs b)) (c .before .u64-at .ensures ∙ sym u) ∙ sym (ap scalarLeaf (float-some l (omega arith)))
 
 pub float-seen-spec : {M : Type 1} → statement M
 float-seen-spec =

@@ -5,7 +5,7 @@ use denote.Ref.{now}
 use Rattle.tape.specs.Bytes.{part}
 use Rattle.tape.specs.Tape.{scalarFault}
 use Rattle.tape.specs.Refusal.{scalarNumbered}
-use Rattle.tape.specs.CheckSteps.{seenScalar}
+use Rattle.tape.specs.CheckSteps.{scalarLeaf}
 use Rattle.tape.proofs.Parts.{part-length}
 use Rattle.tape.proofs.CodeReading.{int-short, int-some}
 use borrow.Author.Needs.{needs}
@@ -21,7 +21,7 @@ returns c =
     let a = s .args in
     let l = part (now (a .tape)) (a .at) (a .end) in
     let n = part-length (now (a .tape)) (a .at) (a .end) (s .pre .1) in
-    sym (ap seenScalar (int-short l (omega arith)))
+    sym (ap scalarLeaf (int-short l (omega arith)))
 
 returns-2 : tie.Need-returns-2
 unfolding scalarFault scalarNumbered
@@ -30,7 +30,7 @@ returns-2 c =
     let a = s .args in
     let l = part (now (a .tape)) (a .at) (a .end) in
     let n = part-length (now (a .tape)) (a .at) (a .end) (s .pre .1) in
-    sym (ap seenScalar (int-some l (omega arith)))
+    sym (ap scalarLeaf (int-some l (omega arith)))
 
 pub int-seen-spec : {M : Type 1} → statement M
 int-seen-spec = tie.close (tie.spec sub-if1 returns returns-2)

@@ -1,7 +1,7 @@
 -- `tape::check::name_seen` meets its contract. Assumes nothing.
 use mathlib.Core.Path.{_∙_}
 use Rattle.tape.specs.Tape.{nameOf}
-use Rattle.tape.proofs.CodeFacts.{seen-name}
+use Rattle.tape.proofs.CodeFacts.{leaf-name}
 use borrow.Author.Needs.{needs}
 use Rattle.tape.proofs.check.name_seen.Statement.{statement}
 use Rattle.tape.proofs.check.name_seen.Tie as tie
@@ -22,7 +22,7 @@ enum-told-4 : tie.Need-enum-told-4
 enum-told-4 c = search needs
 
 returns : tie.Need-returns
-returns c = rw (c .before .enum-told .given .1) (c .sym-seen .ensures ∙ seen-name _)
+returns c = rw (c .before .enum-told .given .1) (c .sym-seen .ensures ∙ leaf-name _)
 
 returns-2 : tie.Need-returns-2
 unfolding nameOf

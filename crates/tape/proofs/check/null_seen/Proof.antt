@@ -6,7 +6,7 @@ use Rattle.tape.specs.Bytes.{part}
 use Rattle.tape.specs.Tree.{null}
 use Rattle.tape.specs.Tape.{scalarFault}
 use Rattle.tape.specs.Refusal.{scalarNumbered}
-use Rattle.tape.specs.CheckSteps.{seenScalar}
+use Rattle.tape.specs.CheckSteps.{scalarLeaf}
 use Rattle.tape.proofs.Parts.{part-length, part-byte}
 use Rattle.tape.proofs.CodeReading.{byte-short, byte-over, byte-some}
 use borrow.Author.Needs.{needs}
@@ -22,7 +22,7 @@ returns c =
     let a = s .args in
     let l = part (now (a .tape)) (a .at) (a .end) in
     let n = part-length (now (a .tape)) (a .at) (a .end) (s .pre .1) in
-    sym (ap seenScalar (byte-short l 12 null (omega arith)))
+    sym (ap scalarLeaf (byte-short l 12 null (omega arith)))
 
 add-if2 : tie.Need-add-if2
 add-if2 c = search needs
@@ -37,7 +37,7 @@ returns-2 c =
     let l = part (now (a .tape)) (a .at) (a .end) in
     let n = part-length (now (a .tape)) (a .at) (a .end) (s .pre .1) in
     let b = part-byte (now (a .tape)) (a .at) (a .end) 1 (omega arith) in
-    sym (ap seenScalar (byte-over l 12 null (omega arith)))
+    sym (ap scalarLeaf (byte-over l 12 null (omega arith)))
 
 returns-3 : tie.Need-returns-3
 unfolding scalarFault scalarNumbered
@@ -47,7 +47,7 @@ returns-3 c =
     let l = part (now (a .tape)) (a .at) (a .end) in
     let n = part-length (now (a .tape)) (a .at) (a .end) (s .pre .1) in
     let b = part-byte (now (a .tape)) (a .at) (a .end) 1 (omega arith) in
-    sym (ap seenScalar (byte-some l 12 null (omega arith) (omega arith)))
+    sym (ap scalarLeaf (byte-some l 12 null (omega arith) (omega arith)))
 
 pub null-seen-spec : {M : Type 1} → statement M
 null-seen-spec =

@@ -2,10 +2,10 @@
 use mathlib.Core.Path.{sym, ap, _∙_}
 use native.Mathlib.Omega.{arith}
 use denote.Ref.{now}
-use Rattle.tape.specs.CheckSteps.{seenScalar}
+use Rattle.tape.specs.CheckSteps.{scalarLeaf}
 use Rattle.tape.proofs.Parts.{part-first}
-use Rattle.tape.proofs.CodeReading.{scalar-null, scalar-bool, scalar-int, scalar-float, scalar-decimal, scalar-timestamp, scalar-symbol, scalar-string, scalar-clob, scalar-other}
-use Rattle.tape.proofs.CodeFacts.{seen-symbol, seen-string}
+use Rattle.tape.proofs.CodeReading.{scalar-null, scalar-bool, scalar-int, scalar-float, scalar-decimal, scalar-timestamp, scalar-symbol, scalar-clob, scalar-other}
+use Rattle.tape.proofs.CodeFacts.{leaf-symbol, six-on, leaf-texts}
 use borrow.Author.Needs.{needs}
 use Rattle.tape.proofs.check.scalar_seen.Statement.{statement}
 use Rattle.tape.proofs.check.scalar_seen.Tie as tie
@@ -21,7 +21,7 @@ returns c =
     let s = c .before .before .before .before in
     let a = s .args in
     let f = part-first (now (a .tape)) (a .at) (a .end) (s .pre .0) in
-    c .null-seen .ensures ∙ sym (ap seenScalar (scalar-null _ (f ∙ c .before .if1 .taken)))
+    c .null-seen .ensures ∙ sym (ap scalarLeaf (scalar-null _ (f ∙ c .before .if1 .taken)))
 
 bool-seen-requires : tie.Need-bool-seen-requires
 bool-seen-requires c κs = search needs
@@ -31,7 +31,7 @@ returns-2 c =
     let s = c .before .before .before .before .before in
     let a = s .args in
     let f = part-first (now (a .tape)) (a .at) (a .end) (s .pre .0) in
-    c .bool-seen .ensures ∙ sym (ap seenScalar (scalar-bool _ (f ∙ c .before .if2 .taken)))
+    c .bool-seen .ensures ∙ sym (ap scalarLeaf (scalar-bool _ (f ∙ c .before .if2 .taken)))
 
 int-seen-requires : tie.Need-int-seen-requires
 int-seen-requires c κs = search needs
@@ -41,7 +41,7 @@ returns-3 c =
     let s = c .before .before .before .before .before .before in
     let a = s .args in
     let f = part-first (now (a .tape)) (a .at) (a .end) (s .pre .0) in
-    c .int-seen .ensures ∙ sym (ap seenScalar (scalar-int _ (f ∙ c .before .if3 .taken)))
+    c .int-seen .ensures ∙ sym (ap scalarLeaf (scalar-int _ (f ∙ c .before .if3 .taken)))
 
 float-seen-requires : tie.Need-float-seen-requires
 float-seen-requires c κs = search needs
@@ -51,7 +51,7 @@ returns-4 c =
     let s = c .before .before .before .before .before .before .before in
     let a = s .args in
     let f = part-first (now (a .tape)) (a .at) (a .end) (s .pre .0) in
-    c .float-seen .ensures ∙ sym (ap seenScalar (scalar-float _ (f ∙ c .before .if4 .taken)))
+    c .float-seen .ensures ∙ sym (ap scalarLeaf (scalar-float _ (f ∙ c .before .if4 .taken)))
 
 decimal-seen-requires : tie.Need-decimal-seen-requires
 decimal-seen-requires c κs = search needs
@@ -61,7 +61,7 @@ returns-5 c =
     let s = c .before .before .before .before .before .before .before .before in
     let a = s .args in
     let f = part-first (now (a .tape)) (a .at) (a .end) (s .pre .0) in
-    c .decimal-seen .ensures ∙ sym (ap seenScalar (scalar-decimal _ (f ∙ c .before .if5 .taken)))
+    c .decimal-seen .ensures ∙ sym (ap scalarLeaf (scalar-decimal _ (f ∙ c .before .if5 .taken)))
 
 timestamp-seen-requires : tie.Need-timestamp-seen-requires
 timestamp-seen-requires c κs = search needs
@@ -71,44 +71,49 @@ returns-6 c =
     let s = c .before .before .before .before .before .before .before .before .before in
     let a = s .args in
     let f = part-first (now (a .tape)) (a .at) (a .end) (s .pre .0) in
-    c .timestamp-seen .ensures ∙ sym (ap seenScalar (scalar-timestamp _ (f ∙ c .before .if6 .taken)))
+    c .timestamp-seen .ensures ∙ sym (ap scalarLeaf (scalar-timestamp _ (f ∙ c .before .if6 .taken)))
 
-sym-seen-requires : tie.Need-sym-seen-requires
-sym-seen-requires c κs = search needs
+id-seen-requires : tie.Need-id-seen-requires
+id-seen-requires c κs =
+    let s = c .before .before .before .before .before .before .before .before .before in
+    let a = s .args in
+    let f = part-first (now (a .tape)) (a .at) (a .end) (s .pre .0) in
+    (omega arith, (s .pre .1, f ∙ c .if7 .taken))
 
 returns-7 : tie.Need-returns-7
 returns-7 c =
     let s = c .before .before .before .before .before .before .before .before .before .before in
     let a = s .args in
     let f = part-first (now (a .tape)) (a .at) (a .end) (s .pre .0) in
-    c .sym-seen .ensures ∙ seen-symbol _ ∙ sym (ap seenScalar (scalar-symbol _ (omega arith) (omega arith)))
+    c .id-seen .ensures ∙ leaf-symbol _ ∙ sym (ap scalarLeaf (scalar-symbol _ (omega arith) (omega arith)))
 
-text-seen-requires : tie.Need-text-seen-requires
-text-seen-requires c κs = search needs
+clob-seen-requires : tie.Need-clob-seen-requires
+clob-seen-requires c κs = search needs
 
 returns-8 : tie.Need-returns-8
 returns-8 c =
     let s = c .before .before .before .before .before .before .before .before .before .before .before in
     let a = s .args in
     let f = part-first (now (a .tape)) (a .at) (a .end) (s .pre .0) in
-    c .text-seen .ensures ∙ seen-string _ ∙ sym (ap seenScalar (scalar-string _ (f ∙ c .before .if8 .taken)))
-
-clob-seen-requires : tie.Need-clob-seen-requires
-clob-seen-requires c κs = search needs
+    c .clob-seen .ensures ∙ sym (ap scalarLeaf (scalar-clob _ (f ∙ c .before .if8 .taken)))
 
 returns-9 : tie.Need-returns-9
 returns-9 c =
-    let s = c .before .before .before .before .before .before .before .before .before .before .before .before in
-    let a = s .args in
-    let f = part-first (now (a .tape)) (a .at) (a .end) (s .pre .0) in
-    c .clob-seen .ensures ∙ sym (ap seenScalar (scalar-clob _ (f ∙ c .before .if9 .taken)))
-
-returns-10 : tie.Need-returns-10
-returns-10 c =
     let s = c .before .before .before .before .before .before .before .before .before .before .before in
     let a = s .args in
     let f = part-first (now (a .tape)) (a .at) (a .end) (s .pre .0) in
-    sym (ap seenScalar (scalar-other _ (rw f (c .before .before .if7 .left)) (λ e. c .before .if8 .left (sym f ∙ e)) (λ e. c .if9 .left (sym f ∙ e))))
+    sym (ap scalarLeaf (scalar-other _ (omega arith) (λ e. omega arith) (λ e. omega arith)))
+
+text-seen-requires : tie.Need-text-seen-requires
+text-seen-requires c κs = search needs
+
+returns-10 : tie.Need-returns-10
+returns-10 c =
+    let s = c .before .before .before .before .before .before .before .before .before .before .before .before in
+    let a = s .args in
+    let f = part-first (now (a .tape)) (a .at) (a .end) (s .pre .0) in
+    let six = six-on _ (c .before .before .before .before .before .before .before .before .before .if1 .left) (c .before .before .before .before .before .before .before .before .if2 .left) (c .before .before .before .before .before .before .before .if3 .left) (c .before .before .before .before .before .before .if4 .left) (c .before .before .before .before .before .if5 .left) (c .before .before .before .before .if6 .left) in
+    c .text-seen .ensures ∙ leaf-texts _ (rw f six) (λ e. c .before .before .before .if7 .left (sym f ∙ e)) (λ e. c .before .before .if8 .left (sym f ∙ e)) (rw f (c .before .if9 .left))
 
 pub scalar-seen-spec : {M : Type 1} → statement M
 scalar-seen-spec =
@@ -127,10 +132,10 @@ scalar-seen-spec =
     returns-5
     timestamp-seen-requires
     returns-6
-    sym-seen-requires
+    id-seen-requires
     returns-7
-    text-seen-requires
-    returns-8
     clob-seen-requires
+    returns-8
     returns-9
+    text-seen-requires
     returns-10)

@@ -5,10 +5,10 @@ use denote.Ref.{now}
 use Rattle.tape.specs.Bytes.{part}
 use Rattle.tape.specs.Tape.{symFault}
 use Rattle.tape.specs.Refusal.{symNumbered}
-use Rattle.tape.specs.CheckSteps.{seen}
-use Rattle.tape.proofs.Parts.{part-length, part-first, part-number}
-use Rattle.tape.proofs.CodeReading.{sym-id, sym-none, sym-short}
-use Rattle.tape.proofs.CodeFacts.{seen-text}
+use Rattle.tape.specs.CheckSteps.{leafOf}
+use Rattle.tape.proofs.Parts.{part-length, part-first}
+use Rattle.tape.proofs.CodeReading.{sym-none, sym-short}
+use Rattle.tape.proofs.CodeFacts.{leaf-text}
 use borrow.Author.Needs.{needs}
 use Rattle.tape.proofs.check.sym_seen.Statement.{statement}
 use Rattle.tape.proofs.check.sym_seen.Tie as tie
@@ -19,7 +19,7 @@ returns c =
     let a = s .args in
     let l = part (now (a .tape)) (a .at) (a .end) in
     let n = part-length (now (a .tape)) (a .at) (a .end) (s .pre .1) in
-    sym (ap (seen symFault symNumbered) (sym-short l (omega arith)))
+    sym (ap (leafOf symFault symNumbered) (sym-short l (omega arith)))
 
 shared-slice-read-k : tie.Need-shared-slice-read-k
 shared-slice-read-k c = search needs
@@ -32,45 +32,26 @@ returns-2 c =
     let s = c .before .before .before .before .before in
     let a = s .args in
     let l = part (now (a .tape)) (a .at) (a .end) in
-    let n = part-length (now (a .tape)) (a .at) (a .end) (s .pre .1) in
     let f = part-first (now (a .tape)) (a .at) (a .end) (omega arith) in
-    c .text-seen .ensures ∙ seen-text l (f ∙ c .before .if2 .taken)
+    c .text-seen .ensures ∙ leaf-text l (f ∙ c .before .if2 .taken)
 
-returns-3 : tie.Need-returns-3
-returns-3 c =
+id-seen-requires : tie.Need-id-seen-requires
+id-seen-requires c κs =
     let s = c .before .before .before .before .before in
     let a = s .args in
-    let l = part (now (a .tape)) (a .at) (a .end) in
-    let n = part-length (now (a .tape)) (a .at) (a .end) (s .pre .1) in
     let f = part-first (now (a .tape)) (a .at) (a .end) (omega arith) in
-    sym (ap (seen symFault symNumbered) (sym-none l (λ e. c .before .if2 .left (sym f ∙ e)) (λ e. c .if3 .taken (sym f ∙ e))))
+    (s .pre .0, (s .pre .1, f ∙ c .if3 .taken))
 
-sub-if4 : tie.Need-sub-if4
-sub-if4 c = search needs
+returns-3 : tie.Need-returns-3
+returns-3 c = search needs
 
 returns-4 : tie.Need-returns-4
 returns-4 c =
-    let s = c .before .before .before .before .before .before in
+    let s = c .before .before .before .before .before in
     let a = s .args in
     let l = part (now (a .tape)) (a .at) (a .end) in
-    let n = part-length (now (a .tape)) (a .at) (a .end) (s .pre .1) in
-    sym (ap (seen symFault symNumbered) (sym-short l (omega arith)))
-
-add-u32-at : tie.Need-add-u32-at
-add-u32-at c = search needs
-
-u32-at-requires : tie.Need-u32-at-requires
-u32-at-requires c κs = search needs
-
-returns-5 : tie.Need-returns-5
-returns-5 c =
-    let s = c .before .before .before .before .before .before .before in
-    let a = s .args in
-    let l = part (now (a .tape)) (a .at) (a .end) in
-    let n = part-length (now (a .tape)) (a .at) (a .end) (s .pre .1) in
     let f = part-first (now (a .tape)) (a .at) (a .end) (omega arith) in
-    let u = part-number (now (a .tape)) (a .at) (a .end) 4 1 (omega arith) in
-    rw (sym-id l (f ∙ c .before .before .if3 .left) (omega arith), c .u32-at .ensures .0, ← u)
+    sym (ap (leafOf symFault symNumbered) (sym-none l (λ e. c .before .if2 .left (sym f ∙ e)) (λ e. c .if3 .left (sym f ∙ e))))
 
 pub sym-seen-spec : {M : Type 1} → statement M
 sym-seen-spec =
@@ -80,9 +61,6 @@ sym-seen-spec =
     shared-slice-read-k
     text-seen-requires
     returns-2
+    id-seen-requires
     returns-3
-    sub-if4
-    returns-4
-    add-u32-at
-    u32-at-requires
-    returns-5)
+    returns-4)

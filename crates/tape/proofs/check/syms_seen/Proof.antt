@@ -9,17 +9,17 @@ use Rattle.tape.specs.Tape.{symOf, symsOf, symFault}
 use Rattle.tape.specs.Refusal.{symNumbered}
 use Rattle.tape.specs.CheckSteps.{symsFront}
 use Rattle.tape.proofs.Reading.{sym-sound}
-use Rattle.tape.proofs.CodeFacts.{seen-within, front-end, front-stop, front-step}
+use Rattle.tape.proofs.CodeFacts.{leaf-within, front-end, front-stop, front-step}
 use borrow.Author.Needs.{needs}
 use Rattle.tape.proofs.check.syms_seen.Statement.{statement}
 use Rattle.tape.proofs.check.syms_seen.Tie as tie
 
 abbrev Inv-loop : tie.InvT-loop
-Inv-loop tape at end n before already p₀ left₀ fault₀ numbered₀ p left fault numbered =
-    (p ≤ end) × (symsFront p fault numbered (symsOf left (part tape p end)) ≡ symsFront at before already (symsOf n (part tape at end)))
+Inv-loop tape at end n already p₀ left₀ numbered₀ p left numbered =
+    (p ≤ end) × (symsFront p numbered (symsOf left (part tape p end)) ≡ symsFront at already (symsOf n (part tape at end)))
 
 abbrev μ-loop : tie.MeasureT-loop
-μ-loop tape at end n before already p₀ left₀ fault₀ numbered₀ p left fault numbered = left
+μ-loop tape at end n already p₀ left₀ numbered₀ p left numbered = left
 
 loop-holds : tie.Need-loop-holds Inv-loop μ-loop
 loop-holds c = (c .before .pre .0, refl)
@@ -35,22 +35,20 @@ enum-told c = search needs
 
 returns : tie.Need-returns Inv-loop μ-loop
 returns c =
-    let a = c .before .before .before .before .before .before .args in
+    let s = c .before .before .before .before .before .before in
+    let a = s .args in
     let l = c .before .before .before .before .loop in
-    front-stop (now (a .tape)) (l .p) (a .end) (l .fault) (l .numbered) (l .left) (c .before .before .before .loop-test .taken) (sym (c .enum-told .given .1) ∙ c .before .before .sym-seen .ensures) ∙ l .inv .1
-
-first-of-requires : tie.Need-first-of-requires Inv-loop μ-loop
-first-of-requires c κs = search needs
+    front-stop (now (a .tape)) (l .p) (a .end) (l .numbered) (l .left) _ (c .before .before .before .loop-test .taken) (sym (c .enum-told .given .1) ∙ c .before .before .sym-seen .ensures) ∙ l .inv .1
 
 either-requires : tie.Need-either-requires Inv-loop μ-loop
 either-requires c κs = search needs
 
 add-p : tie.Need-add-p Inv-loop μ-loop
 add-p c =
-    let s = c .before .before .before .before .before .before .before .before .before in
+    let s = c .before .before .before .before .before .before .before .before in
     let a = s .args in
-    let l = c .before .before .before .before .before .before .before .loop in
-    let w = seen-within symFault symNumbered encodeSym (now (a .tape)) (l .p) (a .end) (symOf (part (now (a .tape)) (l .p) (a .end))) _ _ _ (l .inv .0) (s .pre .1) (sym-sound _) (sym (c .before .before .before .size .given .1) ∙ c .before .before .before .before .before .sym-seen .ensures) in
+    let l = c .before .before .before .before .before .before .loop in
+    let w = leaf-within symFault symNumbered encodeSym (now (a .tape)) (l .p) (a .end) (symOf (part (now (a .tape)) (l .p) (a .end))) _ _ (l .inv .0) (s .pre .1) (sym-sound _) (sym (c .before .before .size .given .1) ∙ c .before .before .before .before .sym-seen .ensures) in
     record { fits = omega arith }
 
 sub-left : tie.Need-sub-left Inv-loop μ-loop
@@ -61,17 +59,16 @@ loop-less c = search needs
 
 loop-again : tie.Need-loop-again Inv-loop μ-loop
 loop-again c =
-    let s = c .before .before .before .before .before .before .before .before .before in
+    let s = c .before .before .before .before .before .before .before .before in
     let a = s .args in
-    let l = c .before .before .before .before .before .before .before .loop in
-    let e = sym (c .before .before .before .size .given .1) ∙ c .before .before .before .before .before .sym-seen .ensures in (
-      seen-within symFault symNumbered encodeSym (now (a .tape)) (l .p) (a .end) (symOf (part (now (a .tape)) (l .p) (a .end))) _ _ _ (l .inv .0) (s .pre .1) (sym-sound _) e,
-      rw (c .before .first-of .ensures, c .either .ensures)
-          (sym (front-step (now (a .tape)) (l .p) (a .end) (l .fault) (l .numbered) (l .left) _ _ _ (c .before .before .before .before .before .before .loop-test .taken) e) ∙ l .inv .1),
+    let l = c .before .before .before .before .before .before .loop in
+    let e = sym (c .before .before .size .given .1) ∙ c .before .before .before .before .sym-seen .ensures in (
+      leaf-within symFault symNumbered encodeSym (now (a .tape)) (l .p) (a .end) (symOf (part (now (a .tape)) (l .p) (a .end))) _ _ (l .inv .0) (s .pre .1) (sym-sound _) e,
+      rw (c .either .ensures) (sym (front-step (now (a .tape)) (l .p) (a .end) (l .numbered) (l .left) _ _ (c .before .before .before .before .before .loop-test .taken) e) ∙ l .inv .1),
     )
 
 returns-2 : tie.Need-returns-2 Inv-loop μ-loop
-returns-2 c = let l = c .before .loop in front-end (l .p) (l .fault) (l .numbered) (l .left) _ (c .loop-test .left) ∙ l .inv .1
+returns-2 c = let l = c .before .loop in front-end (l .p) (l .numbered) (l .left) _ (c .loop-test .left) ∙ l .inv .1
 
 pub syms-seen-spec : {M : Type 1} → statement M
 syms-seen-spec =
@@ -84,7 +81,6 @@ syms-seen-spec =
     enum-known-size
     enum-told
     returns
-    first-of-requires
     either-requires
     add-p
     sub-left

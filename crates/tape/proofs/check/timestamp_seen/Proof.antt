@@ -5,10 +5,10 @@ use denote.Ref.{now}
 use mathlib.Core.Bool.{true, false}
 use Rattle.numbers.specs.Timestamp.{wellFormed}
 use Rattle.tape.specs.Bytes.{part}
-use Rattle.tape.specs.CheckSteps.{seenScalar}
+use Rattle.tape.specs.CheckSteps.{scalarLeaf}
 use Rattle.tape.proofs.Parts.{part-length}
 use Rattle.tape.proofs.CodeReading.{timestamp-short, timestamp-part}
-use Rattle.tape.proofs.CodeFacts.{seen-timestamp}
+use Rattle.tape.proofs.CodeFacts.{leaf-timestamp}
 use borrow.Author.Needs.{needs}
 use Rattle.tape.proofs.check.timestamp_seen.Statement.{statement}
 use Rattle.tape.proofs.check.timestamp_seen.Tie as tie
@@ -22,7 +22,7 @@ returns c =
     let a = s .args in
     let l = part (now (a .tape)) (a .at) (a .end) in
     let n = part-length (now (a .tape)) (a .at) (a .end) (s .pre .1) in
-    sym (ap seenScalar (timestamp-short l (omega arith)))
+    sym (ap scalarLeaf (timestamp-short l (omega arith)))
 
 timestamp-of-requires : tie.Need-timestamp-of-requires
 timestamp-of-requires c κs = search needs
@@ -36,7 +36,7 @@ returns-2 c =
     let a = s .args in
     let l = part (now (a .tape)) (a .at) (a .end) in
     let n = part-length (now (a .tape)) (a .at) (a .end) (s .pre .1) in
-    seen-timestamp l true (omega arith) (sym (c .if2 .taken) ∙ c .before .is-well-formed .ensures ∙ ap wellFormed (c .before .before .timestamp-of .ensures ∙ timestamp-part (now (a .tape)) (a .at) (a .end) (omega arith)))
+    leaf-timestamp l true (omega arith) (sym (c .if2 .taken) ∙ c .before .is-well-formed .ensures ∙ ap wellFormed (c .before .before .timestamp-of .ensures ∙ timestamp-part (now (a .tape)) (a .at) (a .end) (omega arith)))
 
 returns-3 : tie.Need-returns-3
 returns-3 c =
@@ -44,7 +44,7 @@ returns-3 c =
     let a = s .args in
     let l = part (now (a .tape)) (a .at) (a .end) in
     let n = part-length (now (a .tape)) (a .at) (a .end) (s .pre .1) in
-    seen-timestamp l false (omega arith) (sym (c .if2 .left) ∙ c .before .is-well-formed .ensures ∙ ap wellFormed (c .before .before .timestamp-of .ensures ∙ timestamp-part (now (a .tape)) (a .at) (a .end) (omega arith)))
+    leaf-timestamp l false (omega arith) (sym (c .if2 .left) ∙ c .before .is-well-formed .ensures ∙ ap wellFormed (c .before .before .timestamp-of .ensures ∙ timestamp-part (now (a .tape)) (a .at) (a .end) (omega arith)))
 
 pub timestamp-seen-spec : {M : Type 1} → statement M
 timestamp-seen-spec =

@@ -2,13 +2,17 @@
 use mathlib.Core.Path.{sym, ap, _∙_}
 use native.Mathlib.Omega.{arith}
 use denote.Ref.{now}
+use Prim.Native.Nat.{ℕ}
+use mathlib.Core.Option.{Option}
 use Rattle.tape.specs.Bytes.{part}
-use Rattle.tape.specs.Tape.{scalarOf}
+use Rattle.tape.specs.Tree.{Scalar}
+use Rattle.tape.specs.Tape.{scalarOf, openOf, free}
 use Rattle.tape.specs.Refusal.{numbered}
-use Rattle.tape.specs.CheckSteps.{met}
+use Rattle.tape.specs.CheckSteps.{scalarLeaf, leafMet, met, frameOf}
+use Rattle.tape.specs.declared.Frame.{Frame}
 use Rattle.tape.proofs.Parts.{part-length, part-first}
-use Rattle.tape.proofs.CodeReading.{value-empty, value-list, value-sexp, value-struct, value-marker, value-scalar}
-use Rattle.tape.proofs.CodeFacts.{leafOf, met-scalar}
+use Rattle.tape.proofs.CodeReading.{scalar-other, value-empty, value-marker, value-scalar}
+use Rattle.tape.proofs.CodeFacts.{met-scalar, value-open}
 use borrow.Author.Needs.{needs}
 use Rattle.tape.proofs.check.value_met.Statement.{statement}
 use Rattle.tape.proofs.check.value_met.Tie as tie
@@ -18,47 +22,56 @@ returns c =
     let s = c .before .before in
     let a = s .args in
     let l = part (now (a .tape)) (a .at) (a .end) in
-    let n = part-length (now (a .tape)) (a .at) (a .end) (s .pre .1) in
-    sym (ap met (value-empty (a .free) l (omega arith)))
+    let n = part-length (now (a .tape)) (a .at) (a .end) (s .pre .1 .1) in
+    let free-here = free (a .frame) (part (now (a .tape)) (a .from) (a .end)) in
+    sym (ap met (value-empty free-here l (omega arith)))
 
 shared-slice-read-k : tie.Need-shared-slice-read-k
 shared-slice-read-k c = search needs
 
-open-met-requires : tie.Need-open-met-requires
-open-met-requires c κs = search needs
+scalar-seen-requires : tie.Need-scalar-seen-requires
+scalar-seen-requires c κs = search needs
+
+leaf-met-requires : tie.Need-leaf-met-requires
+leaf-met-requires c κs = search needs
 
 returns-2 : tie.Need-returns-2
 returns-2 c =
-    let s = c .before .before .before .before .before in
-    let a = s .args in
-    let l = part (now (a .tape)) (a .at) (a .end) in
-    let n = part-length (now (a .tape)) (a .at) (a .end) (s .pre .1) in
-    let f = part-first (now (a .tape)) (a .at) (a .end) (omega arith) in
-    c .open-met .ensures ∙ sym (ap met (value-list (a .free) l (f ∙ c .before .if2 .taken)))
-
-open-met-requires-2 : tie.Need-open-met-requires-2
-open-met-requires-2 c κs = search needs
-
-returns-3 : tie.Need-returns-3
-returns-3 c =
     let s = c .before .before .before .before .before .before in
     let a = s .args in
     let l = part (now (a .tape)) (a .at) (a .end) in
-    let n = part-length (now (a .tape)) (a .at) (a .end) (s .pre .1) in
     let f = part-first (now (a .tape)) (a .at) (a .end) (omega arith) in
-    c .open-met2 .ensures ∙ sym (ap met (value-sexp (a .free) l (f ∙ c .before .if3 .taken)))
+    let free-here = free (a .frame) (part (now (a .tape)) (a .from) (a .end)) in
+    c .leaf-met .ensures ∙ ap leafMet (c .before .scalar-seen .ensures) ∙ met-scalar (scalarOf l) ∙ sym (ap met (value-scalar free-here l (λ e. omega arith) (λ e. omega arith) (λ e. omega arith) (λ e. omega arith)))
 
-open-met-requires-3 : tie.Need-open-met-requires-3
-open-met-requires-3 c κs = search needs
+frame-of-requires : tie.Need-frame-of-requires
+frame-of-requires c κs = search needs
 
-returns-4 : tie.Need-returns-4
-returns-4 c =
+open-met-requires : tie.Need-open-met-requires
+open-met-requires c κs = search needs
+
+returns-3 : tie.Need-returns-3
+returns-3 c =
     let s = c .before .before .before .before .before .before .before in
     let a = s .args in
     let l = part (now (a .tape)) (a .at) (a .end) in
-    let n = part-length (now (a .tape)) (a .at) (a .end) (s .pre .1) in
     let f = part-first (now (a .tape)) (a .at) (a .end) (omega arith) in
-    c .open-met3 .ensures ∙ sym (ap met (value-struct (a .free) l (f ∙ c .before .if4 .taken)))
+    let free-here = free (a .frame) (part (now (a .tape)) (a .from) (a .end)) in
+    c .open-met .ensures ∙ ap (λ (k : Frame). met (openOf k l)) (c .before .frame-of .ensures ∙ ap frameOf (sym f)) ∙ sym (ap met (value-open free-here l (omega arith) (omega arith)))
+
+returns-4 : tie.Need-returns-4
+returns-4 c =
+    let s = c .before .before .before .before .before .before in
+    let a = s .args in
+    let l = part (now (a .tape)) (a .at) (a .end) in
+    let f = part-first (now (a .tape)) (a .at) (a .end) (omega arith) in
+    let free-here = free (a .frame) (part (now (a .tape)) (a .from) (a .end)) in
+    ap (λ (o : Option (Scalar × ℕ)). leafMet (scalarLeaf o)) (sym (scalar-other l (omega arith) (λ e. omega arith) (λ e. omega arith)))
+    ∙ met-scalar (scalarOf l)
+    ∙ sym (ap met (value-scalar free-here l (λ e. omega arith) (λ e. omega arith) (λ e. omega arith) (λ e. c .if4 .taken (sym f ∙ e))))
+
+is-free-requires : tie.Need-is-free-requires
+is-free-requires c κs = search needs
 
 returns-5 : tie.Need-returns-5
 unfolding numbered
@@ -66,45 +79,18 @@ returns-5 c =
     let s = c .before .before .before .before .before .before .before .before in
     let a = s .args in
     let l = part (now (a .tape)) (a .at) (a .end) in
-    let n = part-length (now (a .tape)) (a .at) (a .end) (s .pre .1) in
     let f = part-first (now (a .tape)) (a .at) (a .end) (omega arith) in
-    sym (ap met (value-marker (a .free) l (f ∙ c .before .if5 .taken)) ∙ rw (c .if6 .taken))
+    let free-here = free (a .frame) (part (now (a .tape)) (a .from) (a .end)) in
+    sym (ap met (value-marker free-here l (f ∙ c .before .before .if4 .left)) ∙ rw (sym (c .before .is-free .ensures) ∙ c .if5 .taken))
 
 returns-6 : tie.Need-returns-6
 returns-6 c =
     let s = c .before .before .before .before .before .before .before .before in
     let a = s .args in
     let l = part (now (a .tape)) (a .at) (a .end) in
-    let n = part-length (now (a .tape)) (a .at) (a .end) (s .pre .1) in
     let f = part-first (now (a .tape)) (a .at) (a .end) (omega arith) in
-    sym (ap met (value-marker (a .free) l (f ∙ c .before .if5 .taken)) ∙ rw (c .if6 .left))
-
-scalar-seen-requires : tie.Need-scalar-seen-requires
-scalar-seen-requires c κs = search needs
-
-enum-known-n : tie.Need-enum-known-n
-enum-known-n c = search needs
-
-enum-told : tie.Need-enum-told
-enum-told c = search needs
-
-returns-7 : tie.Need-returns-7
-returns-7 c =
-    let s = c .before .before .before .before .before .before .before .before .before .before in
-    let a = s .args in
-    let l = part (now (a .tape)) (a .at) (a .end) in
-    let n = part-length (now (a .tape)) (a .at) (a .end) (s .pre .1) in
-    let f = part-first (now (a .tape)) (a .at) (a .end) (omega arith) in
-    ap leafOf (sym (c .enum-told .given .1) ∙ c .before .before .scalar-seen .ensures) ∙ met-scalar (scalarOf l) ∙ sym (ap met (value-scalar (a .free) l (λ e. c .before .before .before .before .before .before .if2 .left (sym f ∙ e)) (λ e. c .before .before .before .before .before .if3 .left (sym f ∙ e)) (λ e. c .before .before .before .before .if4 .left (sym f ∙ e)) (λ e. c .before .before .before .if5 .left (sym f ∙ e))))
-
-returns-8 : tie.Need-returns-8
-returns-8 c =
-    let s = c .before .before .before .before .before .before .before .before .before .before .before in
-    let a = s .args in
-    let l = part (now (a .tape)) (a .at) (a .end) in
-    let n = part-length (now (a .tape)) (a .at) (a .end) (s .pre .1) in
-    let f = part-first (now (a .tape)) (a .at) (a .end) (omega arith) in
-    ap leafOf (sym (c .before .n .given .1) ∙ c .before .before .before .scalar-seen .ensures) ∙ met-scalar (scalarOf l) ∙ sym (ap met (value-scalar (a .free) l (λ e. c .before .before .before .before .before .before .before .if2 .left (sym f ∙ e)) (λ e. c .before .before .before .before .before .before .if3 .left (sym f ∙ e)) (λ e. c .before .before .before .before .before .if4 .left (sym f ∙ e)) (λ e. c .before .before .before .before .if5 .left (sym f ∙ e))))
+    let free-here = free (a .frame) (part (now (a .tape)) (a .from) (a .end)) in
+    sym (ap met (value-marker free-here l (f ∙ c .before .before .if4 .left)) ∙ rw (sym (c .before .is-free .ensures) ∙ c .if5 .left))
 
 pub value-met-spec : {M : Type 1} → statement M
 value-met-spec =
@@ -112,16 +98,13 @@ value-met-spec =
     (tie.spec
     returns
     shared-slice-read-k
-    open-met-requires
-    returns-2
-    open-met-requires-2
-    returns-3
-    open-met-requires-3
-    returns-4
-    returns-5
-    returns-6
     scalar-seen-requires
-    enum-known-n
-    enum-told
-    returns-7
-    returns-8)
+    leaf-met-requires
+    returns-2
+    frame-of-requires
+    open-met-requires
+    returns-3
+    returns-4
+    is-free-requires
+    returns-5
+    returns-6)
