@@ -5,29 +5,66 @@ it does not send: all of the buffer that a call must leave alone or zero.
 
     rt staticlib ion_c && gcc -O2 -o target/driver tests/driver.c target/staticlib/libion_c.a
     ORACLE=path/to/oracle python3 tests/compare.py [TAPES [SEED]]
+    ORACLE=path/to/oracle python3 tests/compare.py --minutes 10 [--seed SEED]
 
-Prints the first difference in hex and exits 1, or what was compared.
+The first form compares one batch of so many tapes. The second goes on with batches until the time is over, each with the next seed, from
+SEED or a random one. Both start with the systematic tapes. DRIVER names another driver than target/driver.
+Prints what was compared; or the first difference, its tape or text in hex, both answers and the seed that makes it again, and exits 1.
 """
+import argparse
 import collections
+import os
 import random
 import struct
 import subprocess
 import sys
+import time
 
 import grammar
 import model
 from random_tapes import IDS, nested, stream, tree, value
 from tapes import ask, node, tape
 
-DRIVER = 'target/driver'
+DRIVER = os.environ.get('DRIVER', 'target/driver')
 READ, LINES, TREE = 16, 17, 18
+MODES = {0: 'Compact', 1: 'Lines', 2: 'Pretty', READ: 'reading', LINES: 'line calls', TREE: 'tree'}
 AMPLE = 1 << 16
+done = collections.Counter()
+
+
+class Difference(Exception):
+    """What is printed of a difference, a line each."""
+
+
+def differs(mode, room, given, due, found):
+    return Difference('%s, room %d' % (MODES.get(mode, 'layout %d' % mode), room), 'given    ' + given.hex(), 'expected ' + due, 'found    ' + found)
+
+
+def told(n, content):
+    """An answer and its bytes."""
+    return '%s %s' % (n if n >= 0 else 'refused %d' % -n, content.hex())
+
+
+def told_calls(calls):
+    return '; '.join('%s to %d' % (told(n, content), at) for n, at, content in calls)
+
+
+def run(frames):
+    """What the driver says to (mode, room, bytes) frames. It ends by itself where a buffer is not as it must be: then which frame it was."""
+    said = [bytes([m]) + struct.pack('<II', room, len(t)) + t for m, room, t in frames]
+    ran = subprocess.run([DRIVER], input=b''.join(said), stdout=subprocess.PIPE)
+    if ran.returncode:
+        for frame, alone in zip(frames, said):
+            code = subprocess.run([DRIVER], input=alone, stdout=subprocess.PIPE).returncode
+            if code:
+                raise differs(*frame, 'a buffer as document 01 has it', 'status %d of the driver (tests/driver.c)' % code)
+        raise Difference('status %d of the driver, which no frame gives by itself' % ran.returncode)
+    return ran.stdout
 
 
 def ours(frames):
     """The answers to (mode, room, bytes) frames, each with the bytes that count: up to the count, or all of the room behind -6."""
-    said = b''.join(bytes([m]) + struct.pack('<II', room, len(t)) + t for m, room, t in frames)
-    out = subprocess.run([DRIVER], input=said, stdout=subprocess.PIPE, check=True).stdout
+    out = run(frames)
     answers, at = [], 0
     for _, room, _ in frames:
         n = struct.unpack_from('<q', out, at)[0]
@@ -41,14 +78,12 @@ def ours(frames):
 def same(frames, expected):
     for (mode, room, t), due, own in zip(frames, expected, ours(frames)):
         if due != own:
-            print('mode', mode, 'room', room, 'given', t.hex(), 'expected', due, 'ours', own)
-            sys.exit(1)
+            raise differs(mode, room, t, told(*due), told(*own))
 
 
 def lines(frames):
     """The calls of ion_read_line over (room, text) frames, from a fresh offset to the end mark: lists of (answer, offset, bytes)."""
-    said = b''.join(bytes([LINES]) + struct.pack('<II', room, len(t)) + t for room, t in frames)
-    out = subprocess.run([DRIVER], input=said, stdout=subprocess.PIPE, check=True).stdout
+    out = run([(LINES, room, t) for room, t in frames])
     at = 0
     for _ in frames:
         calls, n = [], 1
@@ -84,8 +119,8 @@ def against_rust(r, lists, modes):
     same([(y, AMPLE, t) for y, t in pairs], [(len(s), s) for s in texts])
     cut = [(y, r.randrange(len(s)), t, s) for (y, t), s in zip(pairs, texts) if s]
     same([(y, room, t) for y, room, t, _ in cut], [(-6, s[:room]) for _, room, _, s in cut])
-    print('%d tapes, %s: no difference' % (len(lists), 'their tree texts' if modes == [TREE] else 'in each of three layouts'))
-    print('%d of the texts in a room cut short: no difference' % len(cut))
+    done['tapes against the Rust, ' + ('tree texts' if modes == [TREE] else 'three layouts each')] += len(lists)
+    done['texts in a room cut short'] += len(cut)
     return pairs, texts
 
 
@@ -94,7 +129,7 @@ def read_back(r, pairs, texts):
     same([(READ, AMPLE, s) for s in texts], [(len(t), t) for _, t in pairs])
     same([(READ, len(t), s) for (_, t), s in zip(pairs, texts)], [(len(t), t) for _, t in pairs])
     same([(READ, r.randrange(len(t)), s) for (_, t), s in zip(pairs, texts)], [(-9, b'')] * len(pairs))
-    print('%d texts read back: each gives its tape, or 9 where the room is short' % len(texts))
+    done['texts read back, and refused by 9 where the room is short'] += len(texts)
 
 
 def line_by_line(lists, pairs, texts):
@@ -108,9 +143,8 @@ def line_by_line(lists, pairs, texts):
             due.append((len(own), at, own))
         due.append((0, at, b''))
         if due != calls:
-            print('lines', text.hex(), 'expected', due, 'ours', calls)
-            sys.exit(1)
-    print('%d Lines texts read line by line: no difference' % len(written))
+            raise differs(LINES, AMPLE, text, told_calls(due), told_calls(calls))
+    done['Lines texts read line by line'] += len(written)
 
 
 def damaged_lines(r, pairs, texts):
@@ -126,10 +160,11 @@ def damaged_lines(r, pairs, texts):
     for (room, text), calls in zip(frames, lines(frames)):
         due = [(n or 0, at, buffer[:max(n or 0, 0)]) for n, at, buffer in grammar.book(text, b'\xa5' * room)]
         if due != calls:
-            print('damaged lines', text.hex(), 'room', room, 'expected', due, 'ours', calls)
-            sys.exit(1)
-        seen.update(min(n, 0) if n else 'end' for n, _, _ in calls)
-    print('%d damaged Lines texts read line by line, %d values, %d of refusal 8, %d of refusal 9: no difference' % (len(frames), seen[0], seen[-8], seen[-9]))
+            raise differs(LINES, room, text, told_calls(due), told_calls(calls))
+        seen.update(min(n, 0) for n, _, _ in calls if n)
+    done['damaged Lines texts read line by line'] += len(frames)
+    for n, calls in seen.items():
+        done['line calls of these with ' + ('refusal %d' % -n if n else 'a value')] += calls
 
 
 # Nodes that one refusal or another waits for.
@@ -180,21 +215,30 @@ def against_model(r, lists, modes):
         frames.append((y, r.choice([0, length // 2, max(length - 1, 0), length, length + 1, length + 100]), t))
     expected = [model.answer(modelled(y, t), b'\xa5' * room) for y, room, t in frames]
     same(frames, [(n, buffer[:len(buffer) if n == -6 else max(n, 0)]) for n, buffer in expected])
-    seen = collections.Counter(min(n, 0) for n, _ in expected)
-    told = ', '.join('%d of %s' % (seen[n], 'refusal %d' % -n if n else 'a text') for n in sorted(seen, reverse=True))
-    print('%d damaged tapes%s against the model, %s: no difference' % (len(frames), ' for the tree text' if modes == [TREE] else '', told))
+    for n, calls in collections.Counter(min(n, 0) for n, _ in expected).items():
+        done['damaged tapes%s against the model, %s' % (', tree text,' if modes == [TREE] else '', 'refusal %d' % -n if n else 'a text')] += calls
 
 
-def trees(r, count):
-    """Each kind as the one value, every symbol and string of a byte, decimals, depth 64, and random annotated ones; then tapes that the
-    tree text refuses: none or two nodes, markers, identifiers but 0."""
-    lists = [v for vs in special() for v in vs] + [tree(r) for _ in range(count)]
+def streams(r, lists):
+    """The streaming texts of the lists, read back as a whole, by lines, and damaged."""
+    pairs, texts = against_rust(r, lists, [0, 1, 2])
+    read_back(r, pairs, texts)
+    line_by_line(lists, pairs, texts)
+    damaged_lines(r, pairs, texts)
+
+
+def trees(r, lists):
+    """The tree texts of the lists, read back."""
     pairs, texts = against_rust(r, lists, [TREE])
     read_back(r, pairs, texts)
+
+
+def no_tree():
+    """Tapes that the tree text refuses: none or two nodes, markers, identifiers but 0."""
     refused = [[], [('marker',)], [('int', 1), ('int', 2)], [('id', 1)], [('notes', [('id', 4)], ('int', 1))]]
     refused += [[('list', [('struct', [(('id', 9), ('int', 1))])])], [('sexp', [('id', 2**32 - 1)])]]
     same([(TREE, AMPLE, tape(v)) for v in refused], [(-5, b'')] * len(refused))
-    against_model(r, [r.choice([tree, tree, stream])(r) for _ in range(4 * count)], [TREE])
+    done['tapes without a tree text'] += len(refused)
 
 
 def limits():
@@ -206,20 +250,50 @@ def limits():
     same([(1, room, kept), (1, 9, kept), (1, room, refused)], [(len(text), text), (-6, text[:9]), (-1, b'')])
     same([(TREE, room, kept), (TREE, 9, kept), (TREE, room, refused)], [(len(text) - 1, text[:-1]), (-6, text[:9]), (-1, b'')])
     same([(READ, room, text), (READ, room, b'"' + over + b'"')], [(len(kept), kept), (-9, b'')])
-    print('tapes at and past 1,048,576 bytes: no difference')
+    done['calls on tapes at and past 1,048,576 bytes'] += 8
+
+
+def systematic():
+    r = random.Random(0)
+    lists = [v for vs in special() for v in vs]
+    streams(r, lists)
+    trees(r, lists)
+    no_tree()
+    limits()
+
+
+def batch(seed, count):
+    r = random.Random(seed)
+    streams(r, [stream(r) for _ in range(count)])
+    against_model(r, [stream(r) for _ in range(4 * count)], [0, 1, 2, 0, 1, 2, 3, 15])
+    trees(r, [tree(r) for _ in range(count)])
+    against_model(r, [r.choice([tree, tree, stream])(r) for _ in range(4 * count)], [TREE])
 
 
 def main():
-    count = int(sys.argv[1]) if len(sys.argv) > 1 else 10000
-    r = random.Random(int(sys.argv[2]) if len(sys.argv) > 2 else 1)
-    lists = [v for vs in special() for v in vs] + [stream(r) for _ in range(count)]
-    pairs, texts = against_rust(r, lists, [0, 1, 2])
-    read_back(r, pairs, texts)
-    line_by_line(lists, pairs, texts)
-    damaged_lines(r, pairs, texts)
-    against_model(r, [stream(r) for _ in range(4 * count)], [0, 1, 2, 0, 1, 2, 3, 15])
-    trees(r, count)
-    limits()
+    said = argparse.ArgumentParser()
+    said.add_argument('tapes', nargs='?', type=int)
+    said.add_argument('once', nargs='?', type=int, metavar='seed')
+    said.add_argument('--minutes', type=float, default=0)
+    said.add_argument('--seed', type=int)
+    said = said.parse_args()
+    seed = next((s for s in (said.once, said.seed) if s is not None), random.SystemRandom().randrange(10**9) if said.minutes else 1)
+    tapes = said.tapes or (1000 if said.minutes else 10000)
+    end = time.monotonic() + 60 * said.minutes
+    batches = 0
+    try:
+        systematic()
+        while batches == 0 or time.monotonic() < end:
+            batch(seed + batches, tapes)
+            batches += 1
+            if said.minutes:
+                print('seed %d: no difference in %d batches, %d comparisons' % (seed + batches - 1, batches, sum(done.values())), flush=True)
+    except Difference as why:
+        print('FIRST DIFFERENCE', *why.args, 'again: python3 tests/compare.py %d %d' % (tapes, seed + batches), sep='\n')
+        sys.exit(1)
+    for what, n in done.items():
+        print('%9d %s' % (n, what))
+    print('no difference')
 
 
 if __name__ == '__main__':

@@ -1,0 +1,195 @@
+// Reading, compared with the list: each text gives its own tape or is refused, and each line of a Lines text gives the tape of its node.
+use listing::compare;
+use listing::report;
+use tape::answer::Answer;
+
+// One call, on a buffer that is 165 all over: the refusal, or 0 for the count of the tape; the tape at its start and `rest` behind it.
+fn read_into(
+    text: &[u8],
+    refusal: u8,
+    tape: &[u8],
+    rest: u8,
+    out: &mut [u8],
+    seen: &mut [usize; 8],
+) {
+    report::count(seen, report::READS);
+    let a = reader::read_text(text, out);
+    if compare::answers(a, refusal, tape.len()) {
+        if compare::holds(out, tape, rest) {
+            return;
+        }
+    }
+    report::difference(seen);
+    report::doing(b'r', out.len());
+    report::expected(refusal, tape.len(), tape);
+    report::found(a, out);
+}
+
+fn read_in(text: &[u8], refusal: u8, tape: &[u8], rest: u8, room: usize, seen: &mut [usize; 8]) {
+    let mut out = [165u8; 32768];
+    if 32768 < room {
+        report::malformed(seen);
+        return;
+    }
+    read_into(text, refusal, tape, rest, &mut out[0..room], seen);
+}
+
+// A text gives its tape, with room to spare and with just its room; one byte less is refusal 9, which leaves zeros.
+pub fn text(text: &[u8], tape: &[u8], seen: &mut [usize; 8]) {
+    let n = tape.len();
+    if n == 0 {
+        report::malformed(seen);
+        return;
+    }
+    if 32000 < n {
+        report::malformed(seen);
+        return;
+    }
+    read_in(text, 0, tape, 165, n + 9, seen);
+    read_in(text, 0, tape, 165, n, seen);
+    read_in(text, 9, b"", 0, n - 1, seen);
+}
+
+// A refusal leaves zeros, whatever the room.
+pub fn refusal(number: u8, text: &[u8], seen: &mut [usize; 8]) {
+    read_in(text, number, b"", 0, 0, seen);
+    read_in(text, number, b"", 0, 40, seen);
+    read_in(text, number, b"", 0, 9999, seen);
+}
+
+// Where the next call goes on, in the text and in the nodes; nowhere behind the end mark or a difference.
+enum Next {
+    Line(usize, usize),
+    Nothing,
+}
+
+// The offset behind the node that a call laid, or another tape than was due.
+enum Node {
+    Behind(usize),
+    Other,
+}
+
+// A line's tape: the node's bytes, then a trailer with their number and 1, then the buffer as it was.
+fn is_node(out: &[u8], node: &[u8]) -> bool {
+    let n = node.len();
+    if out.len() < n {
+        return false;
+    }
+    if out.len() - n < 8 {
+        return false;
+    }
+    if !compare::holds(&out[0..n], node, 0) {
+        return false;
+    }
+    if tape::u32_at(out, n) != n as u64 {
+        return false;
+    }
+    if tape::u32_at(out, n + 4) != 1 {
+        return false;
+    }
+    compare::holds(&out[n + 8..], b"", 165)
+}
+
+// The nodes go on at an offset with the node of the tape of `n` bytes that a call laid: the offset behind it.
+fn node_at(out: &[u8], n: usize, nodes: &[u8], at: usize) -> Node {
+    if n < 8 {
+        return Node::Other;
+    }
+    if nodes.len() < at {
+        return Node::Other;
+    }
+    let size = n - 8;
+    if nodes.len() - at < size {
+        return Node::Other;
+    }
+    if !is_node(out, &nodes[at..at + size]) {
+        return Node::Other;
+    }
+    Node::Behind(at + size)
+}
+
+fn line_differs(a: Answer, at: usize, nodes: &[u8], out: &[u8], seen: &mut [usize; 8]) -> Next {
+    report::difference(seen);
+    report::line_of(at, nodes);
+    report::found(a, out);
+    Next::Nothing
+}
+
+// What a call made of the line at an offset, and where it went on.
+fn judge(
+    a: Answer,
+    text: &[u8],
+    next: usize,
+    nodes: &[u8],
+    done: usize,
+    out: &[u8],
+    seen: &mut [usize; 8],
+) -> Next {
+    match a {
+        Answer::Count(n) => {
+            let Node::Behind(behind) = node_at(out, n, nodes, done) else {
+                return line_differs(a, next, nodes, out, seen);
+            };
+            Next::Line(next, behind)
+        }
+        Answer::End => {
+            if next != text.len() {
+                return line_differs(a, next, nodes, out, seen);
+            }
+            if done != nodes.len() {
+                return line_differs(a, next, nodes, out, seen);
+            }
+            Next::Nothing
+        }
+        _ => line_differs(a, next, nodes, out, seen),
+    }
+}
+
+fn line_into(
+    text: &[u8],
+    at: usize,
+    nodes: &[u8],
+    done: usize,
+    out: &mut [u8],
+    seen: &mut [usize; 8],
+) -> Next {
+    report::count(seen, report::READS);
+    let c = line_reader::call_at(text, at, out);
+    let a = c.answer;
+    judge(a, text, c.at, nodes, done, out, seen)
+}
+
+// One call, on a buffer that is 165 all over, with 9 bytes to spare for the whole tape.
+fn line(text: &[u8], at: usize, nodes: &[u8], done: usize, seen: &mut [usize; 8]) -> Next {
+    let mut out = [165u8; 16401];
+    let n = nodes.len();
+    if 16384 < n {
+        report::malformed(seen);
+        return Next::Nothing;
+    }
+    line_into(text, at, nodes, done, &mut out[0..n + 17], seen)
+}
+
+// The lines of a Lines text, one node of the tape each, through the end mark.
+pub fn lines(text: &[u8], tape: &[u8], seen: &mut [usize; 8]) {
+    if tape.len() < 8 {
+        report::malformed(seen);
+        return;
+    }
+    calls(text, &tape[0..tape.len() - 8], seen);
+}
+
+fn calls(text: &[u8], nodes: &[u8], seen: &mut [usize; 8]) {
+    let mut at: usize = 0;
+    let mut done: usize = 0;
+    let mut calls: usize = 0;
+    while calls <= text.len() {
+        let Next::Line(next, behind) = line(text, at, nodes, done, seen) else {
+            return;
+        };
+        at = next;
+        done = behind;
+        calls += 1;
+    }
+    report::malformed(seen);
+}

@@ -1,0 +1,4 @@
+// Replays tapes with the texts that the Rust gives for them, or the refusals of document 01. tests/vectors.py makes the list.
+fn main() {
+    replay::list();
+}
