@@ -1,12 +1,10 @@
 /* Times ion_write in a layout, or ion_write_tree, over tape files: thread processor time, best of many. Usage: bench LAYOUT|tree FILE.. */
-#include <stdint.h>
+#include "../bindings/c/ion.h"
+
 #include <stdio.h>
 #include <stdlib.h>
 #include <string.h>
 #include <time.h>
-
-int64_t ion_write(uint32_t layout, const uint8_t *tape, size_t tape_length, uint8_t *out, size_t out_length);
-int64_t ion_write_tree(const uint8_t *tape, size_t tape_length, uint8_t *out, size_t out_length);
 
 static double now(void) {
     struct timespec t;

@@ -1,12 +1,11 @@
 /* Times ion_read over a text file, and jansson's json_loadb over a JSON file: thread processor time, best of many.
    Usage: bench_read ion FILE.. | bench_read json FILE.. */
+#include "../bindings/c/ion.h"
+
 #include <jansson.h>
-#include <stdint.h>
 #include <stdio.h>
 #include <string.h>
 #include <time.h>
-
-int64_t ion_read(const uint8_t *text, size_t text_length, uint8_t *out, size_t out_length);
 
 static double now(void) {
     struct timespec t;

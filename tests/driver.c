@@ -3,16 +3,11 @@
    room's; behind each answer of a line, u64 offset first. The driver itself checks the rest of the buffer, which is 0xA5 before the first
    call, and ends with 2 to 8 where something is wrong: guard bytes beside the room, bytes past the count, a refusal's buffer (untouched by
    the writers but for -6, all zero by the readers), the input, and for lines what the end mark and an offset past the text leave. */
-#include <stdint.h>
+#include "../bindings/c/ion.h"
+
 #include <stdio.h>
 #include <stdlib.h>
 #include <string.h>
-
-int64_t ion_write(uint32_t layout, const uint8_t *tape, size_t tape_length, uint8_t *out, size_t out_length);
-int64_t ion_write_tree(const uint8_t *tape, size_t tape_length, uint8_t *out, size_t out_length);
-int64_t ion_read(const uint8_t *text, size_t text_length, uint8_t *out, size_t out_length);
-
-int64_t ion_read_line(const uint8_t *text, size_t text_length, uint64_t *at, uint8_t *out, size_t out_length);
 
 enum { READ = 16, LINES = 17, TREE = 18, GUARD = 8, OLD = 0xA5 };
 

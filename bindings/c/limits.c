@@ -1,0 +1,172 @@
+/* The calls at their limits, from C: every answer at least once, and every byte of the buffer and beside it. Prints what is wrong and ends
+   with 1, or prints how many calls were checked. bindings/rust/tests has many more. */
+#include "ion.h"
+
+#include <stdio.h>
+#include <stdlib.h>
+#include <string.h>
+
+enum { ROOM = 64, GUARD = 16, KEPT = -1 };
+
+static int checked, wrong;
+
+/* A buffer of n bytes between guards; each byte tells its place. */
+static uint8_t memory[GUARD + ROOM + GUARD];
+static uint8_t *const out = memory + GUARD;
+
+static uint8_t old(size_t i) { return (uint8_t)(0xA5 ^ i * 7); }
+
+static void refill(void) {
+    for (size_t i = 0; i < sizeof memory; i++) memory[i] = old(i);
+}
+
+/* After a call over n bytes: the answer, and a buffer that begins with `lead` and goes on as it was (KEPT) or in zeros (0). */
+static void check(const char *what, int64_t answer, int64_t due, size_t n, const char *lead, size_t lead_length, int rest) {
+    checked++;
+    if (answer != due) {
+        printf("%s: answered %lld, expected %lld\n", what, (long long)answer, (long long)due);
+        wrong++;
+    }
+    for (size_t i = 0; i < sizeof memory; i++) {
+        uint8_t byte = old(i);
+        if (i >= GUARD && i < GUARD + n) {
+            size_t k = i - GUARD;
+            if (k < lead_length) byte = (uint8_t)lead[k];
+            else if (rest != KEPT) byte = (uint8_t)rest;
+        }
+        if (memory[i] != byte) {
+            printf("%s: byte %d of the buffer is %d, expected %d\n", what, (int)i - GUARD, memory[i], byte);
+            wrong++;
+            break;
+        }
+    }
+    refill();
+}
+
+/* A call's tape or text: a literal without its closing 0. */
+#define BYTES(s) (const uint8_t *)(s), sizeof(s) - 1
+
+/* Tapes: no value; [true]; a::true; two bools where one is counted; 1.0; a broken bool. */
+#define EMPTY "\0\0\0\0\0\0\0\0"
+#define LIST "\12\2\0\0\0\1\1\7\0\0\0\1\0\0\0"
+#define NOTED "\15\1\6\1\0\0\0a\1\1\12\0\0\0\1\0\0\0"
+#define MISCOUNTED "\1\1\1\1\4\0\0\0\1\0\0\0"
+#define FLOAT "\3\0\0\0\0\0\0\360\77\11\0\0\0\1\0\0\0"
+#define BROKEN "\1\2\2\0\0\0\1\0\0\0"
+
+static void writers(void) {
+    check("empty tape, no buffer", ion_write(ION_LINES, BYTES(EMPTY), NULL, 0), 0, 0, "", 0, KEPT);
+    check("no tape", ion_write(ION_LINES, NULL, 0, out, ROOM), ION_MISFIT, ROOM, "", 0, KEPT);
+    check("7 bytes of tape", ion_write(ION_LINES, (const uint8_t *)EMPTY, 7, out, ROOM), ION_MISFIT, ROOM, "", 0, KEPT);
+    check("room to spare", ion_write(ION_LINES, BYTES(LIST), out, ROOM), 9, ROOM, "[true, ]\n", 9, KEPT);
+    check("exactly full", ion_write(ION_LINES, BYTES(LIST), out, 9), 9, 9, "[true, ]\n", 9, KEPT);
+    check("one byte short", ion_write(ION_LINES, BYTES(LIST), out, 8), ION_TEXT_TOO_LONG, 8, "[true, ]", 8, KEPT);
+    check("no buffer", ion_write(ION_LINES, BYTES(LIST), NULL, 0), ION_TEXT_TOO_LONG, 0, "", 0, KEPT);
+    check("Compact", ion_write(ION_COMPACT, BYTES(LIST), out, ROOM), 9, ROOM, "[true, ] ", 9, KEPT);
+    check("Pretty", ion_write(ION_PRETTY, BYTES(LIST), out, ROOM), 12, ROOM, "[\n  true,\n]\n", 12, KEPT);
+    check("layout 3", ion_write(3, BYTES(EMPTY), out, ROOM), ION_NO_LAYOUT, ROOM, "", 0, KEPT);
+    check("the last layout, no tape", ion_write(UINT32_MAX, NULL, 0, out, ROOM), ION_NO_LAYOUT, ROOM, "", 0, KEPT);
+    check("broken node", ion_write(ION_LINES, BYTES(BROKEN), out, ROOM), ION_BAD_NODE, ROOM, "", 0, KEPT);
+    check("wrong count", ion_write(ION_LINES, BYTES(MISCOUNTED), out, ROOM), ION_BAD_NODE, ROOM, "", 0, KEPT);
+    check("1.0", ion_write(ION_LINES, BYTES(FLOAT), out, ROOM), ION_FINITE_FLOAT, ROOM, "", 0, KEPT);
+    check("annotated", ion_write(ION_LINES, BYTES(NOTED), out, ROOM), ION_UNSUITED, ROOM, "", 0, KEPT);
+
+    check("tree: annotated", ion_write_tree(BYTES(NOTED), out, ROOM), 7, ROOM, "a::true", 7, KEPT);
+    check("tree: exactly full", ion_write_tree(BYTES(NOTED), out, 7), 7, 7, "a::true", 7, KEPT);
+    check("tree: one byte short", ion_write_tree(BYTES(NOTED), out, 6), ION_TEXT_TOO_LONG, 6, "a::tru", 6, KEPT);
+    check("tree: no buffer", ion_write_tree(BYTES(NOTED), NULL, 0), ION_TEXT_TOO_LONG, 0, "", 0, KEPT);
+    check("tree: no tape", ion_write_tree(NULL, 0, out, ROOM), ION_MISFIT, ROOM, "", 0, KEPT);
+    check("tree: no value", ion_write_tree(BYTES(EMPTY), out, ROOM), ION_UNSUITED, ROOM, "", 0, KEPT);
+}
+
+/* Lists within each other, and tapes of the greatest length and one more. */
+static void depth_and_length(void) {
+    for (size_t depth = 64; depth <= 65; depth++) {
+        uint8_t tape[5 * 65 + 8] = {0}, text[256];
+        size_t body = 5 * depth;
+        for (size_t i = 0; i < depth; i++) {
+            size_t inside = body - 5 * (i + 1);
+            tape[5 * i] = 10;
+            tape[5 * i + 1] = (uint8_t)inside;
+            tape[5 * i + 2] = (uint8_t)(inside >> 8);
+        }
+        tape[body] = (uint8_t)body;
+        tape[body + 1] = (uint8_t)(body >> 8);
+        tape[body + 4] = 1;
+        check("depth", ion_write_tree(tape, body + 8, text, sizeof text), depth == 64 ? 128 : ION_TOO_DEEP, 0, "", 0, KEPT);
+        memset(text, '[', depth);
+        memset(text + depth, ']', depth);
+        check("depth, read", ion_read(text, 2 * depth, tape, sizeof tape), depth == 64 ? 5 * 64 + 8 : ION_OUTSIDE_GRAMMAR, 0, "", 0, KEPT);
+    }
+    for (size_t length = ION_TAPE_MAX; length <= ION_TAPE_MAX + 1; length++) {
+        /* One clob that fills the tape: a kind, u32 length, bytes, the trailer. Its text is the bytes between {{" and "}} and a line feed. */
+        size_t bytes = length - 13, body = length - 8, text_length = bytes + 7;
+        uint8_t *tape = malloc(length), *text = malloc(text_length);
+        if (!tape || !text) exit(2);
+        memset(tape, 'c', length);
+        tape[0] = 9;
+        for (int i = 0; i < 4; i++) {
+            tape[1 + i] = (uint8_t)(bytes >> 8 * i);
+            tape[body + (size_t)i] = (uint8_t)(body >> 8 * i);
+            tape[body + 4 + (size_t)i] = i == 0;
+        }
+        int fits = length == ION_TAPE_MAX;
+        check("long tape", ion_write(ION_LINES, tape, length, text, text_length), fits ? (int64_t)text_length : ION_MISFIT, 0, "", 0, KEPT);
+        memset(text, 'c', text_length);
+        memcpy(text, "{{\"", 3);
+        memcpy(text + text_length - 4, "\"}}\n", 4);
+        check("long text", ion_read(text, text_length, tape, length), fits ? (int64_t)length : ION_TAPE_TOO_LONG, 0, "", 0, KEPT);
+        free(tape);
+        free(text);
+    }
+}
+
+static void readers(void) {
+    check("no text", ion_read(NULL, 0, out, ROOM), 8, ROOM, EMPTY, 8, KEPT);
+    check("no text, 8 bytes", ion_read(NULL, 0, out, 8), 8, 8, EMPTY, 8, KEPT);
+    check("no text, 7 bytes", ion_read(NULL, 0, out, 7), ION_TAPE_TOO_LONG, 7, "", 0, 0);
+    check("no text, no buffer", ion_read(NULL, 0, NULL, 0), ION_TAPE_TOO_LONG, 0, "", 0, KEPT);
+    check("read, room to spare", ion_read(BYTES("[true]"), out, ROOM), 15, ROOM, LIST, 15, KEPT);
+    check("read, exactly full", ion_read(BYTES("[true]"), out, 15), 15, 15, LIST, 15, KEPT);
+    check("read, one byte short", ion_read(BYTES("[true]"), out, 14), ION_TAPE_TOO_LONG, 14, "", 0, 0);
+    check("read, an open list", ion_read(BYTES("[true"), out, ROOM), ION_OUTSIDE_GRAMMAR, ROOM, "", 0, 0);
+    check("read, 8 before 9", ion_read(BYTES("[true"), NULL, 0), ION_OUTSIDE_GRAMMAR, 0, "", 0, KEPT);
+}
+
+static void check_line(const char *what, uint64_t from, uint64_t to, int64_t due, size_t n, const char *lead, size_t lead_length, int rest) {
+    static const uint8_t text[] = "[true]\n?\n\ntrue true\n[true]";
+    uint64_t at = from;
+    int64_t answer = ion_read_line(text, sizeof text - 1, &at, out, n);
+    check(what, answer, due, n, lead, lead_length, rest);
+    if (at != to) {
+        printf("%s: the offset is %llu, expected %llu\n", what, (unsigned long long)at, (unsigned long long)to);
+        wrong++;
+    }
+}
+
+static void line_reader(void) {
+    check_line("a line", 0, 7, 15, ROOM, LIST, 15, KEPT);
+    check_line("a line, exactly full", 0, 7, 15, 15, LIST, 15, KEPT);
+    check_line("a line, one byte short", 0, 7, ION_TAPE_TOO_LONG, 14, "", 0, 0);
+    check_line("a line, no buffer", 0, 7, ION_TAPE_TOO_LONG, 0, "", 0, KEPT);
+    check_line("outside the grammar", 7, 9, ION_OUTSIDE_GRAMMAR, ROOM, "", 0, 0);
+    check_line("an empty line", 9, 10, ION_OUTSIDE_GRAMMAR, ROOM, "", 0, 0);
+    check_line("two values", 10, 20, ION_OUTSIDE_GRAMMAR, ROOM, "", 0, 0);
+    check_line("no line feed", 20, 26, ION_OUTSIDE_GRAMMAR, ROOM, "", 0, 0);
+    check_line("the end mark", 26, 26, ION_END, ROOM, "", 0, KEPT);
+    check_line("past the text", 27, 27, ION_PAST_TEXT, ROOM, "", 0, KEPT);
+    check_line("far past the text", UINT64_MAX, UINT64_MAX, ION_PAST_TEXT, ROOM, "", 0, KEPT);
+    uint64_t at = 0;
+    check("no text, the end mark", ion_read_line(NULL, 0, &at, NULL, 0), ION_END, 0, "", 0, KEPT);
+}
+
+int main(void) {
+    refill();
+    writers();
+    depth_and_length();
+    readers();
+    line_reader();
+    if (wrong) printf("limits: %d wrong\n", wrong);
+    else printf("limits: %d calls as they must be\n", checked);
+    return wrong != 0;
+}

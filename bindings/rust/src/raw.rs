@@ -1,0 +1,33 @@
+//! The four functions of `libion_c.a` over slices: the one place with unsafe code.
+//!
+//! What the library asks of a caller (`bindings/c/ion.h`) is what slices have. A slice's bytes are there during the call, and its length is
+//! true. `out` and `at` are `&mut`, so they share no byte with anything, and nobody else writes the rest meanwhile. The library keeps no
+//! pointer and has no state, so any thread may call. The pointer of an empty slice dangles, and that is fine: each function is proved to
+//! follow a pointer only within its length, so this one is never followed.
+
+extern "C" {
+    fn ion_write(layout: u32, tape: *const u8, tape_length: usize, out: *mut u8, out_length: usize) -> i64;
+    fn ion_write_tree(tape: *const u8, tape_length: usize, out: *mut u8, out_length: usize) -> i64;
+    fn ion_read(text: *const u8, text_length: usize, out: *mut u8, out_length: usize) -> i64;
+    fn ion_read_line(text: *const u8, text_length: usize, at: *mut u64, out: *mut u8, out_length: usize) -> i64;
+}
+
+pub fn write(layout: u32, tape: &[u8], out: &mut [u8]) -> i64 {
+    // SAFETY: both slices are whole and apart, as said above; any layout may be asked for.
+    unsafe { ion_write(layout, tape.as_ptr(), tape.len(), out.as_mut_ptr(), out.len()) }
+}
+
+pub fn write_tree(tape: &[u8], out: &mut [u8]) -> i64 {
+    // SAFETY: both slices are whole and apart, as said above.
+    unsafe { ion_write_tree(tape.as_ptr(), tape.len(), out.as_mut_ptr(), out.len()) }
+}
+
+pub fn read(text: &[u8], out: &mut [u8]) -> i64 {
+    // SAFETY: both slices are whole and apart, as said above.
+    unsafe { ion_read(text.as_ptr(), text.len(), out.as_mut_ptr(), out.len()) }
+}
+
+pub fn read_line(text: &[u8], at: &mut u64, out: &mut [u8]) -> i64 {
+    // SAFETY: both slices and the offset are whole and apart, as said above; the offset may be any number.
+    unsafe { ion_read_line(text.as_ptr(), text.len(), at, out.as_mut_ptr(), out.len()) }
+}

@@ -1,0 +1,11 @@
+//! The calls from Rust: limits, refusals, document 01's examples, the round trip, damaged texts. What is expected is written out or built
+//! here from document 01, node by node; every check compares the answer and the whole buffer, with guard bytes around it.
+
+mod check;
+mod damage;
+mod examples;
+mod limits;
+mod random;
+mod refusals;
+mod round_trip;
+mod tapes;
