@@ -1,0 +1,94 @@
+// Sentences on standard error. The script `ion` tells the exit status by their start.
+use libc::STDERR_FILENO;
+
+fn say(s: &[u8]) {
+    io::write_all(STDERR_FILENO, s);
+}
+
+pub fn wrong_use(why: &[u8]) {
+    say(b"ion: wrong use: ");
+    say(why);
+    say(b"\n");
+    crate::words::help(STDERR_FILENO);
+}
+
+// What errno says of a file or of standard input.
+pub fn cannot_read(name: &[u8]) {
+    say(b"ion: cannot read ");
+    os::fail(name);
+}
+
+pub fn text_too_long() {
+    say(b"ion: the text is longer than 4,200,000 bytes, for which there is no room\n");
+}
+
+fn tape_reason(number: u8) {
+    match number {
+        1 => say(
+            b"the tape has under 8 or over 1,048,576 bytes, or its trailer does not tell its length",
+        ),
+        2 => say(
+            b"a node is outside the layout of tapes, or the number of top-level nodes is wrong",
+        ),
+        3 => say(b"a container is opened while 64 are open"),
+        4 => say(b"a float is finite and not zero"),
+        _ => say(
+            b"no such text: compact, lines and pretty take no annotations; tree takes one value, no version marker and no identifier but $0",
+        ),
+    }
+}
+
+fn text_reason(number: u8) {
+    match number {
+        6 => say(b"the text is longer than 4,200,000 bytes"),
+        7 => say(b"there is no such layout"),
+        8 => say(b"the text is outside the grammar (ion split shows it line by line)"),
+        9 => say(b"the tape is longer than 1,048,576 bytes"),
+        _ => say(b"the offset is past the text"),
+    }
+}
+
+// Behind a refusal's number, and where it came about, what it means.
+fn because(number: u8) {
+    say(b": ");
+    if number < 6 {
+        tape_reason(number);
+    } else {
+        text_reason(number);
+    }
+    say(b"\n");
+}
+
+// A refusal of document 01's table.
+pub fn refusal(number: u8) {
+    say(b"ion: refusal ");
+    io::print_decimal(STDERR_FILENO, number as u64);
+    because(number);
+}
+
+// A refusal whose cause stands at an offset.
+pub fn refusal_at(number: u8, offset: usize) {
+    say(b"ion: refusal ");
+    io::print_decimal(STDERR_FILENO, number as u64);
+    say(b" at offset ");
+    io::print_decimal(STDERR_FILENO, offset as u64);
+    because(number);
+}
+
+// How many lines of a text were refused.
+pub fn refused_lines(refused: usize, lines: usize) {
+    say(b"ion: ");
+    io::print_decimal(STDERR_FILENO, refused as u64);
+    say(b" of ");
+    io::print_decimal(STDERR_FILENO, lines as u64);
+    say(b" lines refused\n");
+}
+
+// Bytes to standard output: all of them, or a sentence and false.
+pub fn emit(bytes: &[u8]) -> bool {
+    let whole = io::write_all(libc::STDOUT_FILENO, bytes);
+    if !whole {
+        os::fail(b"ion: cannot write to standard output");
+    }
+    whole
+}
