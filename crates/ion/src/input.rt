@@ -4,90 +4,47 @@ ghost use lib.ListN.{length};
 use crate::say;
 use libc::STDIN_FILENO;
 
-// How an input ended: in the buffer, past it, or by a failing read, which was said.
-pub enum End {
-    Whole,
-    Longer,
-    Unreadable,
-}
-
+// How many bytes of the input the buffer has, and whether these are all. Where they are not, it was said why.
 pub struct Input {
-    pub end: End,
     pub count: usize,
+    pub whole: bool,
 }
 
-pub fn is_whole(i: Input) -> bool {
-    let e = i.end;
-    match e {
-        End::Whole => true,
-        _ => false,
-    }
-}
-
-pub fn is_longer(i: Input) -> bool {
-    let e = i.end;
-    match e {
-        End::Longer => true,
-        _ => false,
-    }
-}
-
-fn is_unreadable(i: Input) -> bool {
-    let e = i.end;
-    match e {
-        End::Unreadable => true,
-        _ => false,
-    }
-}
-
-// What stands behind a full buffer.
-fn rest(fd: i32) -> End {
+// Whether nothing stands behind a full buffer.
+fn is_at_end(fd: i32, name: &[u8], room: usize) -> bool {
     let mut more = [0u8; 1];
     let got = libc::read(fd, &mut more);
     if got < 0 {
-        return End::Unreadable;
+        say::cannot_read(name);
     }
-    if got == 0 {
-        return End::Whole;
+    if got > 0 {
+        say::too_long(room);
     }
-    End::Longer
+    got == 0
 }
 
 // Reads until the input ends or the buffer is full.
-fn fill(fd: i32, buf: &mut [u8]) -> Input
+fn fill(fd: i32, name: &[u8], buf: &mut [u8]) -> Input
     ensures { λ r. ⌜ r .count ≤ length (now (buf .exit)) ⌝ }
 {
-    let mut done: usize = 0;
-    while done < buf.len() {
-        let got = libc::read(fd, &mut buf[done..]);
+    let mut count: usize = 0;
+    while count < buf.len() {
+        let got = libc::read(fd, &mut buf[count..]);
         if got < 0 {
+            say::cannot_read(name);
             return Input {
-                end: End::Unreadable,
-                count: done,
+                count,
+                whole: false,
             };
         }
-        let n = io::count(got, &buf[done..]);
+        let n = io::count(got, &buf[count..]);
         if n == 0 {
-            return Input {
-                end: End::Whole,
-                count: done,
-            };
+            return Input { count, whole: true };
         }
-        done += n;
+        count += n;
     }
-    let end = rest(fd);
-    Input { end, count: done }
-}
-
-// Fills the buffer, and says so where the input cannot be read.
-fn fill_from(fd: i32, name: &[u8], buf: &mut [u8]) -> Input
-    ensures { λ r. ⌜ r .count ≤ length (now (buf .exit)) ⌝ }
-{
-    let i = fill(fd, buf);
-    if is_unreadable(i) {
-        say::cannot_read(name);
-    }
-    i
+    let whole = is_at_end(fd, name, buf.len());
+    Input { count, whole }
 }
 
 // Reads the input of a name into the buffer.
@@ -95,17 +52,17 @@ pub fn read(name: &[u8], buf: &mut [u8]) -> Input
     ensures { λ r. ⌜ r .count ≤ length (now (buf .exit)) ⌝ }
 {
     if check::same(name, b"-") {
-        return fill_from(STDIN_FILENO, b"standard input", buf);
+        return fill(STDIN_FILENO, b"standard input", buf);
     }
     let fd = os::open_read(name);
     if fd < 0 {
         say::cannot_read(name);
         return Input {
-            end: End::Unreadable,
             count: 0,
+            whole: false,
         };
     }
-    let i = fill_from(fd, name, buf);
+    let i = fill(fd, name, buf);
     libc::close(fd);
     i
 }

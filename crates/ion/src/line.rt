@@ -2,6 +2,11 @@
 ghost use Prim.Native.Nat.{_≤_};
 ghost use Rattle.output.specs.Wrote.{limit};
 
+// What a number that is no node's kind stands for.
+pub const NAME: u8 = 15;
+
+pub const ANNOTATION: u8 = 16;
+
 pub fn add(line: &mut [u8], pos: usize, s: &[u8]) -> usize
     requires { ⌜ pos ≤ limit ⌝ }
     ensures { λ r. ⌜ r ≤ limit ⌝ }
@@ -25,6 +30,11 @@ pub fn add_number(line: &mut [u8], pos: usize, n: usize) -> usize
     add(line, pos, &digits[..k])
 }
 
+// What is wanting to seven columns.
+fn wanting(n: usize) -> usize {
+    if n < 7 { 7 - n } else { 0 }
+}
+
 // A number at the right of seven columns, or of as many as it takes.
 pub fn add_column(line: &mut [u8], pos: usize, n: usize) -> usize
     requires { ⌜ pos ≤ limit ⌝ }
@@ -32,14 +42,11 @@ pub fn add_column(line: &mut [u8], pos: usize, n: usize) -> usize
 {
     let mut digits = [0u8; 20];
     let k = io::decimal(n as u64, &mut digits);
-    if k < 7 {
-        let p = add_blanks(line, pos, 7 - k);
-        return add(line, p, &digits[..k]);
-    }
-    add(line, pos, &digits[..k])
+    let p = add_blanks(line, pos, wanting(k));
+    add(line, p, &digits[..k])
 }
 
-fn add_small_kind(line: &mut [u8], pos: usize, kind: u8) -> usize
+fn add_scalar(line: &mut [u8], pos: usize, kind: u8) -> usize
     requires { ⌜ pos ≤ limit ⌝ }
     ensures { λ r. ⌜ r ≤ limit ⌝ }
 {
@@ -51,28 +58,30 @@ fn add_small_kind(line: &mut [u8], pos: usize, kind: u8) -> usize
         4 => add(line, pos, b"decimal"),
         5 => add(line, pos, b"timestamp"),
         6 => add(line, pos, b"symbol"),
-        _ => add(line, pos, b"identifier"),
+        7 => add(line, pos, b"identifier"),
+        8 => add(line, pos, b"string"),
+        _ => add(line, pos, b"clob"),
     }
 }
 
-// A node's kind by its number.
+// A node's kind.
 pub fn add_kind(line: &mut [u8], pos: usize, kind: u8) -> usize
     requires { ⌜ pos ≤ limit ⌝ }
     ensures { λ r. ⌜ r ≤ limit ⌝ }
 {
     match kind {
-        8 => add(line, pos, b"string"),
-        9 => add(line, pos, b"clob"),
         10 => add(line, pos, b"list"),
         11 => add(line, pos, b"sexp"),
         12 => add(line, pos, b"struct"),
         13 => add(line, pos, b"annotated"),
         14 => add(line, pos, b"marker"),
-        _ => add_small_kind(line, pos, kind),
+        NAME => add(line, pos, b"name"),
+        ANNOTATION => add(line, pos, b"annotation"),
+        _ => add_scalar(line, pos, kind),
     }
 }
 
-// The first bytes of a buffer to standard output.
+// The first n bytes of a buffer to standard output.
 pub fn emit(line: &[u8], n: usize) -> bool {
     if line.len() < n {
         return false;

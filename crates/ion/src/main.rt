@@ -13,7 +13,7 @@ ghost use mathlib.Core.Path.{_≡_};
 ghost use lib.ListN.{length};
 use words::Word;
 
-// Room for a text. A node's longest text, of a clob of escapes that fills a tape, and what stands before it on a line, fit too.
+// Room for a text. The line of a node that fills a tape fits too: at most four bytes for each of its own.
 fn text_buffer() -> [u8; 4200000]
     ensures { λ r. ⌜ 4200000 ≡ length r ⌝ }
 {
@@ -27,35 +27,26 @@ fn tape_buffer() -> [u8; 1048576]
     [0; 1048576]
 }
 
-// Obeys a word whose input is a tape, which `tape` has room for.
 fn on_tape(word: Word, name: &[u8], text: &mut [u8], tape: &mut [u8], spare: &mut [u8]) {
     let i = input::read(name, tape);
-    if input::is_longer(i) {
-        say::refusal(1);
-        return;
-    }
-    if input::is_whole(i) {
-        let n = i.count;
+    let n = i.count;
+    if i.whole {
         commands::with_tape(word, &tape[0..n], text, spare);
     }
 }
 
-// Obeys a word whose input is a text, which `text` has room for.
 fn on_text(word: Word, name: &[u8], text: &mut [u8], tape: &mut [u8], spare: &mut [u8]) {
     let i = input::read(name, text);
-    if input::is_longer(i) {
-        say::text_too_long();
-        return;
-    }
-    if input::is_whole(i) {
-        let n = i.count;
+    let n = i.count;
+    if i.whole {
         commands::with_text(word, &text[0..n], tape, spare);
     }
 }
 
+// Does what the word says, with the input of a name.
 fn obey(word: Word, name: &[u8], text: &mut [u8], tape: &mut [u8], spare: &mut [u8]) {
     match word {
-        Word::Unknown => say::wrong_use(b"no word of this name"),
+        Word::Unknown => say::wrong_use(b"no such word"),
         Word::Help => words::help(libc::STDOUT_FILENO),
         Word::Read => on_text(word, name, text, tape, spare),
         Word::Split => on_text(word, name, text, tape, spare),
@@ -63,19 +54,14 @@ fn obey(word: Word, name: &[u8], text: &mut [u8], tape: &mut [u8], spare: &mut [
     }
 }
 
-// The program's word, `-` or the file's name, and the buffers.
 fn run(text: &mut [u8], tape: &mut [u8], spare: &mut [u8]) {
     let count = os::arg_count();
-    if count < 2 {
-        say::wrong_use(b"a word is missing");
-        return;
-    }
     if 3 < count {
         say::wrong_use(b"more than a word and a file");
         return;
     }
     let word = words::first();
-    if count == 2 {
+    if count < 3 {
         obey(word, b"-", text, tape, spare);
         return;
     }

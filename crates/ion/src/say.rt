@@ -1,8 +1,13 @@
-// Sentences on standard error. The script `ion` tells the exit status by their start.
+// Sentences on standard error. The script `ion` tells the exit status by how they start.
 use libc::STDERR_FILENO;
 
 fn say(s: &[u8]) {
     io::write_all(STDERR_FILENO, s);
+}
+
+fn say_number(s: &[u8], n: u64) {
+    say(s);
+    io::print_decimal(STDERR_FILENO, n);
 }
 
 pub fn wrong_use(why: &[u8]) {
@@ -18,37 +23,37 @@ pub fn cannot_read(name: &[u8]) {
     os::fail(name);
 }
 
-pub fn text_too_long() {
-    say(b"ion: the text is longer than 4,200,000 bytes, for which there is no room\n");
+pub fn too_long(room: usize) {
+    say_number(b"ion: the input is longer than ", room as u64);
+    say(b" bytes, for which there is room\n");
 }
 
 fn tape_reason(number: u8) {
     match number {
         1 => say(
-            b"the tape has under 8 or over 1,048,576 bytes, or its trailer does not tell its length",
+            b"the tape has under 8 or over 1,048,576 bytes, or its trailer does not tell its length\n",
         ),
         2 => say(
-            b"a node is outside the layout of tapes, or the number of top-level nodes is wrong",
+            b"a node is outside the layout of tapes, or the number of top-level nodes is wrong\n",
         ),
-        3 => say(b"a container is opened while 64 are open"),
-        4 => say(b"a float is finite and not zero"),
+        3 => say(b"a container is opened while 64 are open\n"),
+        4 => say(b"a float is finite and not zero\n"),
         _ => say(
-            b"no such text: compact, lines and pretty take no annotations; tree takes one value, no version marker and no identifier but $0",
+            b"compact, lines and pretty take no annotations; tree takes one value, no marker and no identifier but $0\n",
         ),
     }
 }
 
 fn text_reason(number: u8) {
     match number {
-        6 => say(b"the text is longer than 4,200,000 bytes"),
-        7 => say(b"there is no such layout"),
-        8 => say(b"the text is outside the grammar (ion split shows it line by line)"),
-        9 => say(b"the tape is longer than 1,048,576 bytes"),
-        _ => say(b"the offset is past the text"),
+        6 => say(b"the text is longer than 4,200,000 bytes\n"),
+        7 => say(b"there is no such layout\n"),
+        8 => say(b"the text is outside the grammar (split shows it line by line)\n"),
+        9 => say(b"the tape is longer than 1,048,576 bytes\n"),
+        _ => say(b"the offset is past the text\n"),
     }
 }
 
-// Behind a refusal's number, and where it came about, what it means.
 fn because(number: u8) {
     say(b": ");
     if number < 6 {
@@ -56,32 +61,26 @@ fn because(number: u8) {
     } else {
         text_reason(number);
     }
-    say(b"\n");
 }
 
 // A refusal of document 01's table.
 pub fn refusal(number: u8) {
-    say(b"ion: refusal ");
-    io::print_decimal(STDERR_FILENO, number as u64);
+    say_number(b"ion: refusal ", number as u64);
     because(number);
 }
 
 // A refusal whose cause stands at an offset.
 pub fn refusal_at(number: u8, offset: usize) {
-    say(b"ion: refusal ");
-    io::print_decimal(STDERR_FILENO, number as u64);
-    say(b" at offset ");
-    io::print_decimal(STDERR_FILENO, offset as u64);
+    say_number(b"ion: refusal ", number as u64);
+    say_number(b" at offset ", offset as u64);
     because(number);
 }
 
 // How many lines of a text were refused.
 pub fn refused_lines(refused: usize, lines: usize) {
-    say(b"ion: ");
-    io::print_decimal(STDERR_FILENO, refused as u64);
-    say(b" of ");
-    io::print_decimal(STDERR_FILENO, lines as u64);
-    say(b" lines refused\n");
+    say_number(b"ion: refused lines: ", refused as u64);
+    say_number(b" of ", lines as u64);
+    say(b"\n");
 }
 
 // Bytes to standard output: all of them, or a sentence and false.

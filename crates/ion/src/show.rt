@@ -1,5 +1,5 @@
-// The nodes of a tape, one a line: offset, blanks for the depth, kind and value. The same walk in silence finds the offset of the first node
-// that is not as it must be. A node's text, and whether it is good, is asked of the writer, on a tape of that node alone.
+// The nodes of a tape, one a line: offset, blanks for the depth, kind and value. The same walk in silence finds the first node that is not as
+// it must be. A node's text, and whether it is good, is asked of the writer, on a tape of that node alone.
 ghost use Prim.Native.Nat.{_+_, _<_, _≤_};
 ghost use lib.ListN.{length};
 ghost use Rattle.output.specs.Wrote.{limit};
@@ -9,27 +9,9 @@ use tape::Frame;
 use tape::Place;
 use tape::answer::Answer;
 
-// Where a walk ended: behind the last node; at the offset of one that is not as it must be; because standard output took no more.
-pub enum Walk {
-    Whole,
-    Fault(usize),
-    Unwritten,
-}
-
-pub fn is_whole(w: Walk) -> bool {
-    match w {
-        Walk::Whole => true,
-        _ => false,
-    }
-}
-
-fn written(whole: bool) -> Walk {
-    if whole { Walk::Whole } else { Walk::Unwritten }
-}
-
 // ---- places
 
-// Where a child's value starts, behind its head, and where it ends. There is no child where both are the same.
+// Where a child's value starts, behind its head, and where it ends. Both are the same where there is no child.
 struct Span {
     value: usize,
     next: usize,
@@ -58,25 +40,29 @@ fn span_at(tape: &[u8], at: usize, end: usize, frame: Frame) -> Span
     }
 }
 
-// Where the symbol at a place ends; the end of all where there is none.
-fn symbol_end(tape: &[u8], at: usize, end: usize) -> usize
-    requires { ⌜ at < end ⌝ }
+// Where the name at a place ends, which is there if it has none; the end of all where it is not as it must be.
+fn name_end(tape: &[u8], at: usize, end: usize, frame: Frame) -> usize
+    requires { ⌜ at ≤ end ⌝ }
     requires { ⌜ end ≤ length (now tape) ⌝ }
-    ensures { λ r. ⌜ (at < r) × (r ≤ end) ⌝ }
+    ensures { λ r. ⌜ (at ≤ r) × (r ≤ end) ⌝ }
 {
-    let p = tape::name_end(tape, at, end, Frame::Struct);
-    match p {
-        Place::Bad => end,
-        Place::At(q) => {
-            if q <= at {
-                return end;
-            }
-            if end < q {
-                return end;
-            }
-            q
-        }
+    let Place::At(q) = tape::name_end(tape, at, end, frame) else {
+        return end;
+    };
+    if q < at {
+        return end;
     }
+    if end < q {
+        return end;
+    }
+    q
+}
+
+fn is_container(kind: u8) -> bool {
+    if kind < 10 {
+        return false;
+    }
+    kind <= 12
 }
 
 fn frame_of(kind: u8) -> Frame {
@@ -88,27 +74,9 @@ fn frame_of(kind: u8) -> Frame {
     }
 }
 
-fn is_container(kind: u8) -> bool {
-    if kind < 10 {
-        return false;
-    }
-    kind <= 12
-}
-
-fn wide(x: u8) -> usize {
-    x as usize
-}
-
-fn is_struct(frame: Frame) -> bool {
-    match frame {
-        Frame::Struct => true,
-        _ => false,
-    }
-}
-
 // ---- lines
 
-// What every line starts with.
+// What every line starts with. `level` containers are open.
 fn start(text: &mut [u8], offset: usize, level: usize) -> usize
     requires { ⌜ level ≤ 64 ⌝ }
     ensures { λ r. ⌜ r ≤ limit ⌝ }
@@ -117,19 +85,11 @@ fn start(text: &mut [u8], offset: usize, level: usize) -> usize
     line::add_blanks(text, p, 2 + 2 * level)
 }
 
-// What stands at a place: 15 and 16 are a name and an annotation, other numbers a value's kind.
-fn add_role(text: &mut [u8], pos: usize, role: u8) -> usize
+fn add_u32(spare: &mut [u8], pos: usize, n: usize) -> usize
     requires { ⌜ pos ≤ limit ⌝ }
     ensures { λ r. ⌜ r ≤ limit ⌝ }
 {
-    match role {
-        15 => line::add(text, pos, b"name "),
-        16 => line::add(text, pos, b"annotation "),
-        _ => {
-            let p = line::add_kind(text, pos, role);
-            line::add(text, p, b" ")
-        }
-    }
+    output::put_le(spare, pos, n as u64, 4)
 }
 
 // The node between two places as a tape of its own; that tape's length.
@@ -142,11 +102,19 @@ fn alone(tape: &[u8], from: usize, to: usize, spare: &mut [u8]) -> usize
     add_u32(spare, q, 1)
 }
 
-fn add_u32(spare: &mut [u8], pos: usize, n: usize) -> usize
-    requires { ⌜ pos ≤ limit ⌝ }
-    ensures { λ r. ⌜ r ≤ limit ⌝ }
-{
-    output::put_le(spare, pos, n as u64, 4)
+// Behind a position, the Lines text of a tape of one node, which ends in LF. Says whether the node is good and, aloud, the line is out.
+fn node_text(tape: &[u8], aloud: bool, text: &mut [u8], pos: usize) -> bool {
+    if text.len() < pos {
+        return false;
+    }
+    let a = writer::writer::write_stream(1, tape, &mut text[pos..]);
+    let Answer::Count(n) = a else {
+        return false;
+    };
+    if aloud {
+        return line::emit(text, output::ahead(pos, n));
+    }
+    true
 }
 
 // The line of a node without a body, between two places.
@@ -155,81 +123,40 @@ fn leaf(
     from: usize,
     to: usize,
     level: usize,
-    role: u8,
+    kind: u8,
     aloud: bool,
     text: &mut [u8],
     spare: &mut [u8],
-) -> Walk
+) -> bool
     requires { ⌜ from ≤ to ⌝ }
     requires { ⌜ to ≤ length (now tape) ⌝ }
     requires { ⌜ level ≤ 64 ⌝ }
 {
     let n = alone(tape, from, to, spare);
     let p = start(text, from, level);
-    let q = add_role(text, p, role);
-    if spare.len() < n {
-        return Walk::Fault(from);
-    }
-    if text.len() < q {
-        return Walk::Fault(from);
-    }
-    // the Lines text ends in LF
-    let a = writer::writer::write_stream(1, &spare[0..n], &mut text[q..]);
-    match a {
-        Answer::Count(m) => {
-            if !aloud {
-                return Walk::Whole;
-            }
-            written(line::emit(text, output::ahead(q, m)))
-        }
-        _ => Walk::Fault(from),
-    }
-}
-
-// The line of a container of n bytes, before its nodes.
-fn opened(offset: usize, n: usize, level: usize, kind: u8, aloud: bool, text: &mut [u8]) -> Walk
-    requires { ⌜ level ≤ 64 ⌝ }
-{
-    if !aloud {
-        return Walk::Whole;
-    }
-    let p = start(text, offset, level);
     let q = line::add_kind(text, p, kind);
-    let r = line::add(text, q, b" of ");
-    let s = line::add_number(text, r, n);
-    let t = line::add(text, s, b" bytes\n");
-    written(line::emit(text, t))
+    let r = line::add(text, q, b" ");
+    if spare.len() < n {
+        return false;
+    }
+    node_text(&spare[0..n], aloud, text, r)
 }
 
-// The line before n annotations.
-fn noted(offset: usize, n: usize, level: usize, aloud: bool, text: &mut [u8]) -> Walk
+// The line before or behind the nodes of a container.
+fn bracket(offset: usize, level: usize, what: &[u8], kind: u8, aloud: bool, text: &mut [u8]) -> bool
     requires { ⌜ level ≤ 64 ⌝ }
 {
     if !aloud {
-        return Walk::Whole;
+        return true;
     }
     let p = start(text, offset, level);
-    let q = line::add(text, p, b"annotated by ");
-    let r = line::add_number(text, q, n);
-    let s = line::add(text, r, b"\n");
-    written(line::emit(text, s))
-}
-
-// The line behind a container's last node.
-fn closed(offset: usize, level: usize, kind: u8, aloud: bool, text: &mut [u8]) -> Walk
-    requires { ⌜ level ≤ 64 ⌝ }
-{
-    if !aloud {
-        return Walk::Whole;
-    }
-    let p = start(text, offset, level);
-    let q = line::add(text, p, b"end of ");
+    let q = line::add(text, p, what);
     let r = line::add_kind(text, q, kind);
     let s = line::add(text, r, b"\n");
-    written(line::emit(text, s))
+    line::emit(text, s)
 }
 
-// ---- what stands before a value
+// ---- nodes. Each function answers where it stopped: behind the last node, or where the first one stands that is not as it must be.
 
 // The annotations between two places.
 fn annotations(
@@ -240,24 +167,26 @@ fn annotations(
     aloud: bool,
     text: &mut [u8],
     spare: &mut [u8],
-) -> Walk
+) -> usize
     requires { ⌜ to ≤ length (now tape) ⌝ }
     requires { ⌜ level ≤ 64 ⌝ }
 {
     let mut at = from;
     while at < to {
-        let next = symbol_end(tape, at, to);
-        let w = leaf(tape, at, next, level, 16, aloud, text, spare);
-        if !is_whole(w) {
-            return w;
+        let next = name_end(tape, at, to, Frame::Struct);
+        if next == at {
+            return at;
+        }
+        if !leaf(tape, at, next, level, line::ANNOTATION, aloud, text, spare) {
+            return at;
         }
         at = next;
     }
-    Walk::Whole
+    to
 }
 
-// The kind byte of annotations, their number, and they themselves, between two places, or nothing.
-fn annotated(
+// The name between two places, if there is one.
+fn name(
     tape: &[u8],
     from: usize,
     to: usize,
@@ -265,22 +194,18 @@ fn annotated(
     aloud: bool,
     text: &mut [u8],
     spare: &mut [u8],
-) -> Walk
+) -> bool
     requires { ⌜ from ≤ to ⌝ }
     requires { ⌜ to ≤ length (now tape) ⌝ }
     requires { ⌜ level ≤ 64 ⌝ }
 {
-    if to - from < 2 {
-        return Walk::Whole;
+    if from == to {
+        return true;
     }
-    let w = noted(from, wide(tape[from + 1]), level, aloud, text);
-    if !is_whole(w) {
-        return w;
-    }
-    annotations(tape, from + 2, to, level, aloud, text, spare)
+    leaf(tape, from, to, level, line::NAME, aloud, text, spare)
 }
 
-// The name and the annotations between two places.
+// The name and, behind a kind byte and their number, the annotations between two places.
 fn head(
     tape: &[u8],
     from: usize,
@@ -290,28 +215,22 @@ fn head(
     aloud: bool,
     text: &mut [u8],
     spare: &mut [u8],
-) -> Walk
+) -> usize
     requires { ⌜ from ≤ to ⌝ }
     requires { ⌜ to ≤ length (now tape) ⌝ }
     requires { ⌜ level ≤ 64 ⌝ }
 {
-    if from == to {
-        return Walk::Whole;
+    let next = name_end(tape, from, to, frame);
+    if !name(tape, from, next, level, aloud, text, spare) {
+        return from;
     }
-    if !is_struct(frame) {
-        return annotated(tape, from, to, level, aloud, text, spare);
+    if to - next < 2 {
+        return to;
     }
-    let next = symbol_end(tape, from, to);
-    let w = leaf(tape, from, next, level, 15, aloud, text, spare);
-    if !is_whole(w) {
-        return w;
-    }
-    annotated(tape, next, to, level, aloud, text, spare)
+    annotations(tape, next + 2, to, level, aloud, text, spare)
 }
 
-// ---- values
-
-// The value between two places, in which its body's nodes stand if it is a container. `level` containers are open around it.
+// The value between two places. `level` containers are open around it.
 fn value_between(
     tape: &[u8],
     from: usize,
@@ -320,26 +239,28 @@ fn value_between(
     aloud: bool,
     text: &mut [u8],
     spare: &mut [u8],
-) -> Walk
+) -> usize
     requires { ⌜ from < to ⌝ }
     requires { ⌜ to ≤ length (now tape) ⌝ }
     requires { ⌜ level ≤ 64 ⌝ }
 {
     let kind = tape[from];
     if !is_container(kind) {
-        return leaf(tape, from, to, level, kind, aloud, text, spare);
+        if leaf(tape, from, to, level, kind, aloud, text, spare) {
+            return to;
+        }
+        return from;
     }
     if level == 64 {
-        return Walk::Fault(from);
+        return from;
     }
     if to - from < 5 {
-        return Walk::Fault(from);
+        return from;
     }
-    let o = opened(from, to - from - 5, level, kind, aloud, text);
-    if !is_whole(o) {
-        return o;
+    if !bracket(from, level, b"", kind, aloud, text) {
+        return from;
     }
-    let w = nodes(
+    let stopped = nodes(
         tape,
         from + 5,
         to,
@@ -349,10 +270,13 @@ fn value_between(
         text,
         spare,
     );
-    if !is_whole(w) {
-        return w;
+    if stopped != to {
+        return stopped;
     }
-    closed(to, level, kind, aloud, text)
+    if bracket(to, level, b"end of ", kind, aloud, text) {
+        return to;
+    }
+    from
 }
 
 // The nodes of a body, in which `level` containers are open.
@@ -365,7 +289,7 @@ pub fn nodes(
     aloud: bool,
     text: &mut [u8],
     spare: &mut [u8],
-) -> Walk
+) -> usize
     requires { ⌜ end ≤ length (now tape) ⌝ }
     requires { ⌜ level ≤ 64 ⌝ }
 {
@@ -375,17 +299,17 @@ pub fn nodes(
         let value = s.value;
         let next = s.next;
         if next == value {
-            return Walk::Fault(at);
+            return at;
         }
         let h = head(tape, at, value, frame, level, aloud, text, spare);
-        if !is_whole(h) {
+        if h != value {
             return h;
         }
-        let w = value_between(tape, value, next, level, aloud, text, spare);
-        if !is_whole(w) {
-            return w;
+        let v = value_between(tape, value, next, level, aloud, text, spare);
+        if v != next {
+            return v;
         }
         at = next;
     }
-    Walk::Whole
+    end
 }

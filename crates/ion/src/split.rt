@@ -1,18 +1,11 @@
 // A text line by line: what each line is, or which refusal it got, so that a damaged list can be looked at.
-ghost use mathlib.Core.Path.{_≡_};
 ghost use Prim.Native.Nat.{_+_, _<_, _≤_};
 ghost use lib.ListN.{length};
 ghost use Rattle.output.specs.Wrote.{limit};
 use crate::line;
 use crate::say;
+use line_reader::Called;
 use tape::answer::Answer;
-
-// What a line led to: the next offset, whether it was refused, and whether standard output took it.
-struct Outcome {
-    next: usize,
-    refused: bool,
-    written: bool,
-}
 
 // The number, the offset and the length of a line.
 fn start(spare: &mut [u8], number: usize, offset: usize, n: usize) -> usize
@@ -26,60 +19,31 @@ fn start(spare: &mut [u8], number: usize, offset: usize, n: usize) -> usize
     line::add(spare, t, b"  ")
 }
 
-// The text of the one value of a tape at the buffer's start: its tree text, or else its Lines text without LF. 0 where it has neither, or
-// none that fits.
-fn value_text(tape: &[u8], out: &mut [u8]) -> usize {
-    let a = tree::write_tree(tape, out);
-    match a {
-        Answer::Count(n) => n,
-        _ => lines_text(tape, out),
+// Behind a position, the tree text of a tape, or the line itself where it has none. Says whether it is out.
+fn value_out(tape: &[u8], own: &[u8], spare: &mut [u8], pos: usize) -> bool {
+    if spare.len() < pos {
+        return false;
     }
-}
-
-fn lines_text(tape: &[u8], out: &mut [u8]) -> usize {
-    let a = writer::writer::write_stream(1, tape, out);
-    match a {
-        Answer::Count(n) => {
-            if n == 0 {
-                return 0;
-            }
-            n - 1
+    let a = tree::write_tree(tape, &mut spare[pos..]);
+    let Answer::Count(n) = a else {
+        if line::emit(spare, pos) {
+            return say::emit(own);
         }
-        _ => 0,
-    }
+        return false;
+    };
+    let e = line::add(spare, output::ahead(pos, n), b"\n");
+    line::emit(spare, e)
 }
 
-// A line that is a value, whose tape was read: its kind, and its text or, where it has none, the line as it is.
-fn value_line(bytes: &[u8], tape: &[u8], number: usize, offset: usize, spare: &mut [u8]) -> bool {
+// A line that is a value, whose tape was read: its kind and its text.
+fn value_line(own: &[u8], tape: &[u8], number: usize, offset: usize, spare: &mut [u8]) -> bool {
     if tape.len() == 0 {
         return false;
     }
-    let p = start(spare, number, offset, bytes.len());
+    let p = start(spare, number, offset, own.len());
     let q = line::add_kind(spare, p, tape[0]);
     let r = line::add(spare, q, b" ");
-    if spare.len() < r {
-        return false;
-    }
-    let n = value_text(tape, &mut spare[r..]);
-    if n == 0 {
-        if !line::emit(spare, r) {
-            return false;
-        }
-        return say::emit(bytes);
-    }
-    let e = line::add(spare, output::ahead(r, n), b"\n");
-    line::emit(spare, e)
-}
-
-// A line that was refused: the number, and its bytes as a clob's text has them, at most a thousand.
-fn refused_line(bytes: &[u8], refusal: u8, number: usize, offset: usize, spare: &mut [u8]) -> bool {
-    let p = start(spare, number, offset, bytes.len());
-    let q = line::add(spare, p, b"refusal ");
-    let r = line::add_number(spare, q, refusal as usize);
-    let s = line::add(spare, r, b" ");
-    let t = add_bytes(spare, s, bytes);
-    let e = line::add(spare, t, b"\n");
-    line::emit(spare, e)
+    value_out(tape, own, spare, r)
 }
 
 fn add_clob(spare: &mut [u8], pos: usize, s: &[u8]) -> usize
@@ -89,6 +53,7 @@ fn add_clob(spare: &mut [u8], pos: usize, s: &[u8]) -> usize
     text_rules::clobs::format_clob(spare, pos, s)
 }
 
+// The bytes as a clob's text has them: a thousand at most.
 fn add_bytes(spare: &mut [u8], pos: usize, s: &[u8]) -> usize
     requires { ⌜ pos ≤ limit ⌝ }
     ensures { λ r. ⌜ r ≤ limit ⌝ }
@@ -97,104 +62,96 @@ fn add_bytes(spare: &mut [u8], pos: usize, s: &[u8]) -> usize
         return add_clob(spare, pos, s);
     }
     let p = add_clob(spare, pos, &s[0..1000]);
-    let q = line::add(spare, p, b" and ");
-    let r = line::add_number(spare, q, s.len() - 1000);
-    line::add(spare, r, b" bytes more")
+    line::add(spare, p, b" and more")
 }
 
-// A line that is one value, read again into all of the buffer: only now can it be too long for a tape.
-fn read_again(
-    text: &[u8],
-    at: usize,
-    next: usize,
-    number: usize,
-    tape: &mut [u8],
-    spare: &mut [u8],
-) -> Outcome
-    requires { ⌜ at ≤ next ⌝ }
-    requires { ⌜ next ≤ length (now text) ⌝ }
-    ensures { λ r. ⌜ r .next ≡ next ⌝ }
-{
-    let c = line_reader::call_at(text, at, tape);
-    let a = c.answer;
-    match a {
-        Answer::Count(n) => {
-            if tape.len() < n {
-                return Outcome {
-                    next,
-                    refused: false,
-                    written: false,
-                };
-            }
-            let written = value_line(&text[at..next], &tape[0..n], number, at, spare);
-            Outcome {
-                next,
-                refused: false,
-                written,
-            }
-        }
-        _ => {
-            let written = refused_line(&text[at..next], tape::answer::number(a), number, at, spare);
-            Outcome {
-                next,
-                refused: true,
-                written,
-            }
-        }
-    }
-}
-
-// The line at an offset. A refusal zeroes the buffer, so it is read into no room first: 9 then says that it is a value, 8 that it is none.
-fn step(text: &[u8], at: usize, number: usize, tape: &mut [u8], spare: &mut [u8]) -> Outcome
-    requires { ⌜ at < length (now text) ⌝ }
-    ensures { λ r. ⌜ (at < r .next) × (r .next ≤ length (now (text .entry))) ⌝ }
-{
-    let c = line_reader::call_at(text, at, &mut tape[0..0]);
-    let next = c.at;
-    let a = c.answer;
-    // a call goes on by at least one byte and stays in the text
-    if next <= at {
-        return Outcome {
-            next: text.len(),
-            refused: true,
-            written: false,
-        };
-    }
-    if text.len() < next {
-        return Outcome {
-            next: text.len(),
-            refused: true,
-            written: false,
-        };
-    }
-    match a {
-        Answer::TapeTooLong => read_again(text, at, next, number, tape, spare),
-        _ => {
-            let written = refused_line(&text[at..next], tape::answer::number(a), number, at, spare);
-            Outcome {
-                next,
-                refused: true,
-                written,
-            }
-        }
-    }
-}
-
-// One more where it counts.
-fn counting(n: usize, counts: bool) -> usize
-    requires { ⌜ n < 18446744073709551615 ⌝ }
-    ensures { λ r. ⌜ r ≤ n + 1 ⌝ }
-{
-    if counts { n + 1 } else { n }
-}
-
-fn end_mark(number: usize, offset: usize, spare: &mut [u8]) -> bool {
-    let p = start(spare, number, offset, 0);
-    let e = line::add(spare, p, b"end mark\n");
+// A line that was refused by 8 or 9, and its bytes.
+fn refused_line(own: &[u8], is_long: bool, number: usize, offset: usize, spare: &mut [u8]) -> bool {
+    let p = start(spare, number, offset, own.len());
+    let q = add_refusal(spare, p, is_long);
+    let r = add_bytes(spare, q, own);
+    let e = line::add(spare, r, b"\n");
     line::emit(spare, e)
 }
 
-// The lines of a text and the end mark, one a line. Says at last how many were refused.
+fn add_refusal(spare: &mut [u8], pos: usize, is_long: bool) -> usize
+    requires { ⌜ pos ≤ limit ⌝ }
+    ensures { λ r. ⌜ r ≤ limit ⌝ }
+{
+    if is_long {
+        return line::add(spare, pos, b"refusal 9 ");
+    }
+    line::add(spare, pos, b"refusal 8 ")
+}
+
+fn is_too_long(a: Answer) -> bool {
+    match a {
+        Answer::TapeTooLong => true,
+        _ => false,
+    }
+}
+
+// The answer of the line at an offset. A refusal zeroes the buffer, so the line is read into no room first, which 8 does not depend on; only
+// the tape of a value needs the buffer.
+fn call(text: &[u8], at: usize, tape: &mut [u8]) -> Called {
+    let c = line_reader::call_at(text, at, &mut tape[0..0]);
+    let a = c.answer;
+    if is_too_long(a) {
+        return line_reader::call_at(text, at, tape);
+    }
+    c
+}
+
+// What a line is.
+fn line_out(
+    own: &[u8],
+    a: Answer,
+    number: usize,
+    offset: usize,
+    tape: &[u8],
+    spare: &mut [u8],
+) -> bool {
+    let Answer::Count(n) = a else {
+        return refused_line(own, is_too_long(a), number, offset, spare);
+    };
+    if tape.len() < n {
+        return false;
+    }
+    value_line(own, &tape[0..n], number, offset, spare)
+}
+
+// The next offset: a call goes on by at least one byte and stays in the text.
+fn later(next: usize, at: usize, end: usize) -> usize
+    requires { ⌜ at < end ⌝ }
+    ensures { λ r. ⌜ (at < r) × (r ≤ end) ⌝ }
+{
+    if next <= at {
+        return end;
+    }
+    if end < next {
+        return end;
+    }
+    next
+}
+
+// One more, where a line was refused.
+fn counting(refused: usize, a: Answer) -> usize
+    requires { ⌜ refused < 18446744073709551615 ⌝ }
+    ensures { λ r. ⌜ r ≤ refused + 1 ⌝ }
+{
+    match a {
+        Answer::Count(_) => refused,
+        _ => refused + 1,
+    }
+}
+
+fn end_mark(number: usize, offset: usize, spare: &mut [u8]) {
+    let p = start(spare, number, offset, 0);
+    let e = line::add(spare, p, b"end mark\n");
+    line::emit(spare, e);
+}
+
+// The lines of a text and the end mark, and on standard error how many were refused.
 pub fn split(text: &[u8], tape: &mut [u8], spare: &mut [u8]) {
     if !say::emit(b"   line  offset  length\n") {
         return;
@@ -203,17 +160,17 @@ pub fn split(text: &[u8], tape: &mut [u8], spare: &mut [u8]) {
     let mut number: usize = 0;
     let mut refused: usize = 0;
     while at < text.len() {
-        let s = step(text, at, number + 1, tape, spare);
-        if !s.written {
+        let c = call(text, at, tape);
+        let next = later(c.at, at, text.len());
+        let a = c.answer;
+        if !line_out(&text[at..next], a, number + 1, at, tape, spare) {
             return;
         }
+        refused = counting(refused, a);
         number += 1;
-        refused = counting(refused, s.refused);
-        at = s.next;
+        at = next;
     }
-    if !end_mark(number + 1, at, spare) {
-        return;
-    }
+    end_mark(number + 1, at, spare);
     if 0 < refused {
         say::refused_lines(refused, number);
     }

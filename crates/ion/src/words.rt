@@ -68,17 +68,18 @@ pub fn first() -> Word {
 pub fn help(fd: i32) {
     io::write_all(
         fd,
-        b"use: ion WORD [FILE]\n\
-From a tape, of at most 1,048,576 bytes:\n\
-  compact  its Ion text, values parted by blanks\n\
-  lines    its Ion text, one value a line\n\
-  pretty   its Ion text, indented\n\
-  tree     the text of its one value, annotations included\n\
-  check    whether it is a good tape, and how many values it has\n\
-  show     its nodes, one a line: offset, kind and value\n\
-From an Ion text, of at most 4,200,000 bytes:\n\
-  read     its tape\n\
-  split    its lines, one a line: number, offset, length, and what it is\n\
-No FILE, or -: standard input. What is refused is said on standard error.\n",
+        b"use: ion WORD [FILE]
+From a tape, of at most 1,048,576 bytes:
+  compact  its Ion text, values parted by blanks
+  lines    its Ion text, one value a line
+  pretty   its Ion text, indented
+  tree     the text of its one value, annotations included
+  check    whether it is a good tape
+  show     its nodes, one a line: offset, kind and value
+From an Ion text, of at most 4,200,000 bytes:
+  read     its tape
+  split    its lines: number, offset, length, and what each is
+No FILE, or -: standard input. What is refused is said on standard error.
+",
     );
 }

@@ -7,10 +7,10 @@ use Rattle.ion.proofs.input.fill.Statement.{statement}
 use Rattle.ion.proofs.input.fill.Tie as tie
 
 abbrev Inv-loop : tie.InvT-loop
-Inv-loop fd buf₀ done₀ buf done = (done ≤ length buf) × (length buf ≡ length buf₀)
+Inv-loop fd name buf₀ count₀ buf count = (count ≤ length buf) × (length buf ≡ length buf₀)
 
 abbrev μ-loop : tie.MeasureT-loop
-μ-loop fd buf₀ done₀ buf done = length buf - done
+μ-loop fd name buf₀ count₀ buf count = length buf - count
 
 loop-holds : tie.Need-loop-holds Inv-loop μ-loop
 loop-holds c = search needs
@@ -26,6 +26,9 @@ part-read-end c = search needs
 
 read-requires : tie.Need-read-requires Inv-loop μ-loop
 read-requires c κs = search needs
+
+cannot-read-requires : tie.Need-cannot-read-requires Inv-loop μ-loop
+cannot-read-requires c κs = search needs
 
 same-length : tie.Need-same-length Inv-loop μ-loop
 same-length c = search needs
@@ -51,8 +54,8 @@ same-length-2 c = search needs
 returns-2 : tie.Need-returns-2 Inv-loop μ-loop
 returns-2 c = search needs
 
-add-done : tie.Need-add-done Inv-loop μ-loop
-add-done c = search needs
+add-count : tie.Need-add-count Inv-loop μ-loop
+add-count c = search needs
 
 loop-less : tie.Need-loop-less Inv-loop μ-loop
 loop-less c = search needs
@@ -60,8 +63,8 @@ loop-less c = search needs
 loop-again : tie.Need-loop-again Inv-loop μ-loop
 loop-again c = search needs
 
-rest-requires : tie.Need-rest-requires Inv-loop μ-loop
-rest-requires c κs = search needs
+is-at-end-requires : tie.Need-is-at-end-requires Inv-loop μ-loop
+is-at-end-requires c κs = search needs
 
 same-length-3 : tie.Need-same-length-3 Inv-loop μ-loop
 same-length-3 c = search needs
@@ -80,6 +83,7 @@ fill-spec =
     part-read-start
     part-read-end
     read-requires
+    cannot-read-requires
     same-length
     returns
     sub-count
@@ -88,9 +92,9 @@ fill-spec =
     count-requires
     same-length-2
     returns-2
-    add-done
+    add-count
     loop-less
     loop-again
-    rest-requires
+    is-at-end-requires
     same-length-3
     returns-3)

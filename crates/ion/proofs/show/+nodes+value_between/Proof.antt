@@ -2,7 +2,6 @@
 -- one byte. Assumes nothing.
 use Prim.Native.Nat.{ℕ, _+_, _*_, _-_, _<_}
 use mathlib.Core.Path.{_≡_}
-use native.Mathlib.Omega.{arith}
 use lib.ListN.{length}
 use borrow.Author.Needs.{needs}
 use borrow.Fn.Kinds.{In}
@@ -13,13 +12,11 @@ use Rattle.ion.proofs.show.+nodes+value_between.Lts-nodes as nodes-lts
 use Rattle.ion.proofs.show.value_between.Reads as value
 use Rattle.ion.proofs.show.value_between.Kinds as value-kinds
 use Rattle.ion.proofs.show.+nodes+value_between.Lts-value_between as value-lts
-use Rattle.ion.proofs.show.closed.Reads as closed
+use Rattle.ion.proofs.show.bracket.Reads as bracket
 use Rattle.ion.proofs.show.frame_of.Reads as frame-of
 use Rattle.ion.proofs.show.head.Reads as head
 use Rattle.ion.proofs.show.is_container.Reads as is-container
-use Rattle.ion.proofs.show.is_whole.Reads as is-whole
 use Rattle.ion.proofs.show.leaf.Reads as leaf
-use Rattle.ion.proofs.show.opened.Reads as opened
 use Rattle.ion.proofs.show.span_at.Reads as span-at
 use Rattle.ion.proofs.show.+nodes+value_between.{statement}
 use Rattle.ion.proofs.show.+nodes+value_between.Tie.{close}
@@ -43,25 +40,10 @@ abbrev value-below : ℕ → In 3 value-kinds.ps
 value-below t = and 3 value-kinds.ps (falls 3 value-kinds.ps _<_ μ-value t) value.Pre
 
 abbrev nodes-callees : ℕ → nodes-lts.Claims
-nodes-callees t = (span-at.Asked, span-at.Learnt, head.Asked, head.Learnt, is-whole.Asked, is-whole.Learnt, value-below t, value.Post)
+nodes-callees t = (span-at.Asked, span-at.Learnt, head.Asked, head.Learnt, value-below t, value.Post)
 
 abbrev value-callees : ℕ → value-lts.Claims
-value-callees t = (
-  is-container.Asked,
-  is-container.Learnt,
-  leaf.Asked,
-  leaf.Learnt,
-  opened.Asked,
-  opened.Learnt,
-  is-whole.Asked,
-  is-whole.Learnt,
-  frame-of.Asked,
-  frame-of.Learnt,
-  nodes-below t,
-  nodes.Post,
-  closed.Asked,
-  closed.Learnt,
-)
+value-callees t = (is-container.Asked, is-container.Learnt, leaf.Asked, leaf.Learnt, bracket.Asked, bracket.Learnt, frame-of.Asked, frame-of.Learnt, nodes-below t, nodes.Post)
 
 abbrev Inv : nodes-lts.InvT-loop
 Inv tape from end frame level aloud text₀ spare₀ at₀ text spare at = (length text ≡ length text₀) × (length spare ≡ length spare₀)
@@ -88,9 +70,6 @@ module _ (t : ℕ) where
   nodes-head-requires : nodes-lts.Need-head-requires (nodes-callees t) (nodes-at t) nodes.Post Inv μ-loop
   nodes-head-requires c κs = search needs
 
-  nodes-is-whole-requires : nodes-lts.Need-is-whole-requires (nodes-callees t) (nodes-at t) nodes.Post Inv μ-loop
-  nodes-is-whole-requires c κs = search needs
-
   nodes-same-length-3 : nodes-lts.Need-same-length-3 (nodes-callees t) (nodes-at t) nodes.Post Inv μ-loop
   nodes-same-length-3 c = search needs
 
@@ -102,9 +81,6 @@ module _ (t : ℕ) where
 
   nodes-value-between-requires : nodes-lts.Need-value-between-requires (nodes-callees t) (nodes-at t) nodes.Post Inv μ-loop
   nodes-value-between-requires c κs = search needs
-
-  nodes-is-whole-requires-2 : nodes-lts.Need-is-whole-requires-2 (nodes-callees t) (nodes-at t) nodes.Post Inv μ-loop
-  nodes-is-whole-requires-2 c κs = search needs
 
   nodes-same-length-5 : nodes-lts.Need-same-length-5 (nodes-callees t) (nodes-at t) nodes.Post Inv μ-loop
   nodes-same-length-5 c = search needs
@@ -148,32 +124,35 @@ module _ (t : ℕ) where
   value-returns : value-lts.Need-returns (value-callees t) (value-at t) value.Post
   value-returns c = search needs
 
+  value-same-length-3 : value-lts.Need-same-length-3 (value-callees t) (value-at t) value.Post
+  value-same-length-3 c = search needs
+
+  value-same-length-4 : value-lts.Need-same-length-4 (value-callees t) (value-at t) value.Post
+  value-same-length-4 c = search needs
+
   value-returns-2 : value-lts.Need-returns-2 (value-callees t) (value-at t) value.Post
   value-returns-2 c = search needs
-
-  value-sub-if3 : value-lts.Need-sub-if3 (value-callees t) (value-at t) value.Post
-  value-sub-if3 c = search needs
 
   value-returns-3 : value-lts.Need-returns-3 (value-callees t) (value-at t) value.Post
   value-returns-3 c = search needs
 
-  value-sub-opened : value-lts.Need-sub-opened (value-callees t) (value-at t) value.Post
-  value-sub-opened c = search needs
-
-  value-sub-opened-2 : value-lts.Need-sub-opened-2 (value-callees t) (value-at t) value.Post
-  value-sub-opened-2 c = search needs
-
-  value-opened-requires : value-lts.Need-opened-requires (value-callees t) (value-at t) value.Post
-  value-opened-requires c κs = search needs
-
-  value-is-whole-requires : value-lts.Need-is-whole-requires (value-callees t) (value-at t) value.Post
-  value-is-whole-requires c κs = search needs
-
-  value-same-length-3 : value-lts.Need-same-length-3 (value-callees t) (value-at t) value.Post
-  value-same-length-3 c = search needs
+  value-sub-if4 : value-lts.Need-sub-if4 (value-callees t) (value-at t) value.Post
+  value-sub-if4 c = search needs
 
   value-returns-4 : value-lts.Need-returns-4 (value-callees t) (value-at t) value.Post
   value-returns-4 c = search needs
+
+  value-slice-aggregate-bracket : value-lts.Need-slice-aggregate-bracket (value-callees t) (value-at t) value.Post
+  value-slice-aggregate-bracket c = search needs
+
+  value-bracket-requires : value-lts.Need-bracket-requires (value-callees t) (value-at t) value.Post
+  value-bracket-requires c κs = search needs
+
+  value-same-length-5 : value-lts.Need-same-length-5 (value-callees t) (value-at t) value.Post
+  value-same-length-5 c = search needs
+
+  value-returns-5 : value-lts.Need-returns-5 (value-callees t) (value-at t) value.Post
+  value-returns-5 c = search needs
 
   value-add-nodes : value-lts.Need-add-nodes (value-callees t) (value-at t) value.Post
   value-add-nodes c = search needs
@@ -187,21 +166,6 @@ module _ (t : ℕ) where
   value-nodes-requires : value-lts.Need-nodes-requires (value-callees t) (value-at t) value.Post
   value-nodes-requires c κs = search needs
 
-  value-is-whole-requires-2 : value-lts.Need-is-whole-requires-2 (value-callees t) (value-at t) value.Post
-  value-is-whole-requires-2 c κs = search needs
-
-  value-same-length-4 : value-lts.Need-same-length-4 (value-callees t) (value-at t) value.Post
-  value-same-length-4 c = search needs
-
-  value-same-length-5 : value-lts.Need-same-length-5 (value-callees t) (value-at t) value.Post
-  value-same-length-5 c = search needs
-
-  value-returns-5 : value-lts.Need-returns-5 (value-callees t) (value-at t) value.Post
-  value-returns-5 c = search needs
-
-  value-closed-requires : value-lts.Need-closed-requires (value-callees t) (value-at t) value.Post
-  value-closed-requires c κs = search needs
-
   value-same-length-6 : value-lts.Need-same-length-6 (value-callees t) (value-at t) value.Post
   value-same-length-6 c = search needs
 
@@ -210,6 +174,30 @@ module _ (t : ℕ) where
 
   value-returns-6 : value-lts.Need-returns-6 (value-callees t) (value-at t) value.Post
   value-returns-6 c = search needs
+
+  value-slice-aggregate-bracket-2 : value-lts.Need-slice-aggregate-bracket-2 (value-callees t) (value-at t) value.Post
+  value-slice-aggregate-bracket-2 c = search needs
+
+  value-bracket-requires-2 : value-lts.Need-bracket-requires-2 (value-callees t) (value-at t) value.Post
+  value-bracket-requires-2 c κs = search needs
+
+  value-same-length-8 : value-lts.Need-same-length-8 (value-callees t) (value-at t) value.Post
+  value-same-length-8 c = search needs
+
+  value-same-length-9 : value-lts.Need-same-length-9 (value-callees t) (value-at t) value.Post
+  value-same-length-9 c = search needs
+
+  value-returns-7 : value-lts.Need-returns-7 (value-callees t) (value-at t) value.Post
+  value-returns-7 c = search needs
+
+  value-same-length-10 : value-lts.Need-same-length-10 (value-callees t) (value-at t) value.Post
+  value-same-length-10 c = search needs
+
+  value-same-length-11 : value-lts.Need-same-length-11 (value-callees t) (value-at t) value.Post
+  value-same-length-11 c = search needs
+
+  value-returns-8 : value-lts.Need-returns-8 (value-callees t) (value-at t) value.Post
+  value-returns-8 c = search needs
 
 pub +nodes+value-between-spec : {M : Type 1} → statement M
 +nodes+value-between-spec = close μ-nodes μ-value
@@ -220,12 +208,10 @@ pub +nodes+value-between-spec : {M : Type 1} → statement M
     (nodes-same-length-2 t)
     (nodes-returns t)
     (nodes-head-requires t)
-    (nodes-is-whole-requires t)
     (nodes-same-length-3 t)
     (nodes-same-length-4 t)
     (nodes-returns-2 t)
     (nodes-value-between-requires t)
-    (nodes-is-whole-requires-2 t)
     (nodes-same-length-5 t)
     (nodes-same-length-6 t)
     (nodes-returns-3 t)
@@ -241,24 +227,28 @@ pub +nodes+value-between-spec : {M : Type 1} → statement M
     (value-same-length t)
     (value-same-length-2 t)
     (value-returns t)
-    (value-returns-2 t)
-    (value-sub-if3 t)
-    (value-returns-3 t)
-    (value-sub-opened t)
-    (value-sub-opened-2 t)
-    (value-opened-requires t)
-    (value-is-whole-requires t)
     (value-same-length-3 t)
+    (value-same-length-4 t)
+    (value-returns-2 t)
+    (value-returns-3 t)
+    (value-sub-if4 t)
     (value-returns-4 t)
+    (value-slice-aggregate-bracket t)
+    (value-bracket-requires t)
+    (value-same-length-5 t)
+    (value-returns-5 t)
     (value-add-nodes t)
     (value-frame-of-requires t)
     (value-add-nodes-2 t)
     (value-nodes-requires t)
-    (value-is-whole-requires-2 t)
-    (value-same-length-4 t)
-    (value-same-length-5 t)
-    (value-returns-5 t)
-    (value-closed-requires t)
     (value-same-length-6 t)
     (value-same-length-7 t)
     (value-returns-6 t)
+    (value-slice-aggregate-bracket-2 t)
+    (value-bracket-requires-2 t)
+    (value-same-length-8 t)
+    (value-same-length-9 t)
+    (value-returns-7 t)
+    (value-same-length-10 t)
+    (value-same-length-11 t)
+    (value-returns-8 t)

@@ -15,14 +15,8 @@ abbrev μ-loop : tie.MeasureT-loop
 loop-holds : tie.Need-loop-holds Inv-loop μ-loop
 loop-holds c = search needs
 
-symbol-end-requires : tie.Need-symbol-end-requires Inv-loop μ-loop
-symbol-end-requires c κs = search needs
-
-leaf-requires : tie.Need-leaf-requires Inv-loop μ-loop
-leaf-requires c κs = search needs
-
-is-whole-requires : tie.Need-is-whole-requires Inv-loop μ-loop
-is-whole-requires c κs = search needs
+name-end-requires : tie.Need-name-end-requires Inv-loop μ-loop
+name-end-requires c κs = search needs
 
 same-length : tie.Need-same-length Inv-loop μ-loop
 same-length c = search needs
@@ -33,11 +27,8 @@ same-length-2 c = search needs
 returns : tie.Need-returns Inv-loop μ-loop
 returns c = search needs
 
-loop-less : tie.Need-loop-less Inv-loop μ-loop
-loop-less c = search needs
-
-loop-again : tie.Need-loop-again Inv-loop μ-loop
-loop-again c = search needs
+leaf-requires : tie.Need-leaf-requires Inv-loop μ-loop
+leaf-requires c κs = search needs
 
 same-length-3 : tie.Need-same-length-3 Inv-loop μ-loop
 same-length-3 c = search needs
@@ -48,6 +39,21 @@ same-length-4 c = search needs
 returns-2 : tie.Need-returns-2 Inv-loop μ-loop
 returns-2 c = search needs
 
+loop-less : tie.Need-loop-less Inv-loop μ-loop
+loop-less c = search needs
+
+loop-again : tie.Need-loop-again Inv-loop μ-loop
+loop-again c = search needs
+
+same-length-5 : tie.Need-same-length-5 Inv-loop μ-loop
+same-length-5 c = search needs
+
+same-length-6 : tie.Need-same-length-6 Inv-loop μ-loop
+same-length-6 c = search needs
+
+returns-3 : tie.Need-returns-3 Inv-loop μ-loop
+returns-3 c = search needs
+
 pub annotations-spec : {M : Type 1} → statement M
 annotations-spec =
     tie.close
@@ -55,14 +61,16 @@ annotations-spec =
     Inv-loop
     μ-loop
     loop-holds
-    symbol-end-requires
-    leaf-requires
-    is-whole-requires
+    name-end-requires
     same-length
     same-length-2
     returns
-    loop-less
-    loop-again
+    leaf-requires
     same-length-3
     same-length-4
-    returns-2)
+    returns-2
+    loop-less
+    loop-again
+    same-length-5
+    same-length-6
+    returns-3)

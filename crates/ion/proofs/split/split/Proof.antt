@@ -24,11 +24,26 @@ returns c = search needs
 loop-holds : tie.Need-loop-holds Inv-loop μ-loop
 loop-holds c = search needs
 
-add-step : tie.Need-add-step Inv-loop μ-loop
-add-step c = search needs
+call-requires : tie.Need-call-requires Inv-loop μ-loop
+call-requires c κs = search needs
 
-step-requires : tie.Need-step-requires Inv-loop μ-loop
-step-requires c κs = search needs
+later-requires : tie.Need-later-requires Inv-loop μ-loop
+later-requires c κs = search needs
+
+sub-line-out : tie.Need-sub-line-out Inv-loop μ-loop
+sub-line-out c = search needs
+
+part-line-out-start : tie.Need-part-line-out-start Inv-loop μ-loop
+part-line-out-start c = search needs
+
+part-line-out-end : tie.Need-part-line-out-end Inv-loop μ-loop
+part-line-out-end c = search needs
+
+add-line-out : tie.Need-add-line-out Inv-loop μ-loop
+add-line-out c = search needs
+
+line-out-requires : tie.Need-line-out-requires Inv-loop μ-loop
+line-out-requires c κs = search needs
 
 same-length : tie.Need-same-length Inv-loop μ-loop
 same-length c = search needs
@@ -39,11 +54,11 @@ same-length-2 c = search needs
 returns-2 : tie.Need-returns-2 Inv-loop μ-loop
 returns-2 c = search needs
 
-add-number : tie.Need-add-number Inv-loop μ-loop
-add-number c = search needs
-
 counting-requires : tie.Need-counting-requires Inv-loop μ-loop
 counting-requires c κs = search needs
+
+add-number : tie.Need-add-number Inv-loop μ-loop
+add-number c = search needs
 
 loop-less : tie.Need-loop-less Inv-loop μ-loop
 loop-less c = search needs
@@ -57,6 +72,9 @@ add-end-mark c = search needs
 end-mark-requires : tie.Need-end-mark-requires Inv-loop μ-loop
 end-mark-requires c κs = search needs
 
+refused-lines-requires : tie.Need-refused-lines-requires Inv-loop μ-loop
+refused-lines-requires c κs = search needs
+
 same-length-3 : tie.Need-same-length-3 Inv-loop μ-loop
 same-length-3 c = search needs
 
@@ -66,9 +84,6 @@ same-length-4 c = search needs
 returns-3 : tie.Need-returns-3 Inv-loop μ-loop
 returns-3 c = search needs
 
-refused-lines-requires : tie.Need-refused-lines-requires Inv-loop μ-loop
-refused-lines-requires c κs = search needs
-
 same-length-5 : tie.Need-same-length-5 Inv-loop μ-loop
 same-length-5 c = search needs
 
@@ -77,15 +92,6 @@ same-length-6 c = search needs
 
 returns-4 : tie.Need-returns-4 Inv-loop μ-loop
 returns-4 c = search needs
-
-same-length-7 : tie.Need-same-length-7 Inv-loop μ-loop
-same-length-7 c = search needs
-
-same-length-8 : tie.Need-same-length-8 Inv-loop μ-loop
-same-length-8 c = search needs
-
-returns-5 : tie.Need-returns-5 Inv-loop μ-loop
-returns-5 c = search needs
 
 pub split-spec : {M : Type 1} → statement M
 split-spec =
@@ -97,24 +103,26 @@ split-spec =
     emit-requires
     returns
     loop-holds
-    add-step
-    step-requires
+    call-requires
+    later-requires
+    sub-line-out
+    part-line-out-start
+    part-line-out-end
+    add-line-out
+    line-out-requires
     same-length
     same-length-2
     returns-2
-    add-number
     counting-requires
+    add-number
     loop-less
     loop-again
     add-end-mark
     end-mark-requires
+    refused-lines-requires
     same-length-3
     same-length-4
     returns-3
-    refused-lines-requires
     same-length-5
     same-length-6
-    returns-4
-    same-length-7
-    same-length-8
-    returns-5)
+    returns-4)
