@@ -2,7 +2,7 @@
 ghost use Prim.Native.Nat.{_≤_};
 ghost use Rattle.output.specs.Wrote.{limit};
 
-// What a number that is no node's kind stands for.
+// Beside the kinds of nodes: a symbol that is a name or an annotation.
 pub const NAME: u8 = 15;
 
 pub const ANNOTATION: u8 = 16;
@@ -46,7 +46,8 @@ pub fn add_column(line: &mut [u8], pos: usize, n: usize) -> usize
     add(line, p, &digits[..k])
 }
 
-fn add_scalar(line: &mut [u8], pos: usize, kind: u8) -> usize
+// The kinds by their numbers. Few literals to a function keep its proof small.
+fn add_plain(line: &mut [u8], pos: usize, kind: u8) -> usize
     requires { ⌜ pos ≤ limit ⌝ }
     ensures { λ r. ⌜ r ≤ limit ⌝ }
 {
@@ -54,30 +55,57 @@ fn add_scalar(line: &mut [u8], pos: usize, kind: u8) -> usize
         0 => add(line, pos, b"null"),
         1 => add(line, pos, b"bool"),
         2 => add(line, pos, b"int"),
-        3 => add(line, pos, b"float"),
-        4 => add(line, pos, b"decimal"),
-        5 => add(line, pos, b"timestamp"),
-        6 => add(line, pos, b"symbol"),
-        7 => add(line, pos, b"identifier"),
-        8 => add(line, pos, b"string"),
-        _ => add(line, pos, b"clob"),
+        _ => add(line, pos, b"float"),
     }
 }
 
-// A node's kind.
+fn add_number_or_symbol(line: &mut [u8], pos: usize, kind: u8) -> usize
+    requires { ⌜ pos ≤ limit ⌝ }
+    ensures { λ r. ⌜ r ≤ limit ⌝ }
+{
+    match kind {
+        4 => add(line, pos, b"decimal"),
+        5 => add(line, pos, b"timestamp"),
+        6 => add(line, pos, b"symbol"),
+        _ => add(line, pos, b"identifier"),
+    }
+}
+
+fn add_sized(line: &mut [u8], pos: usize, kind: u8) -> usize
+    requires { ⌜ pos ≤ limit ⌝ }
+    ensures { λ r. ⌜ r ≤ limit ⌝ }
+{
+    match kind {
+        8 => add(line, pos, b"string"),
+        9 => add(line, pos, b"clob"),
+        10 => add(line, pos, b"list"),
+        11 => add(line, pos, b"sexp"),
+        _ => add(line, pos, b"struct"),
+    }
+}
+
+fn add_other(line: &mut [u8], pos: usize, kind: u8) -> usize
+    requires { ⌜ pos ≤ limit ⌝ }
+    ensures { λ r. ⌜ r ≤ limit ⌝ }
+{
+    match kind {
+        13 => add(line, pos, b"annotated"),
+        14 => add(line, pos, b"marker"),
+        NAME => add(line, pos, b"name"),
+        _ => add(line, pos, b"annotation"),
+    }
+}
+
+// What a node is.
 pub fn add_kind(line: &mut [u8], pos: usize, kind: u8) -> usize
     requires { ⌜ pos ≤ limit ⌝ }
     ensures { λ r. ⌜ r ≤ limit ⌝ }
 {
     match kind {
-        10 => add(line, pos, b"list"),
-        11 => add(line, pos, b"sexp"),
-        12 => add(line, pos, b"struct"),
-        13 => add(line, pos, b"annotated"),
-        14 => add(line, pos, b"marker"),
-        NAME => add(line, pos, b"name"),
-        ANNOTATION => add(line, pos, b"annotation"),
-        _ => add_scalar(line, pos, kind),
+        0..=3 => add_plain(line, pos, kind),
+        4..=7 => add_number_or_symbol(line, pos, kind),
+        8..=12 => add_sized(line, pos, kind),
+        _ => add_other(line, pos, kind),
     }
 }
 

@@ -25,7 +25,7 @@ pub fn cannot_read(name: &[u8]) {
 
 pub fn too_long(room: usize) {
     say_number(b"ion: the input is longer than ", room as u64);
-    say(b" bytes, for which there is room\n");
+    say(b" bytes, which is all there is room for\n");
 }
 
 fn tape_reason(number: u8) {

@@ -135,7 +135,7 @@ fn leaf(
     let n = alone(tape, from, to, spare);
     let p = start(text, from, level);
     let q = line::add_kind(text, p, kind);
-    let r = line::add(text, q, b" ");
+    let r = line::add_blanks(text, q, 1);
     if spare.len() < n {
         return false;
     }

@@ -12,11 +12,11 @@ fn start(spare: &mut [u8], number: usize, offset: usize, n: usize) -> usize
     ensures { λ r. ⌜ r ≤ limit ⌝ }
 {
     let p = line::add_column(spare, 0, number);
-    let q = line::add(spare, p, b" ");
+    let q = line::add_blanks(spare, p, 1);
     let r = line::add_column(spare, q, offset);
-    let s = line::add(spare, r, b" ");
+    let s = line::add_blanks(spare, r, 1);
     let t = line::add_column(spare, s, n);
-    line::add(spare, t, b"  ")
+    line::add_blanks(spare, t, 2)
 }
 
 // Behind a position, the tree text of a tape, or the line itself where it has none. Says whether it is out.
@@ -42,7 +42,7 @@ fn value_line(own: &[u8], tape: &[u8], number: usize, offset: usize, spare: &mut
     }
     let p = start(spare, number, offset, own.len());
     let q = line::add_kind(spare, p, tape[0]);
-    let r = line::add(spare, q, b" ");
+    let r = line::add_blanks(spare, q, 1);
     value_out(tape, own, spare, r)
 }
 

@@ -65,7 +65,7 @@ module _ (t : ℕ) where
   nodes-same-length-2 c = search needs
 
   nodes-returns : nodes-lts.Need-returns (nodes-callees t) (nodes-at t) nodes.Post Inv μ-loop
-  nodes-returns c = search needs
+  nodes-returns c = tt
 
   nodes-head-requires : nodes-lts.Need-head-requires (nodes-callees t) (nodes-at t) nodes.Post Inv μ-loop
   nodes-head-requires c κs = search needs
@@ -77,7 +77,7 @@ module _ (t : ℕ) where
   nodes-same-length-4 c = search needs
 
   nodes-returns-2 : nodes-lts.Need-returns-2 (nodes-callees t) (nodes-at t) nodes.Post Inv μ-loop
-  nodes-returns-2 c = search needs
+  nodes-returns-2 c = tt
 
   nodes-value-between-requires : nodes-lts.Need-value-between-requires (nodes-callees t) (nodes-at t) nodes.Post Inv μ-loop
   nodes-value-between-requires c κs = search needs
@@ -89,7 +89,7 @@ module _ (t : ℕ) where
   nodes-same-length-6 c = search needs
 
   nodes-returns-3 : nodes-lts.Need-returns-3 (nodes-callees t) (nodes-at t) nodes.Post Inv μ-loop
-  nodes-returns-3 c = search needs
+  nodes-returns-3 c = tt
 
   nodes-loop-less : nodes-lts.Need-loop-less (nodes-callees t) (nodes-at t) nodes.Post Inv μ-loop
   nodes-loop-less c = search needs
@@ -104,13 +104,13 @@ module _ (t : ℕ) where
   nodes-same-length-8 c = search needs
 
   nodes-returns-4 : nodes-lts.Need-returns-4 (nodes-callees t) (nodes-at t) nodes.Post Inv μ-loop
-  nodes-returns-4 c = search needs
+  nodes-returns-4 c = tt
 
   value-shared-slice-read-kind : value-lts.Need-shared-slice-read-kind (value-callees t) (value-at t) value.Post
   value-shared-slice-read-kind c = search needs
 
   value-is-container-requires : value-lts.Need-is-container-requires (value-callees t) (value-at t) value.Post
-  value-is-container-requires c κs = search needs
+  value-is-container-requires c κs = tt
 
   value-leaf-requires : value-lts.Need-leaf-requires (value-callees t) (value-at t) value.Post
   value-leaf-requires c κs = search needs
@@ -122,7 +122,7 @@ module _ (t : ℕ) where
   value-same-length-2 c = search needs
 
   value-returns : value-lts.Need-returns (value-callees t) (value-at t) value.Post
-  value-returns c = search needs
+  value-returns c = tt
 
   value-same-length-3 : value-lts.Need-same-length-3 (value-callees t) (value-at t) value.Post
   value-same-length-3 c = search needs
@@ -131,16 +131,16 @@ module _ (t : ℕ) where
   value-same-length-4 c = search needs
 
   value-returns-2 : value-lts.Need-returns-2 (value-callees t) (value-at t) value.Post
-  value-returns-2 c = search needs
+  value-returns-2 c = tt
 
   value-returns-3 : value-lts.Need-returns-3 (value-callees t) (value-at t) value.Post
-  value-returns-3 c = search needs
+  value-returns-3 c = tt
 
   value-sub-if4 : value-lts.Need-sub-if4 (value-callees t) (value-at t) value.Post
   value-sub-if4 c = search needs
 
   value-returns-4 : value-lts.Need-returns-4 (value-callees t) (value-at t) value.Post
-  value-returns-4 c = search needs
+  value-returns-4 c = tt
 
   value-slice-aggregate-bracket : value-lts.Need-slice-aggregate-bracket (value-callees t) (value-at t) value.Post
   value-slice-aggregate-bracket c = search needs
@@ -152,13 +152,13 @@ module _ (t : ℕ) where
   value-same-length-5 c = search needs
 
   value-returns-5 : value-lts.Need-returns-5 (value-callees t) (value-at t) value.Post
-  value-returns-5 c = search needs
+  value-returns-5 c = tt
 
   value-add-nodes : value-lts.Need-add-nodes (value-callees t) (value-at t) value.Post
   value-add-nodes c = search needs
 
   value-frame-of-requires : value-lts.Need-frame-of-requires (value-callees t) (value-at t) value.Post
-  value-frame-of-requires c κs = search needs
+  value-frame-of-requires c κs = tt
 
   value-add-nodes-2 : value-lts.Need-add-nodes-2 (value-callees t) (value-at t) value.Post
   value-add-nodes-2 c = search needs
@@ -173,7 +173,7 @@ module _ (t : ℕ) where
   value-same-length-7 c = search needs
 
   value-returns-6 : value-lts.Need-returns-6 (value-callees t) (value-at t) value.Post
-  value-returns-6 c = search needs
+  value-returns-6 c = tt
 
   value-slice-aggregate-bracket-2 : value-lts.Need-slice-aggregate-bracket-2 (value-callees t) (value-at t) value.Post
   value-slice-aggregate-bracket-2 c = search needs
@@ -188,7 +188,7 @@ module _ (t : ℕ) where
   value-same-length-9 c = search needs
 
   value-returns-7 : value-lts.Need-returns-7 (value-callees t) (value-at t) value.Post
-  value-returns-7 c = search needs
+  value-returns-7 c = tt
 
   value-same-length-10 : value-lts.Need-same-length-10 (value-callees t) (value-at t) value.Post
   value-same-length-10 c = search needs
@@ -197,7 +197,7 @@ module _ (t : ℕ) where
   value-same-length-11 c = search needs
 
   value-returns-8 : value-lts.Need-returns-8 (value-callees t) (value-at t) value.Post
-  value-returns-8 c = search needs
+  value-returns-8 c = tt
 
 pub +nodes+value-between-spec : {M : Type 1} → statement M
 +nodes+value-between-spec = close μ-nodes μ-value
