@@ -1,11 +1,11 @@
 // What the words do with a tape or a text.
 ghost use Prim.Native.Nat.{_≤_};
 ghost use lib.ListN.{length};
-use crate::line;
-use crate::say;
-use crate::show;
 use crate::split;
 use crate::words::Word;
+use ion_show::line;
+use ion_show::say;
+use ion_show::show;
 use tape::Frame;
 use tape::answer::Answer;
 

@@ -1,7 +1,7 @@
 // The input: a file by its name, or standard input by the name `-`.
 ghost use Prim.Native.Nat.{_≤_};
 ghost use lib.ListN.{length};
-use crate::say;
+use ion_show::say;
 use libc::STDIN_FILENO;
 
 // How many bytes of the input the buffer has, and whether these are all. Where they are not, it was said why.

@@ -3,14 +3,12 @@
 // script `ion` of the repository makes it from these sentences.
 mod commands;
 mod input;
-mod line;
-mod say;
-mod show;
 mod split;
 mod words;
 
 ghost use mathlib.Core.Path.{_≡_};
 ghost use lib.ListN.{length};
+use ion_show::say;
 use words::Word;
 
 // Room for a text. The line of a node that fills a tape fits too: at most four bytes for each of its own.
@@ -46,7 +44,7 @@ fn on_text(word: Word, name: &[u8], text: &mut [u8], tape: &mut [u8], spare: &mu
 // Does what the word says, with the input of a name.
 fn obey(word: Word, name: &[u8], text: &mut [u8], tape: &mut [u8], spare: &mut [u8]) {
     match word {
-        Word::Unknown => say::wrong_use(b"no such word"),
+        Word::Unknown => words::wrong_use(b"no such word"),
         Word::Help => words::help(libc::STDOUT_FILENO),
         Word::Read => on_text(word, name, text, tape, spare),
         Word::Split => on_text(word, name, text, tape, spare),
@@ -57,7 +55,7 @@ fn obey(word: Word, name: &[u8], text: &mut [u8], tape: &mut [u8], spare: &mut [
 fn run(text: &mut [u8], tape: &mut [u8], spare: &mut [u8]) {
     let count = os::arg_count();
     if 3 < count {
-        say::wrong_use(b"more than a word and a file");
+        words::wrong_use(b"more than a word and a file");
         return;
     }
     let word = words::first();

@@ -2,8 +2,8 @@
 ghost use Prim.Native.Nat.{_+_, _<_, _≤_};
 ghost use lib.ListN.{length};
 ghost use Rattle.output.specs.Wrote.{limit};
-use crate::line;
-use crate::say;
+use ion_show::line;
+use ion_show::say;
 use line_reader::Called;
 use tape::answer::Answer;
 

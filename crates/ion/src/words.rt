@@ -1,5 +1,6 @@
 // The words of the command line.
 use check::same;
+use ion_show::say::say;
 
 pub enum Word {
     Compact,
@@ -82,4 +83,12 @@ From an Ion text, of at most 4,200,000 bytes:
 No FILE, or -: standard input. What is refused is said on standard error.
 ",
     );
+}
+
+// A sentence on how the program was called, and what the words do.
+pub fn wrong_use(why: &[u8]) {
+    say(b"ion: wrong use: ");
+    say(why);
+    say(b"\n");
+    help(libc::STDERR_FILENO);
 }

@@ -1,8 +1,8 @@
--- `ion::show::span_at` gives places in order, by what `child_at` says of each case. Assumes nothing.
+-- `ion_show::show::span_at` gives places in order, by what `child_at` says of each case. Assumes nothing.
 use native.Mathlib.Omega.{arith}
 use borrow.Author.Needs.{needs}
-use Rattle.ion.proofs.show.span_at.Statement.{statement}
-use Rattle.ion.proofs.show.span_at.Tie as tie
+use Rattle.ion_show.proofs.show.span_at.Statement.{statement}
+use Rattle.ion_show.proofs.show.span_at.Tie as tie
 
 child-at-requires : tie.Need-child-at-requires
 child-at-requires c κs = search needs

@@ -1,4 +1,4 @@
--- `ion::show::nodes` and `ion::show::value_between` are safe and end: a container is opened while fewer than 64 are, and a child has at least
+-- `ion_show::show::nodes` and `ion_show::show::value_between` are safe and end: a container is opened while fewer than 64 are, and a child has at least
 -- one byte. Assumes nothing.
 use Prim.Native.Nat.{ℕ, _+_, _*_, _-_, _<_}
 use mathlib.Core.Path.{_≡_}
@@ -6,20 +6,20 @@ use lib.ListN.{length}
 use borrow.Author.Needs.{needs}
 use borrow.Fn.Kinds.{In}
 use borrow.Fn.PlainCycle.{Measures, is, falls, and}
-use Rattle.ion.proofs.show.nodes.Reads as nodes
-use Rattle.ion.proofs.show.nodes.Kinds as nodes-kinds
-use Rattle.ion.proofs.show.+nodes+value_between.Lts-nodes as nodes-lts
-use Rattle.ion.proofs.show.value_between.Reads as value
-use Rattle.ion.proofs.show.value_between.Kinds as value-kinds
-use Rattle.ion.proofs.show.+nodes+value_between.Lts-value_between as value-lts
-use Rattle.ion.proofs.show.bracket.Reads as bracket
-use Rattle.ion.proofs.show.frame_of.Reads as frame-of
-use Rattle.ion.proofs.show.head.Reads as head
-use Rattle.ion.proofs.show.is_container.Reads as is-container
-use Rattle.ion.proofs.show.leaf.Reads as leaf
-use Rattle.ion.proofs.show.span_at.Reads as span-at
-use Rattle.ion.proofs.show.+nodes+value_between.{statement}
-use Rattle.ion.proofs.show.+nodes+value_between.Tie.{close}
+use Rattle.ion_show.proofs.show.nodes.Reads as nodes
+use Rattle.ion_show.proofs.show.nodes.Kinds as nodes-kinds
+use Rattle.ion_show.proofs.show.+nodes+value_between.Lts-nodes as nodes-lts
+use Rattle.ion_show.proofs.show.value_between.Reads as value
+use Rattle.ion_show.proofs.show.value_between.Kinds as value-kinds
+use Rattle.ion_show.proofs.show.+nodes+value_between.Lts-value_between as value-lts
+use Rattle.ion_show.proofs.show.bracket.Reads as bracket
+use Rattle.ion_show.proofs.show.frame_of.Reads as frame-of
+use Rattle.ion_show.proofs.show.head.Reads as head
+use Rattle.ion_show.proofs.show.is_container.Reads as is-container
+use Rattle.ion_show.proofs.show.leaf.Reads as leaf
+use Rattle.ion_show.proofs.show.span_at.Reads as span-at
+use Rattle.ion_show.proofs.show.+nodes+value_between.{statement}
+use Rattle.ion_show.proofs.show.+nodes+value_between.Tie.{close}
 
 abbrev μ-nodes : Measures 3 nodes-kinds.ps ℕ
 μ-nodes κs a = 1 + 2 * (64 - a .1 .1 .1 .1 .0)

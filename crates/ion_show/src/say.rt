@@ -1,20 +1,13 @@
 // Sentences on standard error. The script `ion` tells the exit status by how they start.
 use libc::STDERR_FILENO;
 
-fn say(s: &[u8]) {
+pub fn say(s: &[u8]) {
     io::write_all(STDERR_FILENO, s);
 }
 
 fn say_number(s: &[u8], n: u64) {
     say(s);
     io::print_decimal(STDERR_FILENO, n);
-}
-
-pub fn wrong_use(why: &[u8]) {
-    say(b"ion: wrong use: ");
-    say(why);
-    say(b"\n");
-    crate::words::help(STDERR_FILENO);
 }
 
 // What errno says of a file or of standard input.

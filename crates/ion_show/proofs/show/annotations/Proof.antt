@@ -1,10 +1,10 @@
--- `ion::show::annotations` is safe and ends. Assumes nothing.
+-- `ion_show::show::annotations` is safe and ends. Assumes nothing.
 use Prim.Native.Nat.{_-_}
 use mathlib.Core.Path.{_≡_}
 use lib.ListN.{length}
 use borrow.Author.Needs.{needs}
-use Rattle.ion.proofs.show.annotations.Statement.{statement}
-use Rattle.ion.proofs.show.annotations.Tie as tie
+use Rattle.ion_show.proofs.show.annotations.Statement.{statement}
+use Rattle.ion_show.proofs.show.annotations.Tie as tie
 
 abbrev Inv-loop : tie.InvT-loop
 Inv-loop tape from to level aloud text₀ spare₀ at₀ text spare at = (length text ≡ length text₀) × (length spare ≡ length spare₀)
