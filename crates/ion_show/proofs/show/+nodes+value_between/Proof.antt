@@ -1,5 +1,5 @@
--- `ion_show::show::nodes` and `ion_show::show::value_between` are safe and end: a container is opened while fewer than 64 are, and a child has at least
--- one byte. Assumes nothing.
+-- `ion_show::show::nodes` and `ion_show::show::value_between` are safe and end: a container is opened while fewer than 64 are, and a child
+-- has at least one byte. Assumes nothing.
 use Prim.Native.Nat.{ℕ, _+_, _*_, _-_, _<_}
 use mathlib.Core.Path.{_≡_}
 use lib.ListN.{length}
