@@ -272,7 +272,7 @@ fn leaf_met(s: Leaf) -> Met
 }
 
 // The frame of a container, by its kind byte 10, 11 or 12.
-fn frame_of(k: u8) -> Frame
+pub fn frame_of(k: u8) -> Frame
     ensures { λ r. ⌜ r ≡ frameOf k ⌝ }
 {
     if k == 10 {

@@ -12,10 +12,11 @@ use Rattle.tape.specs.Bytes.{part, leNumber}
 use Rattle.tape.specs.Tree.{Scalar, Head, Node, Nodes, scalar, nest, marker, nil, more}
 use Rattle.tape.specs.Tape.{past, kind, lengthOf, headOf, scalarOf, walk}
 use Rattle.tape.specs.Steps.{headAt}
+use Rattle.tape.specs.CheckSteps.{frameOf}
 use Rattle.tape.specs.declared.Frame.{Frame}
 use Rattle.writer.specs.Text.{scalarText, nameText, notesText, opening, closing, separator, broken, deeper, blanks, text, texts}
 use Rattle.tape.proofs.Parts.{part-length, part-first, part-number, part-inner}
-use Rattle.writer.specs.Steps.{taken, frameOf, front, ending, isNil, item, items, nodeAt, sizeAt, problemAt}
+use Rattle.writer.specs.Steps.{taken, front, ending, isNil, item, items, nodeAt, sizeAt, problemAt}
 use Rattle.writer.proofs.Turning.{OpenHere, some-here, scalar-here, marker-node, marker-size, open-here, turn-here, left-nil}
 
 -- ---- a turn of the walk

@@ -6,6 +6,7 @@ use mathlib.Core.Bool.{Bool, true, false}
 use mathlib.Core.Option.{Option, none, some}
 use native.Mathlib.Omega.{arith}
 use borrow.Author.Tests.{leb-true, eqb-true, eqb-false}
+use native.Mathlib.Decide.{decLe}
 use lib.Dec.{eqb, leb}
 use lib.ListN.{length, take, drop}
 use Rattle.output.specs.Logic.{if}
@@ -13,17 +14,18 @@ use Rattle.tape.specs.Bytes.{part, first}
 use Rattle.tape.specs.Tree.{Scalar, Head, Node, Nodes, scalar, nest, marker, nil, more}
 use Rattle.tape.specs.Tape.{past, kind, lengthOf, headOf, scalarOf, Value, absent, leaf, body, openOf, valueOf, free, childOf, bad, single, behind, headFault, fault, Walked, join, walk}
 use Rattle.tape.specs.Steps.{placeOf, headAt, ChildAt}
+use Rattle.tape.specs.CheckSteps.{frameOf}
 use Rattle.tape.specs.declared.Frame.{Frame}
-use Rattle.tape.specs.declared.Frame.the-variants.{List as ListF, Sexp, Struct}
 use Rattle.tape.specs.declared.Child.the-variants.{Bad as NoChild, Open as OpenC}
 use Rattle.tape.specs.declared.Place.the-variants.{Bad as Nowhere, At}
 use Rattle.tape.proofs.Parts.{part-length, part-inner}
 use Rattle.tape.proofs.Reading.{SoundV, a-leaf, a-body, value-sound}
-use Rattle.tape.proofs.CodeReading.{value-list, value-sexp, value-struct, value-marker, value-scalar, scalar-other}
+use Rattle.tape.proofs.CodeReading.{value-marker, value-scalar, scalar-other}
+use Rattle.tape.proofs.CodeFacts.{value-open}
 use Rattle.tape.proofs.CodeChild.{head-within, child-headless, child-is, child-from, behind-open}
 use Rattle.tape.proofs.Walking.{walk-end, join-zero}
 use Rattle.tape.proofs.Turns.{TreeTurn, bad-turn, single-step, tree-turn}
-use Rattle.writer.specs.Steps.{taken, frameOf, isNil, nodeIs, sizeIs, problemIs, nodeAt, sizeAt, problemAt}
+use Rattle.writer.specs.Steps.{taken, isNil, nodeIs, sizeIs, problemIs, nodeAt, sizeAt, problemAt}
 
 -- ---- a value, by its kind
 
@@ -106,25 +108,16 @@ module _ (d : ℕ) (l : List ℕ) (z : problemAt d l ≡ 0) where
           record { room = leb-true _ _ q; node = ap (nodeIs d l) v; size = ap sizeIs v; fine = sym y ∙ z }
 
   pub open-here : 10 ≤ kind l → (kind l ≡ 14 → ⊥) → OpenHere d (frameOf (kind l)) l
-  unfolding frameOf
-  open-here h m = go (eqb (kind l) 10) (eqb (kind l) 11) refl refl
+  open-here h m = go (decLe (kind l) 12)
     where
-      go : (a b : Bool) → eqb (kind l) 10 ≡ a → eqb (kind l) 11 ≡ b → OpenHere d (if a ListF (if b Sexp Struct)) l
-      go true b e f = as-open ListF (value-list true l (eqb-true _ _ e))
-      go false true e f = as-open Sexp (value-sexp true l (eqb-true _ _ f))
-      go false false e f = struct (eqb (kind l) 12) refl
-        where
-          other : ScalarHere d l → (kind l ≡ 12 → ⊥) → ⊥
-          other s n =
-              let a : kind l ≡ 10 → ⊥ = eqb-false _ _ e in
-              let b : kind l ≡ 11 → ⊥ = eqb-false _ _ f in
-              let y = scalar-other l (omega arith) (λ e. omega arith) (λ e. omega arith) in
-              let x : _≡_ {A = ℕ} 0 1 = cc in
-              omega arith
-
-          struct : (c : Bool) → eqb (kind l) 12 ≡ c → OpenHere d Struct l
-          struct true g = as-open Struct (value-struct true l (eqb-true _ _ g))
-          struct false g = let n = eqb-false _ _ g in absurd (other (as-scalar (value-scalar true l (eqb-false _ _ e) (eqb-false _ _ f) n m)) n)
+      go : Dec (kind l ≤ 12) → OpenHere d (frameOf (kind l)) l
+      go (yes k) = as-open (frameOf (kind l)) (value-open true l h (omega arith))
+      go (no k) =
+          let s = as-scalar (value-scalar true l (λ e. omega arith) (λ e. omega arith) (λ e. omega arith) m) in
+          let r = s .read in
+          let y = scalar-other l (omega arith) (λ e. omega arith) (λ e. omega arith) in
+          let x : _≡_ {A = ℕ} 0 1 = cc in
+          absurd (omega arith)
 
 -- ---- a child
 

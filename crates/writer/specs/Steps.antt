@@ -11,7 +11,6 @@ use Rattle.text_rules.specs.Text.{Sym}
 use Rattle.tape.specs.Tree.{Scalar, Head, Node, Nodes, scalar, nest, marker, nil, more}
 use Rattle.tape.specs.Tape.{past, nameOf, notesOf, Value, absent, leaf, body, valueOf, walk}
 use Rattle.tape.specs.declared.Frame.{Frame}
-use Rattle.tape.specs.declared.Frame.the-variants.{List as ListF, Sexp, Struct}
 use Rattle.writer.specs.Text.{scalarText, nameText, notesText, opening, closing, separator, broken, deeper, blanks}
 
 -- the name of the child that the bytes l start with, if it has one
@@ -25,10 +24,6 @@ notesIn l = past (notesOf l) [] (λ ss n. ss)
 -- how many bytes were read
 abbrev pub taken : {A : Type 0} → Option (A × ℕ) → ℕ
 taken o = past o 0 (λ a n. n)
-
--- the frame of a container by its kind byte: 10 list, 11 sexp, 12 struct
-unfoldable pub frameOf : ℕ → Frame
-frameOf k = if (eqb k 10) ListF (if (eqb k 11) Sexp Struct)
 
 -- what stands before a value: blanks, its name, and in the tree text its annotations
 unfoldable pub front : ℕ → ℕ → Head → List ℕ

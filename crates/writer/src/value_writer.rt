@@ -16,7 +16,7 @@ ghost use Rattle.output.specs.Logic.{if, ascii};
 ghost use Rattle.writer.specs.Text.{scalarText, nameText, notesText, blanks, closing};
 ghost use Rattle.text_rules.specs.Text.{symbolText, stringText, clobText};
 ghost use Rattle.tape.specs.declared.Frame.the-variants.{Struct};
-ghost use Rattle.writer.specs.Steps.{nameIn, notesIn, taken, frameOf, front, ending, item, items, nodeAt, sizeAt, problemAt};
+ghost use Rattle.writer.specs.Steps.{nameIn, notesIn, taken, front, ending, item, items, nodeAt, sizeAt, problemAt};
 use crate::whitespace_config;
 use tape::Frame;
 use tape::Place;
@@ -269,17 +269,12 @@ fn write_leaf(buf: &mut [u8], pos: usize, tape: &[u8], at: usize, end: usize) ->
     }
 }
 
-// The frame of a container by its kind byte.
-fn frame_of(k: u8) -> Frame
-    ensures { λ r. ⌜ r ≡ frameOf k ⌝ }
+// The version marker. A literal is stored where its function starts, so it stays out of the walk.
+fn write_marker(buf: &mut [u8], pos: usize) -> usize
+    requires { ⌜ pos ≤ limit ⌝ }
+    ensures { λ r. ⌜ Wrote (now (buf .entry)) (now (buf .exit)) pos r (ascii "$ion_1_0") ⌝ }
 {
-    if k == 10 {
-        return Frame::List;
-    }
-    if k == 11 {
-        return Frame::Sexp;
-    }
-    Frame::Struct
+    output::put_bytes(buf, pos, b"$ion_1_0")
 }
 
 // What follows the last child of a container.
@@ -317,10 +312,10 @@ fn write_value(
         return write_leaf(buf, pos, tape, at, end);
     }
     if k == 14 {
-        let p = output::put_bytes(buf, pos, b"$ion_1_0");
+        let p = write_marker(buf, pos);
         return Step { pos: p, at: at + 1 };
     }
-    let inner = frame_of(k);
+    let inner = tape::check::frame_of(k);
     let start = at + 5;
     let stop = start + tape::u32_at(tape, at + 1) as usize;
     let p = whitespace_config::write_start(buf, pos, layout, inner);

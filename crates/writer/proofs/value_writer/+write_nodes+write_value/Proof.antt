@@ -17,7 +17,7 @@ use Rattle.writer.proofs.Items.{Container, items-turn, value-place, sca
 use borrow.Author.Needs.{needs}
 use borrow.Fn.Kinds.{In}
 use borrow.Fn.PlainCycle.{Measures, is, falls, and}
-use Rattle.output.proofs.put_bytes.Reads as put-bytes
+use Rattle.tape.proofs.check.frame_of.Reads as frame-of
 use Rattle.tape.proofs.u32_at.Reads as u32-at
 use Rattle.writer.proofs.value_writer.write_nodes.Reads as nodes
 use Rattle.writer.proofs.value_writer.write_nodes.Kinds as nodes-kinds
@@ -25,11 +25,11 @@ use Rattle.writer.proofs.value_writer.+write_nodes+write_value.Lts-writ
 use Rattle.writer.proofs.value_writer.write_value.Reads as value
 use Rattle.writer.proofs.value_writer.write_value.Kinds as value-kinds
 use Rattle.writer.proofs.value_writer.+write_nodes+write_value.Lts-write_value as value-lts
-use Rattle.writer.proofs.value_writer.frame_of.Reads as frame-of
 use Rattle.writer.proofs.value_writer.write_close.Reads as write-close
 use Rattle.writer.proofs.value_writer.write_ending.Reads as write-ending
 use Rattle.writer.proofs.value_writer.write_front.Reads as write-front
 use Rattle.writer.proofs.value_writer.write_leaf.Reads as write-leaf
+use Rattle.writer.proofs.value_writer.write_marker.Reads as write-marker
 use Rattle.writer.proofs.whitespace_config.indentation.Reads as indentation
 use Rattle.writer.proofs.whitespace_config.write_start.Reads as write-start
 use Rattle.writer.proofs.value_writer.+write_nodes+write_value.{statement}
@@ -58,7 +58,7 @@ abbrev nodes-calls : ℕ → nodes-lts.Claims
 nodes-calls t = (write-front.Asked, write-front.Learnt, value-below t, value.Post, write-ending.Asked, write-ending.Learnt)
 
 abbrev value-calls : ℕ → value-lts.Claims
-value-calls t = (write-leaf.Asked, write-leaf.Learnt, put-bytes.Asked, put-bytes.Learnt, frame-of.Asked, frame-of.Learnt, u32-at.Asked, u32-at.Learnt, write-start.Asked, write-start.Learnt, indentation.Asked, indentation.Learnt, nodes-below t, nodes.Post, write-close.Asked, write-close.Learnt)
+value-calls t = (write-leaf.Asked, write-leaf.Learnt, write-marker.Asked, write-marker.Learnt, frame-of.Asked, frame-of.Learnt, u32-at.Asked, u32-at.Learnt, write-start.Asked, write-start.Learnt, indentation.Asked, indentation.Learnt, nodes-below t, nodes.Post, write-close.Asked, write-close.Learnt)
 
 abbrev Inv : nodes-lts.InvT-loop
 Inv tape from end frame depth layout width buf₀ pos at₀ p₀ buf at p =
@@ -175,20 +175,17 @@ module _ (t : ℕ) where
       let h = c .before .before .before .before .if1 .taken in
       (rw (scalar-text (a .layout) (a .width) (a .depth) (now (a .tape)) (a .at) (a .end) i z h) (c .before .before .write-leaf .ensures .0), rw (scalar-size (a .layout) (a .width) (a .depth) (now (a .tape)) (a .at) (a .end) i z h) (c .before .before .write-leaf .ensures .1))
 
-  value-slice-aggregate-put-bytes : value-lts.Need-slice-aggregate-put-bytes (value-calls t) (value-at t) value.Post
-  value-slice-aggregate-put-bytes c = search needs
+  value-write-marker-requires : value-lts.Need-write-marker-requires (value-calls t) (value-at t) value.Post
+  value-write-marker-requires c κs = c .before .before .before .before .before .before .pre .1 .1 .1 .0
 
-  value-put-bytes-requires : value-lts.Need-put-bytes-requires (value-calls t) (value-at t) value.Post
-  value-put-bytes-requires c κs = c .before .before .before .before .before .before .before .pre .1 .1 .1 .0
-
-  value-add-t28 : value-lts.Need-add-t28 (value-calls t) (value-at t) value.Post
-  value-add-t28 c =
-      let s = c .before .before .before .before .before .before .before .before .before .before in
+  value-add-t25 : value-lts.Need-add-t25 (value-calls t) (value-at t) value.Post
+  value-add-t25 c =
+      let s = c .before .before .before .before .before .before .before .before .before in
       let a = s .args in
       let i = s .pre .1 .1 .0 in
       let z = s .pre .1 .1 .1 .1 .1 in
       let p = value-place (a .layout) (a .width) (a .depth) (now (a .tape)) (a .at) (a .end) i z in
-      let k = c .before .before .before .before .before .before .before .before .before .shared-slice-known .given in
+      let k = c .before .before .before .before .before .before .before .before .shared-slice-known .given in
       omega arith
 
   value-same-length-2 : value-lts.Need-same-length-2 (value-calls t) (value-at t) value.Post
@@ -196,12 +193,12 @@ module _ (t : ℕ) where
 
   value-returns-2 : value-lts.Need-returns-2 (value-calls t) (value-at t) value.Post
   value-returns-2 c =
-      let s = c .before .before .before .before .before .before .before .before .before .before in
+      let s = c .before .before .before .before .before .before .before .before .before in
       let a = s .args in
       let i = s .pre .1 .1 .0 in
       let z = s .pre .1 .1 .1 .1 .1 in
-      let h = c .before .before .before .before .before .if2 .taken in
-      (rw (marker-text (a .layout) (a .width) (a .depth) (now (a .tape)) (a .at) (a .end) i z h) (c .before .before .put-bytes .ensures), rw (marker-length (a .layout) (a .width) (a .depth) (now (a .tape)) (a .at) (a .end) i z h))
+      let h = c .before .before .before .before .if2 .taken in
+      (rw (marker-text (a .layout) (a .width) (a .depth) (now (a .tape)) (a .at) (a .end) i z h) (c .before .before .write-marker .ensures), rw (marker-length (a .layout) (a .width) (a .depth) (now (a .tape)) (a .at) (a .end) i z h))
 
   value-frame-of-requires : value-lts.Need-frame-of-requires (value-calls t) (value-at t) value.Post
   value-frame-of-requires c κs = search needs
@@ -301,4 +298,4 @@ pub +write-nodes+write-value-spec : {M : Type 1} → statement M
 +write-nodes+write-value-spec = close μ-nodes μ-value (λ t. nodes-lts.spec (nodes-calls t) (nodes-at t) nodes.Post Inv μ-loop
     (nodes-returns t) (nodes-loop-holds t) (nodes-write-front-requires t) (nodes-sub-write-value t) (nodes-write-value-requires t) (nodes-write-ending-requires t) (nodes-loop-less t) (nodes-loop-again t) (nodes-same-length t) (nodes-returns-2 t))
     λ t. value-lts.spec (value-calls t) (value-at t) value.Post
-    (value-shared-slice-read-k t) (value-write-leaf-requires t) (value-same-length t) (value-returns t) (value-slice-aggregate-put-bytes t) (value-put-bytes-requires t) (value-add-t28 t) (value-same-length-2 t) (value-returns-2 t) (value-frame-of-requires t) (value-add-start t) (value-add-u32-at t) (value-u32-at-requires t) (value-add-stop t) (value-write-start-requires t) (value-indentation-requires t) (value-write-nodes-requires t) (value-write-close-requires t) (value-same-length-3 t) (value-returns-3 t)
+    (value-shared-slice-read-k t) (value-write-leaf-requires t) (value-same-length t) (value-returns t) (value-write-marker-requires t) (value-add-t25 t) (value-same-length-2 t) (value-returns-2 t) (value-frame-of-requires t) (value-add-start t) (value-add-u32-at t) (value-u32-at-requires t) (value-add-stop t) (value-write-start-requires t) (value-indentation-requires t) (value-write-nodes-requires t) (value-write-close-requires t) (value-same-length-3 t) (value-returns-3 t)
