@@ -148,7 +148,7 @@ takes('xml::"<e a=\'v\'>c</e>"', notes('xml', str_("<e a='v'>c</e>")))
 takes('("hello world!")', sexp(str_('hello world!')))
 out('long strings', "( '''hello '''\n  '''world!'''  )",
     "'''\\\nThe first line of the string.\nThis is the second line of the string,\nand this is the third line.\n'''", "''''''", "'''a''' '''b'''")
-out('a backslash before a line\'s end in quoted text', '"a\\\nb"')
+out('a backslash before a line\'s end in quoted text or a clob', '"a\\\nb"')
 for said, content in (('\\0', '\0'), ('\\a', '\a'), ('\\b', '\b'), ('\\t', '\t'), ('\\n', '\n'), ('\\f', '\f'), ('\\r', '\r'), ('\\v', '\v'),
                       ("\\'", "'"), ('\\?', '?'), ('\\\\', '\\'), ('\\/', '/'), ('\\x41', 'A'), ('\\xe9', 'é'), ('\\u00e9', 'é'),
                       ('\\U0001F4A9', '\U0001f4a9')):
@@ -267,7 +267,7 @@ page('docs/symbols.html, Ion Version Markers')
 takes('$ion_1_0', MARKER)
 takes('$ion_1_0 1 $ion_1_0 2', MARKER, int_(1), MARKER, int_(2))
 takes("'$ion_1_0'", sym('$ion_1_0'))
-out('`$ion_1_0` and its like in a container or annotated', 'annotated::$ion_1_0', '[$ion_1_0]', '($ion_1_0)', '{a: $ion_1_0}', '[$ion_1_1]',
+out('`$ion_1_0` and its like in a container, annotated or as an annotation', 'annotated::$ion_1_0', '[$ion_1_0]', '($ion_1_0)', '{a: $ion_1_0}', '[$ion_1_1]',
     '$ion_1_0::a')
 error('$ion_1234_1', '$ion_1_1', '$ion_2_0')
 takes('$ion_1_0_0', sym('$ion_1_0_0'))

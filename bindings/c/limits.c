@@ -1,4 +1,5 @@
-/* The calls at their limits, from C: every answer at least once, and every byte of the buffer and beside it. Prints what is wrong and ends
+/* The calls at their limits, from C: every answer at least once, and, but for the longest tapes and the
+   deepest, every byte of the buffer and beside it. Prints what is wrong and ends
    with 1, or prints how many calls were checked. bindings/rust/tests has many more. */
 #include "ion.h"
 

@@ -17,8 +17,8 @@ pub enum Refusal {
     TooDeep,
     /// 4: a float is finite and not zero.
     FiniteFloat,
-    /// 5: the tape has no text of this kind. Streaming: it has an annotated value. Tree text: it is not one value, or a symbol identifier
-    /// but 0 stands in it.
+    /// 5: the tape has no text of this kind. Streaming: it has an annotated value. Tree text: it is not one value (but a marker, none or
+    /// several), or a symbol identifier but 0 stands in it.
     Unsuited,
     /// 6: the text is longer than the buffer.
     TextTooLong,

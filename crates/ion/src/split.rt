@@ -31,8 +31,10 @@ fn value_out(tape: &[u8], own: &[u8], spare: &mut [u8], pos: usize) -> bool {
         }
         return false;
     };
-    let e = line::add(spare, output::ahead(pos, n), b"\n");
-    line::emit(spare, e)
+    if line::emit(spare, output::ahead(pos, n)) {
+        return say::emit(b"\n");
+    }
+    false
 }
 
 // A line that is a value, whose tape was read: its kind and its text.

@@ -67,7 +67,7 @@ pub fn first() -> Word {
 
 // What the words do.
 pub fn help(fd: i32) {
-    io::write_all(
+    let whole = io::write_all(
         fd,
         b"use: ion WORD [FILE]
 From a tape, of at most 1,048,576 bytes:
@@ -83,6 +83,9 @@ From an Ion text, of at most 4,200,000 bytes:
 No FILE, or -: standard input. What is refused is said on standard error.
 ",
     );
+    if !whole {
+        os::fail(b"ion: cannot write to standard output");
+    }
 }
 
 // A sentence on how the program was called, and what the words do.

@@ -109,9 +109,10 @@ pub fn add_kind(line: &mut [u8], pos: usize, kind: u8) -> usize
     }
 }
 
-// The first n bytes of a buffer to standard output.
+// The first n bytes of a buffer to standard output: all of them, or a sentence and false.
 pub fn emit(line: &[u8], n: usize) -> bool {
     if line.len() < n {
+        crate::say::say(b"ion: a line is longer than the program's buffer\n");
         return false;
     }
     crate::say::emit(&line[0..n])

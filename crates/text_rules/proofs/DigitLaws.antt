@@ -204,7 +204,7 @@ lead (suc k) n p h = go (ltb n 10) refl (lead k (n / 10))
 whole-lead : (c : ℕ) (t : List ℕ) → eqb c 48 ≡ false → whole (c ∷ t) ≡ true
 unfolding whole
 whole-lead c [] h = refl
-whole-lead c (d ∷ t) h = rw h
+whole-lead c (d ∷ t) h = cc
 
 pub whole-digits : (n : ℕ) → n < 2 ^ 64 → whole (digits n) ≡ true
 unfolding digits count pad whole
