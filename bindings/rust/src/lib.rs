@@ -245,3 +245,8 @@ impl Iterator for Lines<'_> {
 }
 
 impl FusedIterator for Lines<'_> {}
+
+// The README's example runs as a test.
+#[cfg(doctest)]
+#[doc = include_str!("../README.md")]
+struct Readme;
