@@ -250,13 +250,22 @@ fn is_plain(b: u8, q: u8) -> bool
     b != q
 }
 
-// The end of the plain bytes at a place.
+// Where the looking for plain bytes stops at the latest: what was looked at is copied while it is near.
+fn block_end(at: usize, end: usize) -> usize
+    requires { ⌜ at ≤ end ⌝ }
+    ensures { λ r. ⌜ r ≤ end ⌝ }
+{
+    if end - at <= 4096 { end } else { at + 4096 }
+}
+
+// The end of the plain bytes at a place, or of those in its block.
 fn plain_end(text: &[u8], at: usize, q: u8) -> usize
     requires { ⌜ at ≤ length (now text) ⌝ }
     ensures { λ r. ⌜ RunTo (isPlain q) (now (text .entry)) at r ⌝ }
 {
+    let stop = block_end(at, text.len());
     let mut i = at;
-    while i < text.len() {
+    while i < stop {
         if !is_plain(text[i], q) {
             return i;
         }
@@ -356,13 +365,14 @@ fn is_plain_byte(b: u8) -> bool
     b != b'"'
 }
 
-// The end of the plain bytes at a place.
+// The end of the plain bytes at a place, or of those in its block.
 fn plain_bytes_end(text: &[u8], at: usize) -> usize
     requires { ⌜ at ≤ length (now text) ⌝ }
     ensures { λ r. ⌜ RunTo isPlainByte (now (text .entry)) at r ⌝ }
 {
+    let stop = block_end(at, text.len());
     let mut i = at;
-    while i < text.len() {
+    while i < stop {
         if !is_plain_byte(text[i]) {
             return i;
         }
