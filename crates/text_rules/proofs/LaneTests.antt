@@ -9,8 +9,9 @@ use native.Mathlib.Omega.{arith}
 use lib.Arith.{mod-mul}
 use lib.Bits.{bitAnd, bitOr, bitXor}
 use lib.Dec.{eqb, ltb, leb}
-use lib.ListN.{length}
-use borrow.Author.Tests.{ltb-true, not-true, lt-ltb}
+use lib.ListN.{length, take, drop, take-append-drop, length-drop}
+use lib.Seq.{drop-drop, take-all}
+use borrow.Author.Tests.{ltb-true, not-true, eq-eqb}
 use Rattle.output.specs.Logic.{if, on, byte, ascii}
 use Rattle.output.specs.Wrote.{leBytes}
 use Rattle.output.proofs.Laws.{length-le}
@@ -20,9 +21,9 @@ use Rattle.text_rules.specs.Utf8.{charAt, after, valid}
 use Rattle.text_rules.specs.Escapes.{hasLetter, textEscape, textBody}
 use Rattle.text_rules.specs.Words.{isStart, isPart, behind, isKeyword, resemblesSymbolId, resemblesVersionMarker, isIdentifier}
 use Rattle.text_rules.specs.WordSteps.{isBare, allPart}
-use Rattle.text_rules.specs.Lanes.{low, equalMark, letterMark, digitMark, rawMark, every}
+use Rattle.text_rules.specs.Lanes.{rep, equalMark, letterMark, digitMark, rawMark, every}
 use Rattle.text_rules.proofs.Table.{same as agree}
-use Rattle.text_rules.proofs.LaneLaws.{two-digits}
+use Rattle.text_rules.proofs.LaneLaws.{two-digits, lane-self, unmarked}
 use Rattle.text_rules.proofs.Utf8Chars.{ascii as one-byte}
 use Rattle.text_rules.proofs.WordsLaws.{same-long}
 use Rattle.text_rules.proofs.DigitLaws.{never}
@@ -51,6 +52,33 @@ ascii-front (b ∷ s) t h =
 pub ascii-all : (s : List ℕ) → every isAscii s ≡ true → valid s ≡ true
 unfolding valid after
 ascii-all s h = ap (after 0) (sym (append-nil s)) ∙ ascii-front s [] h
+
+-- eight bytes of which no high bit is set
+word-ascii : (x : ℕ) → x < 2 ^ 64 → bitAnd x 0x8080808080808080 ≡ 0 → every isAscii (leBytes 8 x) ≡ true
+unfolding rep
+word-ascii x h e = sym (unmarked isAscii 8 (lane-self x h) ascii-test (omega arith)) ∙ eq-eqb (bitAnd x 0x8080808080808080) 0 e
+
+-- a word at a place of which no high bit is set is passed
+pub word-passed : (s : List ℕ) (i x : ℕ) → x < 2 ^ 64 → leBytes 8 x ≡ take 8 (drop i s) → bitAnd x 0x8080808080808080 ≡ 0 → valid (drop i s) ≡ valid (drop (i + 8) s)
+unfolding valid
+word-passed s i x h w e =
+    let a : every isAscii (take 8 (drop i s)) ≡ true = rw w at (word-ascii x h e) in
+    ap (after 0) (sym (take-append-drop 8 (drop i s))) ∙ ascii-front (take 8 (drop i s)) (drop 8 (drop i s)) a ∙ ap (after 0) (drop-drop 8 i s)
+
+every-drop : (p : ℕ → Bool) (k : ℕ) (s : List ℕ) → every p s ≡ true → every p (drop k s) ≡ true
+unfolding every
+every-drop p zero s h = h
+every-drop p (suc k) [] h = h
+every-drop p (suc k) (b ∷ s) h = every-drop p k s (both (p b) (every p s) h .1)
+
+-- where no high bit of the last eight bytes is set, what is left of them is valid
+pub last-word : (s : List ℕ) (i x : ℕ) → 8 ≤ length s → length s < i + 8 → x < 2 ^ 64 → leBytes 8 x ≡ take 8 (drop (length s - 8) s) → bitAnd x 0x8080808080808080 ≡ 0 → valid (drop i s) ≡ true
+last-word s i x l g h w e =
+    let m = length s - 8 in
+    let t : take 8 (drop m s) ≡ drop m s = take-all 8 (drop m s) (omega (arith, length-drop m s)) in
+    let a : every isAscii (drop m s) ≡ true = rw (w ∙ t) at (word-ascii x h e) in
+    let j : m + (i - m) ≡ i = omega arith in
+    ap (λ (u : List ℕ). valid u) (sym (drop-drop (i - m) m s ∙ ap (λ (k : ℕ). drop k s) j)) ∙ ascii-all (drop (i - m) (drop m s)) (every-drop isAscii (i - m) (drop m s) a)
 
 -- ---- bytes that text has raw
 
