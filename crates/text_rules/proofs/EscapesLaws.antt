@@ -26,6 +26,14 @@ or-right a b = omega (arith, or-add-and a b, and-le-l a b)
 pub byte-at : (t : List ℕ) (i : ℕ) → i < length t → drop i t ≡ getD t i 0 ∷ drop (i + 1) t
 byte-at t i h = rw (add-one, drop-cons t i 0 h)
 
+pub escape-short : (b : ℕ) → length (textEscape b) ≤ 2
+unfolding textEscape
+escape-short b = go (hasLetter b || eqb b (byte "'"))
+  where
+    go : (e : Bool) → length (if e (byte "\\" ∷ letterOf b ∷ []) (b ∷ [])) ≤ 2
+    go true = omega arith
+    go false = omega arith
+
 pub body-step : (s : List ℕ) (i : ℕ) → i < length s → textBody (drop i s) ≡ textEscape (getD s i 0) ++ textBody (drop (i + 1) s)
 unfolding textBody
 body-step s i h = rw (byte-at s i h)

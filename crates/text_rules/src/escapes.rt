@@ -4,7 +4,7 @@ ghost use mathlib.Core.Bool.{true, _||_};
 ghost use mathlib.Core.List.{[], _∷_};
 ghost use lib.Dec.{eqb};
 ghost use lib.ListN.{length, drop};
-ghost use Prim.Native.Nat.{_≤_};
+ghost use Prim.Native.Nat.{_+_, _*_, _≤_};
 ghost use Rattle.output.specs.Logic.{byte};
 ghost use Rattle.output.specs.Wrote.{Wrote, limit};
 ghost use Rattle.text_rules.specs.Escapes.{letterOf, hasLetter, EscapeTable, textEscape, textBody};
@@ -281,31 +281,17 @@ pub fn escapes() -> [u8; 256]
 fn letter_of(b: u8) -> u8
     ensures { λ r. ⌜ r ≡ letterOf b ⌝ }
 {
-    if b == 0 {
-        return b'0';
+    match b {
+        0 => b'0',
+        7 => b'a',
+        8 => b'b',
+        9 => b't',
+        10 => b'n',
+        11 => b'v',
+        12 => b'f',
+        13 => b'r',
+        _ => b,
     }
-    if b == 7 {
-        return b'a';
-    }
-    if b == 8 {
-        return b'b';
-    }
-    if b == 9 {
-        return b't';
-    }
-    if b == 10 {
-        return b'n';
-    }
-    if b == 11 {
-        return b'v';
-    }
-    if b == 12 {
-        return b'f';
-    }
-    if b == 13 {
-        return b'r';
-    }
-    b
 }
 
 // A backslash and the letter of b.
@@ -350,8 +336,8 @@ fn put_text_byte(buf: &mut [u8], pos: usize, b: u8) -> usize
     output::put(buf, pos, b)
 }
 
-// The bytes of s one by one.
-fn put_text_escaped(buf: &mut [u8], pos: usize, s: &[u8]) -> usize
+// The bytes of s one by one, as far as there is room.
+fn put_text_clipped(buf: &mut [u8], pos: usize, s: &[u8]) -> usize
     requires { ⌜ pos ≤ limit ⌝ }
     ensures { λ r. ⌜ Wrote (now (buf .entry)) (now (buf .exit)) pos r (textBody (now (s .entry))) ⌝ }
 {
@@ -362,6 +348,47 @@ fn put_text_escaped(buf: &mut [u8], pos: usize, s: &[u8]) -> usize
         i += 1;
     }
     p
+}
+
+// One byte of text, where there is room for two.
+fn store_text_byte(buf: &mut [u8], pos: usize, b: u8) -> usize
+    requires { ⌜ pos + 2 ≤ length (now buf) ⌝ }
+    ensures { λ r. ⌜ Wrote (now (buf .entry)) (now (buf .exit)) pos r (textEscape b) ⌝ }
+{
+    if is_escaped(b) {
+        buf[pos] = b'\\';
+        buf[pos + 1] = letter_of(b);
+        return pos + 2;
+    }
+    buf[pos] = b;
+    pos + 1
+}
+
+// The bytes of s one by one, where there is room for two of each: nothing is asked of the buffer.
+fn store_text(buf: &mut [u8], pos: usize, s: &[u8]) -> usize
+    requires { ⌜ pos + 2 * length (now s) ≤ length (now buf) ⌝ }
+    ensures { λ r. ⌜ Wrote (now (buf .entry)) (now (buf .exit)) pos r (textBody (now (s .entry))) ⌝ }
+{
+    let mut p = pos;
+    let mut i = 0;
+    while i < s.len() {
+        p = store_text_byte(buf, p, s[i]);
+        i += 1;
+    }
+    p
+}
+
+// The bytes of s one by one.
+fn put_text_escaped(buf: &mut [u8], pos: usize, s: &[u8]) -> usize
+    requires { ⌜ pos ≤ limit ⌝ }
+    ensures { λ r. ⌜ Wrote (now (buf .entry)) (now (buf .exit)) pos r (textBody (now (s .entry))) ⌝ }
+{
+    if pos <= buf.len() {
+        if s.len() <= (buf.len() - pos) / 2 {
+            return store_text(buf, pos, s);
+        }
+    }
+    put_text_clipped(buf, pos, s)
 }
 
 // 0 only for a byte that is raw in text. It says 1 of every control character, which keeps the test short.
