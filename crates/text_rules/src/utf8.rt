@@ -202,18 +202,16 @@ fn valid_chars(s: &[u8], from: usize) -> bool
     true
 }
 
-// The same by words of eight bytes first, and the last eight again.
+// The same of eight bytes at least, by words of eight first, and the last eight again.
 fn valid_from(s: &[u8], from: usize) -> bool
-    requires { ⌜ from ≤ length (now s) ⌝ }
+    requires { ⌜ (from ≤ length (now s)) × (8 ≤ length (now s)) ⌝ }
     ensures { λ r. ⌜ r ≡ valid (drop from (now (s .entry))) ⌝ }
 {
     let n = s.len();
     let i = ascii_words(s, from);
     if n < i + 8 {
-        if 8 <= n {
-            if output::word_at(s, n - 8) & 0x8080808080808080 == 0 {
-                return true;
-            }
+        if output::word_at(s, n - 8) & 0x8080808080808080 == 0 {
+            return true;
         }
     }
     valid_chars(s, i)
@@ -223,7 +221,14 @@ fn valid_from(s: &[u8], from: usize) -> bool
 pub fn valid_utf8(s: &[u8]) -> bool
     ensures { λ r. ⌜ r ≡ valid (now (s .entry)) ⌝ }
 {
-    let m = s.len() / 32 * 32;
+    let n = s.len();
+    if n < 8 {
+        if or_first(s, n) < 0x80 {
+            return true;
+        }
+        return valid_chars(s, 0);
+    }
+    let m = n / 32 * 32;
     if or_first(s, m) < 0x80 {
         return valid_from(s, m);
     }
