@@ -1,9 +1,10 @@
 // Escapes, written: the table of escape kinds, and the body of quoted text and strings.
 ghost use mathlib.Core.Path.{_≡_};
-ghost use mathlib.Core.Bool.{_||_};
+ghost use mathlib.Core.Bool.{true, _||_};
 ghost use mathlib.Core.List.{[], _∷_};
 ghost use lib.Dec.{eqb};
-ghost use Prim.Native.Nat.{_≤_};
+ghost use lib.ListN.{length, drop};
+ghost use Prim.Native.Nat.{_+_, _*_, _≤_};
 ghost use Rattle.output.specs.Logic.{byte};
 ghost use Rattle.output.specs.Wrote.{Wrote, limit};
 ghost use Rattle.text_rules.specs.Escapes.{letterOf, hasLetter, EscapeTable, textEscape, textBody};
@@ -280,31 +281,17 @@ pub fn escapes() -> [u8; 256]
 fn letter_of(b: u8) -> u8
     ensures { λ r. ⌜ r ≡ letterOf b ⌝ }
 {
-    if b == 0 {
-        return b'0';
+    match b {
+        0 => b'0',
+        7 => b'a',
+        8 => b'b',
+        9 => b't',
+        10 => b'n',
+        11 => b'v',
+        12 => b'f',
+        13 => b'r',
+        _ => b,
     }
-    if b == 7 {
-        return b'a';
-    }
-    if b == 8 {
-        return b'b';
-    }
-    if b == 9 {
-        return b't';
-    }
-    if b == 10 {
-        return b'n';
-    }
-    if b == 11 {
-        return b'v';
-    }
-    if b == 12 {
-        return b'f';
-    }
-    if b == 13 {
-        return b'r';
-    }
-    b
 }
 
 // A backslash and the letter of b.
@@ -349,8 +336,8 @@ fn put_text_byte(buf: &mut [u8], pos: usize, b: u8) -> usize
     output::put(buf, pos, b)
 }
 
-// The bytes of s one by one.
-fn put_text_escaped(buf: &mut [u8], pos: usize, s: &[u8]) -> usize
+// The bytes of s one by one, as far as there is room.
+fn put_text_clipped(buf: &mut [u8], pos: usize, s: &[u8]) -> usize
     requires { ⌜ pos ≤ limit ⌝ }
     ensures { λ r. ⌜ Wrote (now (buf .entry)) (now (buf .exit)) pos r (textBody (now (s .entry))) ⌝ }
 {
@@ -361,6 +348,47 @@ fn put_text_escaped(buf: &mut [u8], pos: usize, s: &[u8]) -> usize
         i += 1;
     }
     p
+}
+
+// One byte of text, where there is room for two.
+fn store_text_byte(buf: &mut [u8], pos: usize, b: u8) -> usize
+    requires { ⌜ pos + 2 ≤ length (now buf) ⌝ }
+    ensures { λ r. ⌜ Wrote (now (buf .entry)) (now (buf .exit)) pos r (textEscape b) ⌝ }
+{
+    if is_escaped(b) {
+        buf[pos] = b'\\';
+        buf[pos + 1] = letter_of(b);
+        return pos + 2;
+    }
+    buf[pos] = b;
+    pos + 1
+}
+
+// The bytes of s one by one, where there is room for two of each: nothing is asked of the buffer.
+fn store_text(buf: &mut [u8], pos: usize, s: &[u8]) -> usize
+    requires { ⌜ pos + 2 * length (now s) ≤ length (now buf) ⌝ }
+    ensures { λ r. ⌜ Wrote (now (buf .entry)) (now (buf .exit)) pos r (textBody (now (s .entry))) ⌝ }
+{
+    let mut p = pos;
+    let mut i = 0;
+    while i < s.len() {
+        p = store_text_byte(buf, p, s[i]);
+        i += 1;
+    }
+    p
+}
+
+// The bytes of s one by one.
+fn put_text_escaped(buf: &mut [u8], pos: usize, s: &[u8]) -> usize
+    requires { ⌜ pos ≤ limit ⌝ }
+    ensures { λ r. ⌜ Wrote (now (buf .entry)) (now (buf .exit)) pos r (textBody (now (s .entry))) ⌝ }
+{
+    if pos <= buf.len() {
+        if s.len() <= (buf.len() - pos) / 2 {
+            return store_text(buf, pos, s);
+        }
+    }
+    put_text_clipped(buf, pos, s)
 }
 
 // 0 only for a byte that is raw in text. It says 1 of every control character, which keeps the test short.
@@ -382,17 +410,53 @@ fn suspect(b: u8) -> u8
     0
 }
 
-// 0 only where no byte needs an escape. There is no way out of the loop, so that the compiler makes it a vector loop.
-fn any_suspect(s: &[u8]) -> u8
-    ensures { λ r. ⌜ (r ≡ 0 → textBody (now (s .entry)) ≡ now (s .entry)) ⌝ }
+// 0 only where none of the first m bytes needs an escape. There is no way out of the loop, so that the compiler makes it a vector loop.
+fn any_suspect(s: &[u8], m: usize) -> u8
+    requires { ⌜ m ≤ length (now s) ⌝ }
+    ensures { λ r. ⌜ (r ≡ 0 → textBody (drop m (now (s .entry))) ≡ drop m (now (s .entry)) → textBody (now (s .entry)) ≡ now (s .entry)) ⌝ }
 {
     let mut n = 0;
     let mut i = 0;
-    while i < s.len() {
+    while i < m {
         n = n | suspect(s[i]);
         i += 1;
     }
     n
+}
+
+// No byte needs an escape, one after the other.
+fn raw_bytes(s: &[u8]) -> bool
+    ensures { λ r. ⌜ (r ≡ true → textBody (now (s .entry)) ≡ now (s .entry)) ⌝ }
+{
+    let mut i = 0;
+    while i < s.len() {
+        if suspect(s[i]) != 0 {
+            return false;
+        }
+        i += 1;
+    }
+    true
+}
+
+// No byte needs an escape: many at a time, then words of eight, and the last eight again. It may say no too often, never yes.
+fn is_raw(s: &[u8]) -> bool
+    ensures { λ r. ⌜ (r ≡ true → textBody (now (s .entry)) ≡ now (s .entry)) ⌝ }
+{
+    let n = s.len();
+    if n < 8 {
+        return raw_bytes(s);
+    }
+    let mut i = n / 32 * 32;
+    if any_suspect(s, i) != 0 {
+        return false;
+    }
+    while i + 8 < n {
+        if !crate::lanes::is_raw_word(output::word_at(s, i), 8) {
+            return false;
+        }
+        i += 8;
+    }
+    crate::lanes::is_raw_word(output::word_at(s, n - 8), 8)
 }
 
 // The body of quoted text and strings: NUL, 7 to 13, the backslash and both quote marks escaped, other characters raw.
@@ -400,7 +464,7 @@ pub fn format_escaped_text_body(buf: &mut [u8], pos: usize, s: &[u8]) -> usize
     requires { ⌜ pos ≤ limit ⌝ }
     ensures { λ r. ⌜ Wrote (now (buf .entry)) (now (buf .exit)) pos r (textBody (now (s .entry))) ⌝ }
 {
-    if any_suspect(s) == 0 {
+    if is_raw(s) {
         return output::put_bytes(buf, pos, s);
     }
     put_text_escaped(buf, pos, s)

@@ -1,4 +1,4 @@
--- `escapes::put_text_escaped` meets its contract. Assumes nothing.
+-- `escapes::put_text_clipped` meets its contract. Assumes nothing.
 use Prim.Native.Nat.{ℕ, _-_, _≤_, _<_}
 use mathlib.Core.Path.{_≡_, ap, _∙_}
 use mathlib.Core.List.{List, []}
@@ -8,8 +8,8 @@ use Rattle.output.proofs.Laws.{Progress, start, more, finish, wrote-length, wro
 use Rattle.text_rules.specs.Escapes.{textBody}
 use Rattle.text_rules.proofs.EscapesLaws.{body-step}
 use borrow.Author.Needs.{needs}
-use Rattle.text_rules.proofs.escapes.put_text_escaped.Statement.{statement}
-use Rattle.text_rules.proofs.escapes.put_text_escaped.Tie as tie
+use Rattle.text_rules.proofs.escapes.put_text_clipped.Statement.{statement}
+use Rattle.text_rules.proofs.escapes.put_text_clipped.Tie as tie
 
 abbrev Inv-loop : tie.InvT-loop
 Inv-loop buf₀ pos s p₀ i₀ buf p i = (i ≤ length s) × Progress buf₀ buf pos p (textBody s) (textBody (drop i s))
@@ -50,8 +50,8 @@ returns c =
     let e : drop (l .i) s ≡ [] = drop-of-length-le s {i = l .i} (omega arith) in
     finish (l .inv .1) (rw e)
 
-pub put-text-escaped-spec : {M : Type 1} → statement M
-put-text-escaped-spec =
+pub put-text-clipped-spec : {M : Type 1} → statement M
+put-text-clipped-spec =
     tie.close
     (tie.spec
     Inv-loop
