@@ -21,7 +21,7 @@ use Rattle.text_rules.specs.Digits.{isDigit}
 use Rattle.text_rules.specs.Utf8.{charAt, after, valid}
 use Rattle.text_rules.specs.Escapes.{hasLetter, textEscape, textBody}
 use Rattle.text_rules.specs.Words.{isStart, isPart, behind, isKeyword, resemblesSymbolId, resemblesVersionMarker, isIdentifier}
-use Rattle.text_rules.specs.WordSteps.{isBare, allPart}
+use Rattle.text_rules.specs.WordSteps.{isName, isBare, allPart}
 use Rattle.text_rules.specs.Text.{symbolText}
 use Rattle.text_rules.specs.Lanes.{Lane, rep, equalMark, letterMark, digitMark, rawMark, every}
 use Rattle.text_rules.proofs.Table.{same as agree}
@@ -116,16 +116,13 @@ every-part (b ∷ s) = go (isPart b) (every-part s)
     go false e = refl
 
 -- letters and `_`
-abbrev pub isName : ℕ → Bool
-isName b = isStart b && not (eqb b (byte "$"))
-
 pub name-test : (b : ℕ) → b < 256 → eqb (bitAnd (bitOr (0xFF - letterMark b) b) 128) 0 ≡ isName b
-unfolding isStart
+unfolding isName isStart
 name-test = agree (λ b. eqb (bitAnd (bitOr (0xFF - letterMark b) b) 128) 0) isName 256 refl
 
 -- an identifier's byte with the mark of a letter or `_`
 start-test : (b : ℕ) → b < 256 → isPart b && not (eqb (bitAnd (letterMark b) 128) 0) ≡ isName b
-unfolding isPart isStart isDigit
+unfolding isPart isName isStart isDigit
 start-test = agree (λ b. isPart b && not (eqb (bitAnd (letterMark b) 128) 0)) isName 256 refl
 
 part-first : (b : ℕ) (s : List ℕ) → allPart (b ∷ s) ≡ true → (isPart b ≡ true) × (allPart s ≡ true)
@@ -134,7 +131,7 @@ part-first b s h =
     both (isPart b) (allPart s) p
 
 names-part : (s : List ℕ) → every isName s ≡ true → allPart s ≡ true
-unfolding allPart behind every isPart
+unfolding allPart behind every isPart isName
 names-part [] h = refl
 names-part (b ∷ s) h =
     let p = both (isName b) (every isName s) h in
@@ -143,7 +140,7 @@ names-part (b ∷ s) h =
 
 -- an identifier that starts with no `$` and is no keyword is bare
 pub name-bare : (b : ℕ) (s : List ℕ) → isName b ≡ true → allPart s ≡ true → isKeyword (b ∷ s) ≡ false → isBare (b ∷ s) ≡ true
-unfolding isBare isIdentifier resemblesSymbolId resemblesVersionMarker starts strip allPart
+unfolding isBare isIdentifier resemblesSymbolId resemblesVersionMarker starts strip allPart isName
 name-bare b s h e k =
     let q = both (isStart b) (not (eqb b (byte "$"))) h in
     rw (q .0, e, k, not-true (eqb b (byte "$")) (q .1))
@@ -156,20 +153,26 @@ names-bare (b ∷ s) l h k =
     name-bare b s (p .0) (names-part s (p .1)) k
 
 -- the mark of the lowest byte
-pub first-name : (x v n : ℕ) → 1 ≤ n → Lane letterMark x v → allPart (leBytes n x) ≡ true → (bitAnd v 128 ≡ 0 → ⊥) → isKeyword (leBytes n x) ≡ false → isBare (leBytes n x) ≡ true
-unfolding rep every leBytes allPart behind
-first-name x v zero l a p e k = absurd (omega arith)
-first-name x v (suc n) l a p e k =
+pub first-name : (x v : ℕ) → Lane letterMark x v → (bitAnd v 128 ≡ 0 → ⊥) → isPart (x % 256) ≡ true → isName (x % 256) ≡ true
+unfolding rep every leBytes
+first-name x v a e p =
     let b = x % 256 in
     let m : ℕ → Bool = λ c. eqb (bitAnd (letterMark c) 128) 0 in
     let t : every m (leBytes 1 x) ≡ false = sym (unmarked m 1 a (λ c h. refl) (omega arith)) ∙ ne-eqb (bitAnd v 128) 0 e in
     let g : m b ≡ false = first (m b) t in
-    let q = part-first b (leBytes n (x / 256)) p in
-    name-bare b (leBytes n (x / 256)) (sym (start-test b (omega arith)) ∙ rw (q .0, g)) (q .1) k
+    sym (start-test b (omega arith)) ∙ rw (p, g)
   where
     first : (c : Bool) → c && true ≡ false → c ≡ false
     first true h = h
     first false h = refl
+
+-- the lowest bytes are an identifier that starts with such a byte
+pub word-bare : (n x : ℕ) → 1 ≤ n → allPart (leBytes n x) ≡ true → (isPart (x % 256) ≡ true → isName (x % 256) ≡ true) → isKeyword (leBytes n x) ≡ false → isBare (leBytes n x) ≡ true
+unfolding leBytes
+word-bare zero x l p h k = absurd (omega arith)
+word-bare (suc n) x l p h k =
+    let q = part-first (x % 256) (leBytes n (x / 256)) p in
+    name-bare (x % 256) (leBytes n (x / 256)) (h (q .0)) (q .1) k
 
 -- a text that is no identifier, or is a keyword, is not bare
 pub identifier-part : (s : List ℕ) → isIdentifier s ≡ true → allPart s ≡ true

@@ -9,7 +9,7 @@ use lib.ListN.{length, take, drop}
 use Rattle.output.specs.Logic.{if, byte}
 use Rattle.text_rules.specs.Texts.{empty, strip}
 use Rattle.text_rules.specs.Digits.{past}
-use Rattle.text_rules.specs.Words.{isKeyword, resemblesSymbolId, resemblesVersionMarker, isIdentifier, word, behind, kindOf}
+use Rattle.text_rules.specs.Words.{isStart, isKeyword, resemblesSymbolId, resemblesVersionMarker, isIdentifier, word, behind, kindOf}
 use Rattle.text_rules.specs.declared.words.Word.{Word}
 use Rattle.text_rules.specs.declared.words.Kind.{Kind}
 use Rattle.text_rules.specs.declared.words.Kind.the-variants.{Number, Refused}
@@ -55,3 +55,7 @@ isBare s = isIdentifier s && (not (isKeyword s) && (not (resemblesSymbolId s) &&
 -- every byte is one of an identifier
 unfoldable pub allPart : List ℕ → Bool
 allPart s = empty (behind s)
+
+-- a letter or `_`: the first byte of most names
+unfoldable pub isName : ℕ → Bool
+isName c = isStart c && not (eqb c (byte "$"))

@@ -1,15 +1,13 @@
 // Tests of the bytes of a word side by side: up to eight bytes at once, the lowest first. A mark is the high bit of a byte's place. Each test
 // may say no too often, never yes too often, unless it says otherwise.
-ghost use Prim.Native.Nat.{_≤_};
+ghost use Prim.Native.Nat.{_%_, _≤_};
 ghost use mathlib.Core.Path.{_≡_};
 ghost use mathlib.Core.Bool.{true};
-ghost use mathlib.Core.List.{[], _∷_, _++_};
-ghost use Rattle.output.specs.Logic.{byte};
 ghost use Rattle.output.specs.Wrote.{leBytes};
 ghost use Rattle.text_rules.specs.Lanes.{rep, Lane, letterMark, digitMark, equalMark};
 ghost use Rattle.text_rules.specs.Utf8.{valid};
-ghost use Rattle.text_rules.specs.Words.{isKeyword};
-ghost use Rattle.text_rules.specs.WordSteps.{allPart};
+ghost use Rattle.text_rules.specs.Words.{isPart, isKeyword};
+ghost use Rattle.text_rules.specs.WordSteps.{isName, allPart};
 ghost use Rattle.text_rules.specs.Escapes.{textBody};
 ghost use Rattle.text_rules.specs.Text.{symbolText};
 
@@ -105,30 +103,9 @@ pub fn is_identifier_word(x: u64, n: usize) -> bool
     (!m | x) & high_bits(n) == 0
 }
 
-// As a symbol the n lowest bytes stand bare: an identifier that starts with no `$`, and no keyword.
-pub fn is_bare_word(x: u64, n: usize) -> bool
-    requires { ⌜ (1 ≤ n) × (n ≤ 8) ⌝ }
-    ensures { λ r. ⌜ (r ≡ true → symbolText (leBytes n x) ≡ leBytes n x) ⌝ }
+// Of a lowest byte that is one of an identifier: a letter or `_`.
+pub fn starts_with_letter(x: u64) -> bool
+    ensures { λ r. ⌜ (r ≡ true → isPart (x % 256) ≡ true → isName (x % 256) ≡ true) ⌝ }
 {
-    if !is_identifier_word(x, n) {
-        return false;
-    }
-    if letters(x) & 0x80 == 0 {
-        return false;
-    }
-    !is_keyword_word(x, n)
-}
-
-// As a symbol the n lowest bytes are quoted as they are: a keyword, or no identifier and nothing to escape.
-pub fn is_quoted_word(x: u64, n: usize) -> bool
-    requires { ⌜ (1 ≤ n) × (n ≤ 8) ⌝ }
-    ensures { λ r. ⌜ (r ≡ true → symbolText (leBytes n x) ≡ byte "'" ∷ (leBytes n x ++ (byte "'" ∷ []))) ⌝ }
-{
-    if is_keyword_word(x, n) {
-        return true;
-    }
-    if is_identifier_word(x, n) {
-        return false;
-    }
-    is_raw_word(x, n)
+    letters(x) & 0x80 != 0
 }

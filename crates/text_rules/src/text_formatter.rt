@@ -214,11 +214,17 @@ pub fn format_symbol_at(buf: &mut [u8], pos: usize, s: &[u8], from: usize, n: us
         if n <= 8 {
             if from + 8 <= s.len() {
                 let x = output::word_at(s, from);
-                if crate::lanes::is_bare_word(x, n) {
-                    return output::put_le(buf, pos, x, n);
-                }
-                if crate::lanes::is_quoted_word(x, n) {
+                if crate::lanes::is_keyword_word(x, n) {
                     return put_quoted_word(buf, pos, x, n);
+                }
+                if crate::lanes::is_identifier_word(x, n) {
+                    if crate::lanes::starts_with_letter(x) {
+                        return output::put_le(buf, pos, x, n);
+                    }
+                } else {
+                    if crate::lanes::is_raw_word(x, n) {
+                        return put_quoted_word(buf, pos, x, n);
+                    }
                 }
             }
         }

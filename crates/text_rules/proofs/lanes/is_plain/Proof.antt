@@ -8,9 +8,10 @@ use lib.ListN.{length}
 use Rattle.output.specs.Wrote.{leBytes}
 use Rattle.output.proofs.Laws.{length-le}
 use Rattle.text_rules.specs.Lanes.{every}
+use Rattle.text_rules.specs.WordSteps.{isName}
 use Rattle.text_rules.proofs.DigitLaws.{never}
 use Rattle.text_rules.proofs.LaneLaws.{lane-self, lane-or, lane-not, unmarked}
-use Rattle.text_rules.proofs.LaneTests.{isName, name-test, names-bare}
+use Rattle.text_rules.proofs.LaneTests.{name-test, names-bare}
 use Rattle.text_rules.proofs.SymbolsText.{symbol-bare}
 use borrow.Author.Needs.{needs}
 use Rattle.text_rules.proofs.lanes.is_plain.Statement.{statement}
