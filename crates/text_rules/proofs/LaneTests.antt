@@ -10,22 +10,25 @@ use lib.Arith.{mod-mul}
 use lib.Bits.{bitAnd, bitOr, bitXor}
 use lib.Dec.{eqb, ltb, leb}
 use lib.ListN.{length, take, drop, take-append-drop, length-drop}
-use lib.Seq.{drop-drop, take-all}
-use borrow.Author.Tests.{ltb-true, not-true, eq-eqb}
+use lib.Seq.{drop-drop, take-all, take-take}
+use borrow.Author.Tests.{ltb-true, not-true, eq-eqb, ne-eqb}
 use Rattle.output.specs.Logic.{if, on, byte, ascii}
 use Rattle.output.specs.Wrote.{leBytes}
 use Rattle.output.proofs.Laws.{length-le}
+use Rattle.output.proofs.Words.{take-le}
 use Rattle.text_rules.specs.Texts.{empty, starts, strip, same}
 use Rattle.text_rules.specs.Digits.{isDigit}
 use Rattle.text_rules.specs.Utf8.{charAt, after, valid}
 use Rattle.text_rules.specs.Escapes.{hasLetter, textEscape, textBody}
 use Rattle.text_rules.specs.Words.{isStart, isPart, behind, isKeyword, resemblesSymbolId, resemblesVersionMarker, isIdentifier}
 use Rattle.text_rules.specs.WordSteps.{isBare, allPart}
-use Rattle.text_rules.specs.Lanes.{rep, equalMark, letterMark, digitMark, rawMark, every}
+use Rattle.text_rules.specs.Text.{symbolText}
+use Rattle.text_rules.specs.Lanes.{Lane, rep, equalMark, letterMark, digitMark, rawMark, every}
 use Rattle.text_rules.proofs.Table.{same as agree}
 use Rattle.text_rules.proofs.LaneLaws.{two-digits, lane-self, unmarked}
+use Rattle.text_rules.proofs.SymbolsText.{symbol-marked}
 use Rattle.text_rules.proofs.Utf8Chars.{ascii as one-byte}
-use Rattle.text_rules.proofs.WordsLaws.{same-long}
+use Rattle.text_rules.proofs.WordsLaws.{same-long, same-is}
 use Rattle.text_rules.proofs.DigitLaws.{never}
 
 both : (a b : Bool) → (a && b) ≡ true → (a ≡ true) × (b ≡ true)
@@ -120,6 +123,16 @@ pub name-test : (b : ℕ) → b < 256 → eqb (bitAnd (bitOr (0xFF - letterMark 
 unfolding isStart
 name-test = agree (λ b. eqb (bitAnd (bitOr (0xFF - letterMark b) b) 128) 0) isName 256 refl
 
+-- an identifier's byte with the mark of a letter or `_`
+start-test : (b : ℕ) → b < 256 → isPart b && not (eqb (bitAnd (letterMark b) 128) 0) ≡ isName b
+unfolding isPart isStart isDigit
+start-test = agree (λ b. isPart b && not (eqb (bitAnd (letterMark b) 128) 0)) isName 256 refl
+
+part-first : (b : ℕ) (s : List ℕ) → allPart (b ∷ s) ≡ true → (isPart b ≡ true) × (allPart s ≡ true)
+part-first b s h =
+    let p : isPart b && allPart s ≡ true = ap (λ (e : Bool). isPart b && e) (sym (every-part s)) ∙ unfold every in (every-part (b ∷ s) ∙ h) in
+    both (isPart b) (allPart s) p
+
 names-part : (s : List ℕ) → every isName s ≡ true → allPart s ≡ true
 unfolding allPart behind every isPart
 names-part [] h = refl
@@ -142,7 +155,67 @@ names-bare (b ∷ s) l h k =
     let p = both (isName b) (every isName s) h in
     name-bare b s (p .0) (names-part s (p .1)) k
 
+-- the mark of the lowest byte
+pub first-name : (x v n : ℕ) → 1 ≤ n → Lane letterMark x v → allPart (leBytes n x) ≡ true → (bitAnd v 128 ≡ 0 → ⊥) → isKeyword (leBytes n x) ≡ false → isBare (leBytes n x) ≡ true
+unfolding rep every leBytes allPart behind
+first-name x v zero l a p e k = absurd (omega arith)
+first-name x v (suc n) l a p e k =
+    let b = x % 256 in
+    let m : ℕ → Bool = λ c. eqb (bitAnd (letterMark c) 128) 0 in
+    let t : every m (leBytes 1 x) ≡ false = sym (unmarked m 1 a (λ c h. refl) (omega arith)) ∙ ne-eqb (bitAnd v 128) 0 e in
+    let g : m b ≡ false = first (m b) t in
+    let q = part-first b (leBytes n (x / 256)) p in
+    name-bare b (leBytes n (x / 256)) (sym (start-test b (omega arith)) ∙ rw (q .0, g)) (q .1) k
+  where
+    first : (c : Bool) → c && true ≡ false → c ≡ false
+    first true h = h
+    first false h = refl
+
+-- a text that is no identifier, or is a keyword, is not bare
+pub identifier-part : (s : List ℕ) → isIdentifier s ≡ true → allPart s ≡ true
+unfolding isIdentifier allPart behind isPart
+identifier-part [] h = refl
+identifier-part (c ∷ s) h =
+    let p = both (isStart c) (empty (behind s)) h in
+    rw (p .0) (p .1)
+
+pub other-marked : (s : List ℕ) → allPart s ≡ false → isBare s ≡ false
+unfolding isBare
+other-marked s h = go (isIdentifier s) refl
+  where
+    go : (b : Bool) → isIdentifier s ≡ b → b && (not (isKeyword s) && (not (resemblesSymbolId s) && not (resemblesVersionMarker s))) ≡ false
+    go true e = never (sym (identifier-part s e) ∙ h)
+    go false e = refl
+
+pub keyword-marked : (s : List ℕ) → isKeyword s ≡ true → isBare s ≡ false
+unfolding isBare
+keyword-marked s h = rw h (go (isIdentifier s))
+  where
+    go : (b : Bool) → b && false ≡ false
+    go true = refl
+    go false = refl
+
+-- a text that is not bare and needs no escape, quoted
+pub symbol-quoted : (s : List ℕ) → isBare s ≡ false → textBody s ≡ s → symbolText s ≡ byte "'" ∷ (s ++ (byte "'" ∷ []))
+symbol-quoted s h e = symbol-marked s h ∙ ap (λ (t : List ℕ). byte "'" ∷ (t ++ (byte "'" ∷ []))) e
+
+-- n bytes of a word of eight at a place
+pub word-part : (s : List ℕ) (i n x : ℕ) → n ≤ 8 → leBytes 8 x ≡ take 8 (drop i s) → leBytes n x ≡ take n (drop i s)
+word-part s i n x h e = sym (take-le n 8 x h) ∙ ap (take n) e ∙ take-take n 8 (drop i s) h
+
 -- ---- keywords
+
+-- no byte of a keyword needs an escape
+pub keyword-raw : (s : List ℕ) → isKeyword s ≡ true → textBody s ≡ s
+unfolding isKeyword textBody textEscape hasLetter
+keyword-raw s h = go (same (ascii "true") s) refl (same (ascii "false") s) refl (same (ascii "nan") s) refl (same (ascii "null") s) refl h
+  where
+    go : (a : Bool) → same (ascii "true") s ≡ a → (b : Bool) → same (ascii "false") s ≡ b → (c : Bool) → same (ascii "nan") s ≡ c → (d : Bool) → same (ascii "null") s ≡ d → a || b || c || d ≡ true → textBody s ≡ s
+    go true p b q c r d t e = rw (same-is (ascii "true") s p)
+    go false p true q c r d t e = rw (same-is (ascii "false") s q)
+    go false p false q true r d t e = rw (same-is (ascii "nan") s r)
+    go false p false q false r true t e = rw (same-is (ascii "null") s t)
+    go false p false q false r false t e = never (sym e)
 
 -- a text as a number, the lowest byte first
 unfoldable value : List ℕ → ℕ

@@ -3,6 +3,8 @@
 ghost use Prim.Native.Nat.{_≤_};
 ghost use mathlib.Core.Path.{_≡_};
 ghost use mathlib.Core.Bool.{true};
+ghost use mathlib.Core.List.{[], _∷_, _++_};
+ghost use Rattle.output.specs.Logic.{byte};
 ghost use Rattle.output.specs.Wrote.{leBytes};
 ghost use Rattle.text_rules.specs.Lanes.{rep, Lane, letterMark, digitMark, equalMark};
 ghost use Rattle.text_rules.specs.Utf8.{valid};
@@ -101,4 +103,32 @@ pub fn is_identifier_word(x: u64, n: usize) -> bool
         | (z + 0x5050505050505050) & !(z + 0x4646464646464646)
         | !((z ^ 0x2424242424242424) + 0x7F7F7F7F7F7F7F7F);
     (!m | x) & high_bits(n) == 0
+}
+
+// As a symbol the n lowest bytes stand bare: an identifier that starts with no `$`, and no keyword.
+pub fn is_bare_word(x: u64, n: usize) -> bool
+    requires { ⌜ (1 ≤ n) × (n ≤ 8) ⌝ }
+    ensures { λ r. ⌜ (r ≡ true → symbolText (leBytes n x) ≡ leBytes n x) ⌝ }
+{
+    if !is_identifier_word(x, n) {
+        return false;
+    }
+    if letters(x) & 0x80 == 0 {
+        return false;
+    }
+    !is_keyword_word(x, n)
+}
+
+// As a symbol the n lowest bytes are quoted as they are: a keyword, or no identifier and nothing to escape.
+pub fn is_quoted_word(x: u64, n: usize) -> bool
+    requires { ⌜ (1 ≤ n) × (n ≤ 8) ⌝ }
+    ensures { λ r. ⌜ (r ≡ true → symbolText (leBytes n x) ≡ byte "'" ∷ (leBytes n x ++ (byte "'" ∷ []))) ⌝ }
+{
+    if is_keyword_word(x, n) {
+        return true;
+    }
+    if is_identifier_word(x, n) {
+        return false;
+    }
+    is_raw_word(x, n)
 }
