@@ -6,7 +6,7 @@ ghost use lib.ListN.{length, getD, take, drop};
 ghost use Rattle.output.specs.Wrote.{Wrote, limit};
 ghost use Rattle.tape.specs.Bytes.{part};
 ghost use mathlib.Core.Option.{some};
-ghost use mathlib.Core.Bool.{false};
+ghost use mathlib.Core.Bool.{true, false};
 ghost use lib.Dec.{eqb};
 ghost use mathlib.Core.List.{[]};
 ghost use Rattle.tape.specs.Tape.{past, nameOf, notesOf, headOf, scalarOf, walk};
@@ -16,7 +16,7 @@ ghost use Rattle.output.specs.Logic.{if, ascii};
 ghost use Rattle.writer.specs.Text.{scalarText, nameText, notesText, blanks, closing};
 ghost use Rattle.text_rules.specs.Text.{symbolText, stringText, clobText};
 ghost use Rattle.tape.specs.declared.Frame.the-variants.{Struct};
-ghost use Rattle.writer.specs.Steps.{nameIn, notesIn, taken, front, separating, item, items, nodeAt, sizeAt, problemAt};
+ghost use Rattle.writer.specs.Steps.{nameIn, notesIn, taken, front, separating, Plain, item, items, nodeAt, sizeAt, problemAt};
 use crate::whitespace_config;
 use crate::whitespace_config::Separator;
 use tape::Frame;
@@ -48,9 +48,7 @@ fn write_symbol_text(
     requires { ⌜ end ≤ length (now tape) ⌝ }
     ensures { λ r. ⌜ Wrote (now (buf .entry)) (now (buf .exit)) pos r (symbolText (take n (drop 5 (part (now (tape .entry)) at end)))) ⌝ }
 {
-    let from = at + 5;
-    let to = from + n;
-    text_formatter::format_symbol_token(buf, pos, &tape[from..to])
+    text_formatter::format_symbol_at(buf, pos, tape, at + 5, n)
 }
 
 fn write_string(buf: &mut [u8], pos: usize, tape: &[u8], at: usize, n: usize, end: usize) -> usize
@@ -106,6 +104,21 @@ fn write_colon(buf: &mut [u8], pos: usize) -> usize
     output::put_two(buf, pos, b':', b' ')
 }
 
+// Whether the n bytes of the tape from a place on, in a word of it, are a symbol that stands bare.
+fn plain_at(tape: &[u8], from: usize, n: usize) -> bool
+    requires { ⌜ from + n ≤ length (now tape) ⌝ }
+    ensures { λ r. ⌜ (r ≡ true → Plain (now (tape .entry)) from n) ⌝ }
+{
+    if 1 <= n {
+        if n <= 8 {
+            if from + 8 <= tape.len() {
+                return text_rules::lanes::is_plain(output::word_at(tape, from), n);
+            }
+        }
+    }
+    false
+}
+
 // The symbol at a place, and `: `.
 fn write_name(buf: &mut [u8], pos: usize, tape: &[u8], at: usize, end: usize) -> Step
     requires { ⌜ pos ≤ limit ⌝ }
@@ -115,17 +128,27 @@ fn write_name(buf: &mut [u8], pos: usize, tape: &[u8], at: usize, end: usize) ->
     ensures text { λ r. ⌜ Wrote (now (buf .entry)) (now (buf .exit)) pos (r .pos) (nameText (nameIn Struct (part (now (tape .entry)) at end))) ⌝ }
     ensures place { λ r. ⌜ r .at ≡ at + taken (nameOf Struct (part (now (tape .entry)) at end)) ⌝ }
 {
-    let n = tape::u32_at(tape, at + 1);
+    let i = tape::u32_at(tape, at + 1);
     if tape[at] == 7 {
-        let p = text_formatter::format_symbol_id(buf, pos, n as u32);
+        let p = text_formatter::format_symbol_id(buf, pos, i as u32);
         let q = write_colon(buf, p);
         return Step { pos: q, at: at + 5 };
     }
-    let p = write_symbol_text(buf, pos, tape, at, n as usize, end);
+    let n = i as usize;
+    let from = at + 5;
+    if plain_at(tape, from, n) {
+        let p = output::put_le(buf, pos, output::word_at(tape, from), n);
+        let q = write_colon(buf, p);
+        return Step {
+            pos: q,
+            at: from + n,
+        };
+    }
+    let p = write_symbol_text(buf, pos, tape, at, n, end);
     let q = write_colon(buf, p);
     Step {
         pos: q,
-        at: at + (5 + n as usize),
+        at: from + n,
     }
 }
 
@@ -261,6 +284,32 @@ fn write_ending(buf: &mut [u8], pos: usize, layout: u32, s: Separator, last: boo
     whitespace_config::write_separator(buf, pos, s)
 }
 
+// The symbol at a place, which is text.
+fn write_symbol(buf: &mut [u8], pos: usize, tape: &[u8], at: usize, end: usize) -> Step
+    requires { ⌜ pos ≤ limit ⌝ }
+    requires { ⌜ at ≤ end ⌝ }
+    requires { ⌜ end ≤ length (now tape) ⌝ }
+    requires { ⌜ 0 < taken (scalarOf (part (now tape) at end)) ⌝ }
+    requires { ⌜ getD (now tape) at 0 ≡ 6 ⌝ }
+    ensures text { λ r. ⌜ Wrote (now (buf .entry)) (now (buf .exit)) pos (r .pos) (past (scalarOf (part (now (tape .entry)) at end)) [] (λ s n. scalarText s)) ⌝ }
+    ensures place { λ r. ⌜ r .at ≡ at + taken (scalarOf (part (now (tape .entry)) at end)) ⌝ }
+{
+    let n = tape::u32_at(tape, at + 1) as usize;
+    let from = at + 5;
+    if plain_at(tape, from, n) {
+        let p = output::put_le(buf, pos, output::word_at(tape, from), n);
+        return Step {
+            pos: p,
+            at: from + n,
+        };
+    }
+    let p = write_symbol_text(buf, pos, tape, at, n, end);
+    Step {
+        pos: p,
+        at: from + n,
+    }
+}
+
 // The scalar at a place.
 fn write_leaf(buf: &mut [u8], pos: usize, tape: &[u8], at: usize, end: usize) -> Step
     requires { ⌜ pos ≤ limit ⌝ }
@@ -292,12 +341,7 @@ fn write_leaf(buf: &mut [u8], pos: usize, tape: &[u8], at: usize, end: usize) ->
         };
     }
     if k == 6 {
-        let n = tape::u32_at(tape, at + 1) as usize;
-        let p = write_symbol_text(buf, pos, tape, at, n, end);
-        return Step {
-            pos: p,
-            at: at + (5 + n),
-        };
+        return write_symbol(buf, pos, tape, at, end);
     }
     if k == 8 {
         let n = tape::u32_at(tape, at + 1) as usize;

@@ -13,8 +13,8 @@ use Rattle.tape.specs.Tape.{scalarOf}
 use Rattle.tape.specs.Steps.{placeOf}
 use Rattle.tape.proofs.Reading.{scalar-sound}
 use Rattle.tape.proofs.CodeReading.{place-within}
-use Rattle.writer.specs.Text.{symText, scalarText}
-use Rattle.writer.proofs.Leaves.{leaf-place, int-leaf, decimal-leaf, timestamp-leaf, symbol-leaf, string-leaf}
+use Rattle.writer.specs.Text.{scalarText}
+use Rattle.writer.proofs.Leaves.{leaf-place, int-leaf, decimal-leaf, timestamp-leaf, string-leaf}
 use borrow.Author.Needs.{needs}
 use Rattle.writer.proofs.value_writer.write_leaf.Statement.{statement}
 use Rattle.writer.proofs.value_writer.write_leaf.Tie as tie
@@ -38,8 +38,8 @@ int-of-requires c κs =
 format-integer-requires : tie.Need-format-integer-requires
 format-integer-requires c κs = search needs
 
-add-t24 : tie.Need-add-t24
-add-t24 c = search needs
+add-t22 : tie.Need-add-t22
+add-t22 c = search needs
 
 same-length : tie.Need-same-length
 same-length c = search needs
@@ -84,8 +84,8 @@ shared-slice-read-format-text c =
 format-text-requires : tie.Need-format-text-requires
 format-text-requires c κs = search needs
 
-add-t27 : tie.Need-add-t27
-add-t27 c = search needs
+add-t25 : tie.Need-add-t25
+add-t25 c = search needs
 
 same-length-2 : tie.Need-same-length-2
 same-length-2 c = search needs
@@ -111,8 +111,8 @@ timestamp-of-requires c κs =
 format-requires : tie.Need-format-requires
 format-requires c κs = search needs
 
-add-t34 : tie.Need-add-t34
-add-t34 c = search needs
+add-t32 : tie.Need-add-t32
+add-t32 c = search needs
 
 same-length-3 : tie.Need-same-length-3
 same-length-3 c = search needs
@@ -125,46 +125,22 @@ returns-3 c =
     let q = timestamp-leaf (now (a .tape)) (a .at) (a .end) (s .pre .1 .0) (s .pre .1 .1 .0) (s .pre .1 .1 .1) (c .before .before .before .before .before .if3 .taken) in
     (rw (q .read) (rw (c .before .before .before .timestamp-of .ensures) at (c .before .before .format .ensures)), rw (q .read))
 
-add-u32-at : tie.Need-add-u32-at
-add-u32-at c = search needs
-
-u32-at-requires : tie.Need-u32-at-requires
-u32-at-requires c κs =
-    let s = c .before .before .before .before .before .before .before in
-    let a = s .args in
-    let r = symbol-leaf (now (a .tape)) (a .at) (a .end) (s .pre .1 .0) (s .pre .1 .1 .0) (s .pre .1 .1 .1) _ refl (c .if4 .taken) .room in
-    let k = s .pre .1 .1 .0 in
-    omega arith
-
-write-symbol-text-requires : tie.Need-write-symbol-text-requires
-write-symbol-text-requires c κs =
-    let s = c .before .before .before .before .before .before .before .before .before in
-    let a = s .args in
-    let q = symbol-leaf (now (a .tape)) (a .at) (a .end) (s .pre .1 .0) (s .pre .1 .1 .0) (s .pre .1 .1 .1) _ (c .before .u32-at .ensures .0) (c .before .before .if4 .taken) in
-    (s .pre .0, (q .room, s .pre .1 .1 .0))
-
-add-t36 : tie.Need-add-t36
-add-t36 c = search needs
-
-add-t39 : tie.Need-add-t39
-add-t39 c = search needs
+write-symbol-requires : tie.Need-write-symbol-requires
+write-symbol-requires c κs =
+    let s = c .before .before .before .before .before .before .before .before in
+    (s .pre .0, (s .pre .1 .0, (s .pre .1 .1 .0, (s .pre .1 .1 .1, c .before .if4 .taken))))
 
 same-length-4 : tie.Need-same-length-4
 same-length-4 c = search needs
 
 returns-4 : tie.Need-returns-4
-unfolding scalarText symText
-returns-4 c =
-    let s = c .before .before .before .before .before .before .before .before .before .before .before .before in
-    let a = s .args in
-    let q = symbol-leaf (now (a .tape)) (a .at) (a .end) (s .pre .1 .0) (s .pre .1 .1 .0) (s .pre .1 .1 .1) _ (c .before .before .before .before .u32-at .ensures .0) (c .before .before .before .before .before .if4 .taken) in
-    (rw (q .read) (c .before .before .write-symbol-text .ensures), rw (q .read))
+returns-4 c = c .before .before .write-symbol .ensures
 
-add-u32-at-2 : tie.Need-add-u32-at-2
-add-u32-at-2 c = search needs
+add-u32-at : tie.Need-add-u32-at
+add-u32-at c = search needs
 
-u32-at-requires-2 : tie.Need-u32-at-requires-2
-u32-at-requires-2 c κs =
+u32-at-requires : tie.Need-u32-at-requires
+u32-at-requires c κs =
     let s = c .before .before .before .before .before .before .before .before in
     let a = s .args in
     let r = string-leaf (now (a .tape)) (a .at) (a .end) (s .pre .1 .0) (s .pre .1 .1 .0) (s .pre .1 .1 .1) _ refl (c .if5 .taken) .room in
@@ -175,14 +151,14 @@ write-string-requires : tie.Need-write-string-requires
 write-string-requires c κs =
     let s = c .before .before .before .before .before .before .before .before .before .before in
     let a = s .args in
-    let q = string-leaf (now (a .tape)) (a .at) (a .end) (s .pre .1 .0) (s .pre .1 .1 .0) (s .pre .1 .1 .1) _ (c .before .u32-at2 .ensures .0) (c .before .before .if5 .taken) in
+    let q = string-leaf (now (a .tape)) (a .at) (a .end) (s .pre .1 .0) (s .pre .1 .1 .0) (s .pre .1 .1 .1) _ (c .before .u32-at .ensures .0) (c .before .before .if5 .taken) in
     (s .pre .0, (q .room, s .pre .1 .1 .0))
 
-add-t41 : tie.Need-add-t41
-add-t41 c = search needs
+add-t36 : tie.Need-add-t36
+add-t36 c = search needs
 
-add-t44 : tie.Need-add-t44
-add-t44 c = search needs
+add-t39 : tie.Need-add-t39
+add-t39 c = search needs
 
 same-length-5 : tie.Need-same-length-5
 same-length-5 c = search needs
@@ -192,7 +168,7 @@ unfolding scalarText
 returns-5 c =
     let s = c .before .before .before .before .before .before .before .before .before .before .before .before .before in
     let a = s .args in
-    let q = string-leaf (now (a .tape)) (a .at) (a .end) (s .pre .1 .0) (s .pre .1 .1 .0) (s .pre .1 .1 .1) _ (c .before .before .before .before .u32-at2 .ensures .0) (c .before .before .before .before .before .if5 .taken) in
+    let q = string-leaf (now (a .tape)) (a .at) (a .end) (s .pre .1 .0) (s .pre .1 .1 .0) (s .pre .1 .1 .1) _ (c .before .before .before .before .u32-at .ensures .0) (c .before .before .before .before .before .if5 .taken) in
     (rw (q .read) (c .before .before .write-string .ensures), rw (q .read))
 
 scalar-at-requires : tie.Need-scalar-at-requires
@@ -229,8 +205,8 @@ size-of-requires c κs =
     let l = c .before .before .before .before .before .before .before .before .before .before .before .before .before .before .shared-slice-known .given in
     omega arith
 
-add-t49 : tie.Need-add-t49
-add-t49 c =
+add-t44 : tie.Need-add-t44
+add-t44 c =
     let s = c .before .before .before .before .before .before .before .before .before .before .before .before .before .before .before .before .before in
     let a = s .args in
     let e = sym (rw (c .before .before .before .before .before .before .s .given .1) at (c .before .before .before .before .before .before .before .before .scalar-at .ensures)) in
@@ -257,7 +233,7 @@ write-leaf-spec =
     shared-slice-read-k
     int-of-requires
     format-integer-requires
-    add-t24
+    add-t22
     same-length
     returns
     magnitude-of-requires
@@ -265,26 +241,22 @@ write-leaf-spec =
     add-format-text
     shared-slice-read-format-text
     format-text-requires
-    add-t27
+    add-t25
     same-length-2
     returns-2
     timestamp-of-requires
     format-requires
-    add-t34
+    add-t32
     same-length-3
     returns-3
-    add-u32-at
-    u32-at-requires
-    write-symbol-text-requires
-    add-t36
-    add-t39
+    write-symbol-requires
     same-length-4
     returns-4
-    add-u32-at-2
-    u32-at-requires-2
+    add-u32-at
+    u32-at-requires
     write-string-requires
-    add-t41
-    add-t44
+    add-t36
+    add-t39
     same-length-5
     returns-5
     scalar-at-requires
@@ -293,6 +265,6 @@ write-leaf-spec =
     returns-6
     write-scalar-requires
     size-of-requires
-    add-t49
+    add-t44
     same-length-6
     returns-7)
