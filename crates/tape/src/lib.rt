@@ -187,6 +187,14 @@ fn bool_at(tape: &[u8], at: usize, end: usize) -> Scanned
     }
 }
 
+// The number of the int whose node stands at a place.
+pub fn int_of(tape: &[u8], at: usize) -> i64
+    requires { ⌜ at + 9 ≤ length (now tape) ⌝ }
+    ensures { λ r. ⌜ r ≡ signed 64 (leNumber 8 (drop (at + 1) (now (tape .entry)))) ⌝ }
+{
+    signed64(u64_at(tape, at + 1))
+}
+
 fn int_at(tape: &[u8], at: usize, end: usize) -> Scanned
     requires { ⌜ at ≤ end ⌝ }
     requires { ⌜ end ≤ length (now tape) ⌝ }
@@ -195,7 +203,7 @@ fn int_at(tape: &[u8], at: usize, end: usize) -> Scanned
     if end - at < 9 {
         return Scanned::Bad;
     }
-    Scanned::Is(Scalar::Int(signed64(u64_at(tape, at + 1))))
+    Scanned::Is(Scalar::Int(int_of(tape, at)))
 }
 
 // The float of 64 bits: the one NaN, no other NaN, or the value.
@@ -222,6 +230,21 @@ fn float_at(tape: &[u8], at: usize, end: usize) -> Scanned
     float_of(u64_at(tape, at + 1))
 }
 
+// The magnitude and the exponent of the decimal whose node stands at a place.
+pub fn magnitude_of(tape: &[u8], at: usize) -> u64
+    requires { ⌜ at + 14 ≤ length (now tape) ⌝ }
+    ensures { λ r. ⌜ r ≡ leNumber 8 (drop (at + 2) (now (tape .entry))) ⌝ }
+{
+    u64_at(tape, at + 2)
+}
+
+pub fn exponent_of(tape: &[u8], at: usize) -> i32
+    requires { ⌜ at + 14 ≤ length (now tape) ⌝ }
+    ensures { λ r. ⌜ r ≡ signed 32 (leNumber 4 (drop (at + 10) (now (tape .entry)))) ⌝ }
+{
+    signed32(u32_at(tape, at + 10))
+}
+
 fn decimal_at(tape: &[u8], at: usize, end: usize) -> Scanned
     requires { ⌜ at ≤ end ⌝ }
     requires { ⌜ end ≤ length (now tape) ⌝ }
@@ -234,13 +257,13 @@ fn decimal_at(tape: &[u8], at: usize, end: usize) -> Scanned
     if 1 < s {
         return Scanned::Bad;
     }
-    let m = u64_at(tape, at + 2);
-    let e = signed32(u32_at(tape, at + 10));
+    let m = magnitude_of(tape, at);
+    let e = exponent_of(tape, at);
     Scanned::Is(Scalar::Decimal(s == 1, m, e))
 }
 
 // The fields of the timestamp whose node stands at a place.
-fn timestamp_of(tape: &[u8], at: usize) -> Timestamp
+pub fn timestamp_of(tape: &[u8], at: usize) -> Timestamp
     requires { ⌜ at + 16 ≤ length (now tape) ⌝ }
     ensures { λ r. ⌜ r ≡ timestampAs (drop at (now (tape .entry))) ⌝ }
 {

@@ -17,7 +17,7 @@ use Rattle.tape.specs.declared.Frame.{Frame}
 use Rattle.writer.specs.Text.{scalarText, nameText, notesText, opening, closing, separator, broken, deeper, blanks, text, texts}
 use Rattle.tape.proofs.Parts.{part-length, part-first, part-number, part-inner}
 use Rattle.writer.specs.Steps.{taken, front, ending, isNil, item, items, nodeAt, sizeAt, problemAt}
-use Rattle.writer.proofs.Turning.{OpenHere, some-here, scalar-here, marker-node, marker-size, open-here, turn-here, left-nil}
+use Rattle.writer.proofs.Turning.{OpenHere, some-here, size-some, scalar-here, marker-node, marker-size, open-here, turn-here, left-nil}
 
 -- ---- a turn of the walk
 
@@ -65,6 +65,9 @@ module _ (y w d : ℕ) (s : List ℕ) (at e : ℕ) (i : e ≤ length s) (z : pro
       let k = first-byte in
       let r = scalar-here d (part s at e) z (omega arith) in
       r .size ∙ sym (ap (λ (o : Option (Scalar × ℕ)). taken o) (r .read))
+
+  pub scalar-some : getD s at 0 < 10 → 0 < taken (scalarOf (part s at e))
+  scalar-some h = let n = size-some d (part s at e) z in let q = scalar-size h in omega arith
 
   pub marker-text : getD s at 0 ≡ 14 → item y w (nodeAt d (part s at e)) ≡ ascii "$ion_1_0"
   unfolding item

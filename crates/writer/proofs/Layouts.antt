@@ -1,6 +1,6 @@
 -- What stands between values, from the bytes that the code picks. Assumes nothing.
 use Prim.Native.Nat.{ℕ, _+_, _≤_}
-use mathlib.Core.Path.{_≡_, refl, sym, ap, _∙_}
+use mathlib.Core.Path.{_≡_, refl, ap, _∙_}
 use mathlib.Core.List.{List, [], _∷_}
 use mathlib.Core.Bool.{Bool, true, false}
 use native.Mathlib.Omega.{arith}
@@ -8,6 +8,7 @@ use lib.Dec.{eqb}
 use Rattle.output.specs.Logic.{if, byte, ascii}
 use Rattle.tape.specs.declared.Frame.the-variants.{Top, List as ListF, Sexp, Struct}
 use Rattle.writer.specs.Text.{separator, deeper}
+use Rattle.writer.specs.Steps.{separating}
 
 -- a text with a byte that is picked is one of two texts
 picked : (f : ℕ → List ℕ) (b : Bool) (x y : ℕ) → f (if b x y) ≡ if b (f x) (f y)
@@ -16,23 +17,23 @@ picked f false x y = refl
 
 -- x is the space behind a top-level value
 module _ (y x : ℕ) (e : x ≡ if (eqb y 0) (byte " ") (byte "\n")) where
-  pub separator-top : separator y Top ≡ x ∷ []
-  unfolding separator
-  separator-top = sym (ap (λ (i : ℕ). i ∷ []) e ∙ picked (λ (i : ℕ). i ∷ []) (eqb y 0) (byte " ") (byte "\n"))
+  pub separator-top : separating (record { second = x; pair = false }) ≡ separator y Top
+  unfolding separator separating
+  separator-top = ap (λ (i : ℕ). i ∷ []) e ∙ picked (λ (i : ℕ). i ∷ []) (eqb y 0) (byte " ") (byte "\n")
 
 -- x is the space behind a nested value
 module _ (y x : ℕ) (e : x ≡ if (eqb y 2) (byte "\n") (byte " ")) where
-  pub separator-list : separator y ListF ≡ byte "," ∷ x ∷ []
-  unfolding separator
-  separator-list = sym (ap (λ (i : ℕ). byte "," ∷ i ∷ []) e ∙ picked (λ (i : ℕ). byte "," ∷ i ∷ []) (eqb y 2) (byte "\n") (byte " "))
+  pub separator-list : separating (record { second = x; pair = true }) ≡ separator y ListF
+  unfolding separator separating
+  separator-list = ap (λ (i : ℕ). byte "," ∷ i ∷ []) e ∙ picked (λ (i : ℕ). byte "," ∷ i ∷ []) (eqb y 2) (byte "\n") (byte " ")
 
-  pub separator-sexp : separator y Sexp ≡ x ∷ []
-  unfolding separator
-  separator-sexp = sym (ap (λ (i : ℕ). i ∷ []) e ∙ picked (λ (i : ℕ). i ∷ []) (eqb y 2) (byte "\n") (byte " "))
+  pub separator-sexp : separating (record { second = x; pair = false }) ≡ separator y Sexp
+  unfolding separator separating
+  separator-sexp = ap (λ (i : ℕ). i ∷ []) e ∙ picked (λ (i : ℕ). i ∷ []) (eqb y 2) (byte "\n") (byte " ")
 
-  pub separator-struct : separator y Struct ≡ byte "," ∷ x ∷ []
-  unfolding separator
-  separator-struct = sym (ap (λ (i : ℕ). byte "," ∷ i ∷ []) e ∙ picked (λ (i : ℕ). byte "," ∷ i ∷ []) (eqb y 2) (byte "\n") (byte " "))
+  pub separator-struct : separating (record { second = x; pair = true }) ≡ separator y Struct
+  unfolding separator separating
+  separator-struct = ap (λ (i : ℕ). byte "," ∷ i ∷ []) e ∙ picked (λ (i : ℕ). byte "," ∷ i ∷ []) (eqb y 2) (byte "\n") (byte " ")
 
 -- a level has at most two blanks more than the one above it
 pub deeper-most : (y w : ℕ) → deeper y w ≤ w + 2

@@ -1,5 +1,6 @@
 pub mod Layouts
 pub mod Texts
+pub mod Leaves
 pub mod Notes
 pub mod Turning
 pub mod Items

@@ -1,7 +1,7 @@
 -- The text of annotations and of heads. Assumes nothing.
 use Prim.Native.Nat.{ℕ, zero, suc, _+_, _-_, _<_, _≤_}
 use mathlib.Core.Path.{_≡_, refl, sym, ap, _∙_}
-use mathlib.Core.List.{List, [], _∷_, _++_}
+use mathlib.Core.List.{List, [], _∷_, _++_, append-nil}
 use mathlib.Core.Bool.{Bool, true, false}
 use mathlib.Core.Option.{Option, none, some}
 use native.Mathlib.Omega.{arith}
@@ -16,12 +16,13 @@ use Rattle.tape.specs.Tree.{Head, encodeNotes}
 use Rattle.tape.specs.Tape.{past, kind, lengthOf, textOf, symOf, symsOf, nameOf, notesOf, headOf}
 use Rattle.tape.specs.Steps.{placeOf, headAt}
 use Rattle.tape.specs.declared.Frame.{Frame}
+use Rattle.tape.specs.declared.Place.{Place}
 use Rattle.tape.specs.declared.Place.the-variants.{At}
-use Rattle.tape.proofs.Parts.{part-drop}
+use Rattle.tape.proofs.Parts.{part-drop, part-first}
 use Rattle.tape.proofs.Reading.{if-all, notes-sound}
-use Rattle.tape.proofs.CodeReading.{place-within}
+use Rattle.tape.proofs.CodeReading.{place-within, head-one, notes-none}
 use Rattle.writer.specs.Text.{symText, nameText, notesText, blanks}
-use Rattle.writer.specs.Steps.{nameIn, notesIn, front}
+use Rattle.writer.specs.Steps.{nameIn, notesIn, taken, front}
 use Rattle.writer.proofs.Texts.{name-head}
 
 -- the same was read
@@ -219,3 +220,45 @@ front-parts y w k s at e q v n z =
     let r = place-read (none, []) at v (headOf k (part s at e)) z .1 in
     ap (λ (a : Option Sym). blanks w ++ nameText a ++ if (eqb y 3) (notesText (headAt k (part s at e) .1)) []) (sym (name-head k _ _ _ r))
     ∙ ap (λ (ss : List Sym). blanks w ++ nameText (nameIn k (part s at e)) ++ if (eqb y 3) (notesText ss) []) (sym (notes-head k s at e q _ _ (sym n) r))
+
+-- a head is there, and its name ends at q
+module _ (k : Frame) (s : List ℕ) (at e : ℕ) (r : headOf k (part s at e) ≡ some (headAt k (part s at e), taken (headOf k (part s at e)))) where
+  pub name-there : nameOf k (part s at e) ≡ some (nameIn k (part s at e), taken (nameOf k (part s at e)))
+  unfolding headOf
+  name-there = go (nameOf k (part s at e)) r
+    where
+      go : (o : Option (Option Sym × ℕ)) → past {B = Option (Head × ℕ)} o none (λ a n. past (notesOf (drop n (part s at e))) none (λ ss i. some ((a, ss), n + i))) ≡ some (headAt k (part s at e), taken (headOf k (part s at e)))
+          → o ≡ some (past {B = Option Sym} o none (λ a n. a), taken o)
+      go none r = let y : _≡_ {A = ℕ} 0 1 = cc in absurd (omega arith)
+      go (some (a, n)) r = refl
+
+  module _ (q : ℕ) (y : q ≡ at + taken (nameOf k (part s at e))) where
+    pub name-placed : placeOf at (nameOf k (part s at e)) ≡ At q
+    name-placed = ap (placeOf at) name-there ∙ ap At (sym y)
+
+    pub notes-placed : placeOf q (notesOf (part s q e)) ≡ At (at + taken (headOf k (part s at e)))
+    notes-placed = sym (head-one k s at e q name-placed) ∙ ap (placeOf at) r
+
+    pub name-before : q ≤ at + taken (headOf k (part s at e))
+    name-before = place-read [] q (at + taken (headOf k (part s at e))) (notesOf (part s q e)) notes-placed .0
+
+    module _ (h : q < e) (n : getD s q 0 ≡ 13 → ⊥) where
+      noteless : notesOf (part s q e) ≡ some ([], 0)
+      noteless = notes-none (part s q e) (λ z. n (sym (part-first s q e h) ∙ z))
+
+      pub bare-place : q ≡ at + taken (headOf k (part s at e))
+      bare-place =
+          let z : _≡_ {A = Place} (At (q + 0)) (At (at + taken (headOf k (part s at e)))) = sym (ap (placeOf q) noteless) ∙ notes-placed in
+          let x : q + 0 ≡ at + taken (headOf k (part s at e)) = cc in
+          omega arith
+
+      pub bare-front : (y w : ℕ) → front y w (headAt k (part s at e)) ≡ blanks w ++ nameText (nameIn k (part s at e))
+      unfolding notesText
+      bare-front y w =
+          front-parts y w k s at e q (at + taken (headOf k (part s at e))) name-placed (ap (placeOf at) r)
+          ∙ ap (λ (o : Option (List Sym × ℕ)). blanks w ++ nameText (nameIn k (part s at e)) ++ if (eqb y 3) (notesText (past o [] (λ ss n. ss))) []) noteless
+          ∙ go (eqb y 3)
+        where
+          go : (b : Bool) → blanks w ++ nameText (nameIn k (part s at e)) ++ if b [] [] ≡ blanks w ++ nameText (nameIn k (part s at e))
+          go true = append-nil _
+          go false = append-nil _

@@ -5,7 +5,10 @@ use mathlib.Core.List.{List}
 use mathlib.Core.Option.{Option, none, some}
 use native.Mathlib.Omega.{arith}
 use lib.ListN.{length, take, drop}
-use Rattle.text_rules.specs.Text.{Sym}
+use lib.Seq.{take-take}
+use Rattle.output.specs.Wrote.{leBytes}
+use Rattle.output.proofs.Words.{take-le}
+use Rattle.text_rules.specs.Text.{Sym, symbolText}
 use Rattle.tape.specs.Bytes.{part}
 use Rattle.tape.specs.Tree.{Head, encodeSym}
 use Rattle.tape.specs.Tape.{past, symOf, nameOf, notesOf, headOf}
@@ -14,7 +17,7 @@ use Rattle.tape.specs.declared.Frame.the-variants.{Struct}
 use Rattle.tape.proofs.Parts.{part-length}
 use Rattle.tape.proofs.Reading.{Sound, something, sym-sound}
 use Rattle.tape.proofs.CodeFacts.{part-text}
-use Rattle.writer.specs.Steps.{nameIn}
+use Rattle.writer.specs.Steps.{nameIn, Plain}
 
 -- ---- text nodes
 
@@ -23,6 +26,20 @@ pub text-at : (s : List ℕ) (at e n : ℕ) → at + (5 + n) ≤ e → take n (d
 text-at s at e n h =
     let g : n ≡ at + 5 + n - (at + 5) = omega arith in
     part-text s at e n (omega arith) ∙ ap (λ (i : ℕ). take i (drop (at + 5) s)) g
+
+module _ (s : List ℕ) (from n x : ℕ) (h : leBytes 8 x ≡ take 8 (drop from s)) where
+  -- the first bytes of a word, as it is read
+  pub word-bytes : n ≤ 8 → leBytes n x ≡ take n (drop from s)
+  word-bytes m = sym (take-le n 8 x m) ∙ ap (take n) h ∙ take-take n 8 (drop from s) m
+
+  pub plain-word : n ≤ 8 → from + 8 ≤ length s → symbolText (leBytes n x) ≡ leBytes n x → Plain s from n
+  plain-word m r b = record { most = m; room = r; bare = sym (ap symbolText (word-bytes m)) ∙ b ∙ word-bytes m }
+
+  -- a symbol that stands bare, as the code writes it
+  pub plain-text : (at e : ℕ) → from ≡ at + 5 → at + (5 + n) ≤ e → Plain s from n → symbolText (take n (drop 5 (part s at e))) ≡ leBytes n x
+  plain-text at e f g p =
+      let t : take n (drop 5 (part s at e)) ≡ take n (drop from s) = part-text s at e n (omega arith) ∙ ap (λ (i : ℕ). take n (drop i s)) (sym f) in
+      ap symbolText t ∙ p .bare ∙ sym (word-bytes (p .most))
 
 -- ---- names
 

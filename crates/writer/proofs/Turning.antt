@@ -72,6 +72,15 @@ module _ (d : ℕ) (l : List ℕ) (z : problemAt d l ≡ 0) where
       go (leaf v n) q (a-leaf p h e) = omega arith
       go (body k n) q (a-body h e) = omega arith
 
+  pub size-some : 0 < sizeAt l
+  unfolding sizeAt
+  size-some = go (valueOf true l) refl (value-sound true l)
+    where
+      go : (v : Value) → valueOf true l ≡ v → SoundV l v → 0 < sizeIs v
+      go absent q t = absurd (present q)
+      go (leaf v n) q (a-leaf p h e) = p
+      go (body k n) q (a-body h e) = omega arith
+
   as-scalar : valueOf true l ≡ past (scalarOf l) absent (λ s n. leaf (scalar s) n) → ScalarHere d l
   unfolding nodeAt sizeAt
   as-scalar e = go (scalarOf l) refl

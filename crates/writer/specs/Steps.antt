@@ -1,16 +1,18 @@
 -- What the contracts of the writer's parts name: one walk writes the streaming texts, whose layouts are 0, 1 and 2, and the tree text, which is
 -- its layout 3. Assumes nothing: these are definitions.
-use Prim.Native.Nat.{ℕ, _+_}
-use mathlib.Core.List.{List, [], _++_}
+use Prim.Native.Nat.{ℕ, _+_, _≤_}
+use mathlib.Core.Path.{_≡_}
+use mathlib.Core.List.{List, [], _∷_, _++_}
 use mathlib.Core.Bool.{Bool, true, false}
 use mathlib.Core.Option.{Option, none}
 use lib.Dec.{eqb}
-use lib.ListN.{take, drop}
-use Rattle.output.specs.Logic.{if, ascii}
-use Rattle.text_rules.specs.Text.{Sym}
+use lib.ListN.{length, take, drop}
+use Rattle.output.specs.Logic.{if, byte, ascii}
+use Rattle.text_rules.specs.Text.{Sym, symbolText}
 use Rattle.tape.specs.Tree.{Scalar, Head, Node, Nodes, scalar, nest, marker, nil, more}
 use Rattle.tape.specs.Tape.{past, nameOf, notesOf, Value, absent, leaf, body, valueOf, walk}
 use Rattle.tape.specs.declared.Frame.{Frame}
+use Rattle.writer.specs.declared.whitespace_config.Separator.{Separator}
 use Rattle.writer.specs.Text.{scalarText, nameText, notesText, opening, closing, separator, broken, deeper, blanks}
 
 -- the name of the child that the bytes l start with, if it has one
@@ -25,9 +27,19 @@ notesIn l = past (notesOf l) [] (λ ss n. ss)
 abbrev pub taken : {A : Type 0} → Option (A × ℕ) → ℕ
 taken o = past o 0 (λ a n. n)
 
+-- the n bytes of s from a place on are a symbol that stands bare, and eight bytes stand there
+pub record Plain (s : List ℕ) (from n : ℕ) : Type 0 where
+  pub most : n ≤ 8
+  pub room : from + 8 ≤ length s
+  pub bare : symbolText (take n (drop from s)) ≡ take n (drop from s)
+
 -- what stands before a value: blanks, its name, and in the tree text its annotations
 unfoldable pub front : ℕ → ℕ → Head → List ℕ
 front y w h = blanks w ++ nameText (h .0) ++ if (eqb y 3) (notesText (h .1)) []
+
+-- the bytes of a separator, as the code keeps it
+unfoldable pub separating : Separator → List ℕ
+separating s = if (s .pair) (byte "," ∷ s .second ∷ []) (s .second ∷ [])
 
 -- what follows a child: a separator, but nothing behind the last child in the tree text
 unfoldable pub ending : ℕ → Frame → Bool → List ℕ

@@ -2,22 +2,23 @@
 ghost use mathlib.Core.Path.{_≡_};
 ghost use mathlib.Core.List.{_++_};
 ghost use Prim.Native.Nat.{_+_, _*_, _<_, _≤_};
-ghost use lib.ListN.{length, take, drop};
+ghost use lib.ListN.{length, getD, take, drop};
 ghost use Rattle.output.specs.Wrote.{Wrote, limit};
 ghost use Rattle.tape.specs.Bytes.{part};
 ghost use mathlib.Core.Option.{some};
-ghost use mathlib.Core.Bool.{false};
+ghost use mathlib.Core.Bool.{true, false};
 ghost use lib.Dec.{eqb};
 ghost use mathlib.Core.List.{[]};
-ghost use Rattle.tape.specs.Tape.{past, notesOf, headOf, scalarOf, walk};
+ghost use Rattle.tape.specs.Tape.{past, nameOf, notesOf, headOf, scalarOf, walk};
 ghost use Rattle.tape.specs.Steps.{placeOf, meantScalar, sizeOf, headAt};
 ghost use Rattle.tape.specs.declared.Place.the-variants.{At};
 ghost use Rattle.output.specs.Logic.{if, ascii};
 ghost use Rattle.writer.specs.Text.{scalarText, nameText, notesText, blanks, closing};
 ghost use Rattle.text_rules.specs.Text.{symbolText, stringText, clobText};
 ghost use Rattle.tape.specs.declared.Frame.the-variants.{Struct};
-ghost use Rattle.writer.specs.Steps.{nameIn, notesIn, taken, front, ending, item, items, nodeAt, sizeAt, problemAt};
+ghost use Rattle.writer.specs.Steps.{nameIn, notesIn, taken, front, separating, Plain, item, items, nodeAt, sizeAt, problemAt};
 use crate::whitespace_config;
+use crate::whitespace_config::Separator;
 use tape::Frame;
 use tape::Place;
 use tape::Scalar;
@@ -47,9 +48,7 @@ fn write_symbol_text(
     requires { ⌜ end ≤ length (now tape) ⌝ }
     ensures { λ r. ⌜ Wrote (now (buf .entry)) (now (buf .exit)) pos r (symbolText (take n (drop 5 (part (now (tape .entry)) at end)))) ⌝ }
 {
-    let from = at + 5;
-    let to = from + n;
-    text_formatter::format_symbol_token(buf, pos, &tape[from..to])
+    text_formatter::format_symbol_at(buf, pos, tape, at + 5, n)
 }
 
 fn write_string(buf: &mut [u8], pos: usize, tape: &[u8], at: usize, n: usize, end: usize) -> usize
@@ -99,30 +98,57 @@ fn write_scalar(buf: &mut [u8], pos: usize, tape: &[u8], at: usize, end: usize, 
 
 // What ends a name.
 fn write_colon(buf: &mut [u8], pos: usize) -> usize
+    requires { ⌜ pos ≤ limit ⌝ }
     ensures { λ r. ⌜ Wrote (now (buf .entry)) (now (buf .exit)) pos r (ascii ": ") ⌝ }
 {
-    let p = output::put(buf, pos, b':');
-    output::put(buf, p, b' ')
+    output::put_two(buf, pos, b':', b' ')
+}
+
+// Whether the n bytes of the tape from a place on, in a word of it, are a symbol that stands bare.
+fn plain_at(tape: &[u8], from: usize, n: usize) -> bool
+    requires { ⌜ from + n ≤ length (now tape) ⌝ }
+    ensures { λ r. ⌜ (r ≡ true → Plain (now (tape .entry)) from n) ⌝ }
+{
+    if 1 <= n {
+        if n <= 8 {
+            if from + 8 <= tape.len() {
+                return text_rules::lanes::is_plain(output::word_at(tape, from), n);
+            }
+        }
+    }
+    false
 }
 
 // The symbol at a place, and `: `.
-fn write_name(buf: &mut [u8], pos: usize, tape: &[u8], at: usize, end: usize) -> usize
+fn write_name(buf: &mut [u8], pos: usize, tape: &[u8], at: usize, end: usize) -> Step
     requires { ⌜ pos ≤ limit ⌝ }
     requires { ⌜ at ≤ end ⌝ }
     requires { ⌜ end ≤ length (now tape) ⌝ }
-    ensures { λ r. ⌜ Wrote (now (buf .entry)) (now (buf .exit)) pos r (nameText (nameIn Struct (part (now (tape .entry)) at end))) ⌝ }
+    requires { ⌜ nameOf Struct (part (now tape) at end) ≡ some (nameIn Struct (part (now tape) at end), taken (nameOf Struct (part (now tape) at end))) ⌝ }
+    ensures text { λ r. ⌜ Wrote (now (buf .entry)) (now (buf .exit)) pos (r .pos) (nameText (nameIn Struct (part (now (tape .entry)) at end))) ⌝ }
+    ensures place { λ r. ⌜ r .at ≡ at + taken (nameOf Struct (part (now (tape .entry)) at end)) ⌝ }
 {
-    let s = tape::sym_at(tape, at, end);
-    match s {
-        Symbol::Bad => pos,
-        Symbol::Text(n) => {
-            let p = write_symbol_text(buf, pos, tape, at, n, end);
-            write_colon(buf, p)
-        }
-        Symbol::Id(i) => {
-            let p = text_formatter::format_symbol_id(buf, pos, i);
-            write_colon(buf, p)
-        }
+    let i = tape::u32_at(tape, at + 1);
+    if tape[at] == 7 {
+        let p = text_formatter::format_symbol_id(buf, pos, i as u32);
+        let q = write_colon(buf, p);
+        return Step { pos: q, at: at + 5 };
+    }
+    let n = i as usize;
+    let from = at + 5;
+    if plain_at(tape, from, n) {
+        let p = output::put_le(buf, pos, output::word_at(tape, from), n);
+        let q = write_colon(buf, p);
+        return Step {
+            pos: q,
+            at: from + n,
+        };
+    }
+    let p = write_symbol_text(buf, pos, tape, at, n, end);
+    let q = write_colon(buf, p);
+    Step {
+        pos: q,
+        at: from + n,
     }
 }
 
@@ -134,17 +160,19 @@ fn encode_field_name(
     at: usize,
     end: usize,
     frame: Frame,
-) -> usize
+) -> Step
     requires { ⌜ pos ≤ limit ⌝ }
     requires { ⌜ at ≤ end ⌝ }
     requires { ⌜ end ≤ length (now tape) ⌝ }
-    ensures { λ r. ⌜ Wrote (now (buf .entry)) (now (buf .exit)) pos r (nameText (nameIn frame (part (now (tape .entry)) at end))) ⌝ }
+    requires { ⌜ nameOf frame (part (now tape) at end) ≡ some (nameIn frame (part (now tape) at end), taken (nameOf frame (part (now tape) at end))) ⌝ }
+    ensures text { λ r. ⌜ Wrote (now (buf .entry)) (now (buf .exit)) pos (r .pos) (nameText (nameIn frame (part (now (tape .entry)) at end))) ⌝ }
+    ensures place { λ r. ⌜ r .at ≡ at + taken (nameOf frame (part (now (tape .entry)) at end)) ⌝ }
 {
     match frame {
         Frame::Struct => write_name(buf, pos, tape, at, end),
-        Frame::Top => pos,
-        Frame::List => pos,
-        Frame::Sexp => pos,
+        Frame::Top => Step { pos, at },
+        Frame::List => Step { pos, at },
+        Frame::Sexp => Step { pos, at },
     }
 }
 
@@ -212,22 +240,27 @@ fn write_front(
     requires { ⌜ at ≤ end ⌝ }
     requires { ⌜ end ≤ length (now tape) ⌝ }
     requires { ⌜ headOf frame (part (now tape) at end) ≡ some (headAt frame (part (now tape) at end), taken (headOf frame (part (now tape) at end))) ⌝ }
+    requires { ⌜ at + taken (headOf frame (part (now tape) at end)) < end ⌝ }
     ensures text { λ r. ⌜ Wrote (now (buf .entry)) (now (buf .exit)) pos (r .pos) (front layout width (headAt frame (part (now (tape .entry)) at end))) ⌝ }
     ensures place { λ r. ⌜ r .at ≡ at + taken (headOf frame (part (now (tape .entry)) at end)) ⌝ }
 {
     let o = output::put_repeated(buf, pos, b' ', width);
-    let p = encode_field_name(buf, o, tape, at, end, frame);
-    let Place::At(from) = tape::name_end(tape, at, end, frame) else {
-        return Step { pos: p, at };
-    };
+    let n = encode_field_name(buf, o, tape, at, end, frame);
+    let from = n.at;
+    if tape[from] != 13 {
+        return n;
+    }
     let Place::At(value) = tape::notes_end(tape, from, end) else {
-        return Step { pos: p, at };
+        return n;
     };
     if layout == 3 {
-        let q = write_notes(buf, p, tape, from, end, value);
+        let q = write_notes(buf, n.pos, tape, from, end, value);
         return Step { pos: q, at: value };
     }
-    Step { pos: p, at: value }
+    Step {
+        pos: n.pos,
+        at: value,
+    }
 }
 
 // Whether nothing follows a child: in the tree text, behind the last.
@@ -241,14 +274,40 @@ fn ends_bare(layout: u32, last: bool) -> bool
 }
 
 // What follows a child; `last`: no other follows it.
-fn write_ending(buf: &mut [u8], pos: usize, layout: u32, frame: Frame, last: bool) -> usize
+fn write_ending(buf: &mut [u8], pos: usize, layout: u32, s: Separator, last: bool) -> usize
     requires { ⌜ pos ≤ limit ⌝ }
-    ensures { λ r. ⌜ Wrote (now (buf .entry)) (now (buf .exit)) pos r (ending layout frame last) ⌝ }
+    ensures { λ r. ⌜ Wrote (now (buf .entry)) (now (buf .exit)) pos r (if (if (eqb layout 3) last false) [] (separating s)) ⌝ }
 {
     if ends_bare(layout, last) {
         return pos;
     }
-    whitespace_config::write_separator(buf, pos, layout, frame)
+    whitespace_config::write_separator(buf, pos, s)
+}
+
+// The symbol at a place, which is text.
+fn write_symbol(buf: &mut [u8], pos: usize, tape: &[u8], at: usize, end: usize) -> Step
+    requires { ⌜ pos ≤ limit ⌝ }
+    requires { ⌜ at ≤ end ⌝ }
+    requires { ⌜ end ≤ length (now tape) ⌝ }
+    requires { ⌜ 0 < taken (scalarOf (part (now tape) at end)) ⌝ }
+    requires { ⌜ getD (now tape) at 0 ≡ 6 ⌝ }
+    ensures text { λ r. ⌜ Wrote (now (buf .entry)) (now (buf .exit)) pos (r .pos) (past (scalarOf (part (now (tape .entry)) at end)) [] (λ s n. scalarText s)) ⌝ }
+    ensures place { λ r. ⌜ r .at ≡ at + taken (scalarOf (part (now (tape .entry)) at end)) ⌝ }
+{
+    let n = tape::u32_at(tape, at + 1) as usize;
+    let from = at + 5;
+    if plain_at(tape, from, n) {
+        let p = output::put_le(buf, pos, output::word_at(tape, from), n);
+        return Step {
+            pos: p,
+            at: from + n,
+        };
+    }
+    let p = write_symbol_text(buf, pos, tape, at, n, end);
+    Step {
+        pos: p,
+        at: from + n,
+    }
 }
 
 // The scalar at a place.
@@ -256,9 +315,42 @@ fn write_leaf(buf: &mut [u8], pos: usize, tape: &[u8], at: usize, end: usize) ->
     requires { ⌜ pos ≤ limit ⌝ }
     requires { ⌜ at ≤ end ⌝ }
     requires { ⌜ end ≤ length (now tape) ⌝ }
+    requires { ⌜ 0 < taken (scalarOf (part (now tape) at end)) ⌝ }
     ensures text { λ r. ⌜ Wrote (now (buf .entry)) (now (buf .exit)) pos (r .pos) (past (scalarOf (part (now (tape .entry)) at end)) [] (λ s n. scalarText s)) ⌝ }
     ensures place { λ r. ⌜ r .at ≡ at + taken (scalarOf (part (now (tape .entry)) at end)) ⌝ }
 {
+    let k = tape[at];
+    if k == 2 {
+        let p = numbers::int::format_integer(buf, pos, tape::int_of(tape, at));
+        return Step { pos: p, at: at + 9 };
+    }
+    if k == 4 {
+        let m = tape::magnitude_of(tape, at);
+        let e = tape::exponent_of(tape, at);
+        let p = numbers::decimal::format_text(buf, pos, tape[at + 1] == 1, m, e);
+        return Step {
+            pos: p,
+            at: at + 14,
+        };
+    }
+    if k == 5 {
+        let p = numbers::timestamp::format(buf, pos, tape::timestamp_of(tape, at));
+        return Step {
+            pos: p,
+            at: at + 16,
+        };
+    }
+    if k == 6 {
+        return write_symbol(buf, pos, tape, at, end);
+    }
+    if k == 8 {
+        let n = tape::u32_at(tape, at + 1) as usize;
+        let p = write_string(buf, pos, tape, at, n, end);
+        return Step {
+            pos: p,
+            at: at + (5 + n),
+        };
+    }
     let Scanned::Is(s) = tape::scalar_at(tape, at, end) else {
         return Step { pos, at };
     };
@@ -288,7 +380,37 @@ fn write_close(buf: &mut [u8], pos: usize, width: usize, frame: Frame) -> usize
 
 // ---- values and the nodes of a body, where nothing is wrong with them
 
-// The value at a place, before which `width` blanks stand. A body is opened while `depth` more may be.
+// The container at a place, before which `width` blanks stand. Its body is opened while `depth` more may be.
+fn write_container(
+    tape: &[u8],
+    at: usize,
+    end: usize,
+    depth: usize,
+    layout: u32,
+    width: usize,
+    buf: &mut [u8],
+    pos: usize,
+) -> Step
+    requires { ⌜ at ≤ end ⌝ }
+    requires { ⌜ end ≤ length (now tape) ⌝ }
+    requires { ⌜ pos ≤ limit ⌝ }
+    requires { ⌜ 2 * depth + width ≤ 128 ⌝ }
+    requires { ⌜ problemAt depth (part (now tape) at end) ≡ 0 ⌝ }
+    requires { ⌜ (10 ≤ getD (now tape) at 0) × (getD (now tape) at 0 ≡ 14 → ⊥) ⌝ }
+    ensures text { λ r. ⌜ Wrote (now (buf .entry)) (now (buf .exit)) pos (r .pos) (item layout width (nodeAt depth (part (now (tape .entry)) at end))) ⌝ }
+    ensures place { λ r. ⌜ r .at ≡ at + sizeAt (part (now (tape .entry)) at end) ⌝ }
+{
+    let inner = tape::check::frame_of(tape[at]);
+    let start = at + 5;
+    let stop = start + tape::u32_at(tape, at + 1) as usize;
+    let p = whitespace_config::write_start(buf, pos, layout, inner);
+    let deeper = whitespace_config::indentation(layout, width);
+    let q = write_nodes(tape, start, stop, inner, depth, layout, deeper, buf, p);
+    let r = write_close(buf, q, width, inner);
+    Step { pos: r, at: stop }
+}
+
+// The value at a place, before which `width` blanks stand.
 fn write_value(
     tape: &[u8],
     at: usize,
@@ -315,14 +437,7 @@ fn write_value(
         let p = write_marker(buf, pos);
         return Step { pos: p, at: at + 1 };
     }
-    let inner = tape::check::frame_of(k);
-    let start = at + 5;
-    let stop = start + tape::u32_at(tape, at + 1) as usize;
-    let p = whitespace_config::write_start(buf, pos, layout, inner);
-    let deeper = whitespace_config::indentation(layout, width);
-    let q = write_nodes(tape, start, stop, inner, depth, layout, deeper, buf, p);
-    let r = write_close(buf, q, width, inner);
-    Step { pos: r, at: stop }
+    write_container(tape, at, end, depth, layout, width, buf, pos)
 }
 
 // The nodes of a body, with `width` blanks before each. This body and those inside it are `depth` at most.
@@ -347,12 +462,13 @@ pub fn write_nodes(
     if depth == 0 {
         return pos;
     }
+    let s = whitespace_config::separator_of(layout, frame);
     let mut at = from;
     let mut p = pos;
     while at < end {
         let f = write_front(buf, p, tape, at, end, frame, layout, width);
         let v = write_value(tape, f.at, end, depth - 1, layout, width, buf, f.pos);
-        p = write_ending(buf, v.pos, layout, frame, v.at == end);
+        p = write_ending(buf, v.pos, layout, s, v.at == end);
         at = v.at;
     }
     p

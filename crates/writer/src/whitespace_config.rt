@@ -1,19 +1,18 @@
 // What stands between values, by layout: 0 Compact, 1 Lines, 2 Pretty. The byte strings of `WhitespaceConfig`, each written by its own function.
 ghost use mathlib.Core.Path.{_≡_};
-ghost use mathlib.Core.List.{[], _∷_, _++_};
+ghost use mathlib.Core.List.{_++_};
 ghost use Prim.Native.Nat.{_≤_};
 ghost use lib.Dec.{eqb};
 ghost use Rattle.output.specs.Logic.{if, byte};
 ghost use Rattle.output.specs.Wrote.{Wrote, limit};
+ghost use Rattle.writer.specs.Steps.{separating};
 ghost use Rattle.writer.specs.Text.{separator, broken, deeper, opening, closing};
 use tape::Frame;
 
-// Two bytes.
-fn write_layout(buf: &mut [u8], pos: usize, first: u8, second: u8) -> usize
-    ensures { λ r. ⌜ Wrote (now (buf .entry)) (now (buf .exit)) pos r (first ∷ second ∷ []) ⌝ }
-{
-    let p = output::put(buf, pos, first);
-    output::put(buf, p, second)
+// What follows a value: `second` alone, or a comma and `second`.
+pub struct Separator {
+    pub second: u8,
+    pub pair: bool,
 }
 
 // The space between nested values: a blank, or a line's end in Pretty.
@@ -31,16 +30,37 @@ fn space_between_top_level_values(layout: u32) -> u8
 }
 
 // What follows a value in a frame.
-pub fn write_separator(buf: &mut [u8], pos: usize, layout: u32, frame: Frame) -> usize
-    requires { ⌜ pos ≤ limit ⌝ }
-    ensures { λ r. ⌜ Wrote (now (buf .entry)) (now (buf .exit)) pos r (separator layout frame) ⌝ }
+pub fn separator_of(layout: u32, frame: Frame) -> Separator
+    ensures { λ r. ⌜ separating r ≡ separator layout frame ⌝ }
 {
     match frame {
-        Frame::Top => output::put(buf, pos, space_between_top_level_values(layout)),
-        Frame::List => write_layout(buf, pos, b',', space_between_nested_values(layout)),
-        Frame::Sexp => output::put(buf, pos, space_between_nested_values(layout)),
-        Frame::Struct => write_layout(buf, pos, b',', space_between_nested_values(layout)),
+        Frame::Top => Separator {
+            second: space_between_top_level_values(layout),
+            pair: false,
+        },
+        Frame::List => Separator {
+            second: space_between_nested_values(layout),
+            pair: true,
+        },
+        Frame::Sexp => Separator {
+            second: space_between_nested_values(layout),
+            pair: false,
+        },
+        Frame::Struct => Separator {
+            second: space_between_nested_values(layout),
+            pair: true,
+        },
     }
+}
+
+pub fn write_separator(buf: &mut [u8], pos: usize, s: Separator) -> usize
+    requires { ⌜ pos ≤ limit ⌝ }
+    ensures { λ r. ⌜ Wrote (now (buf .entry)) (now (buf .exit)) pos r (separating s) ⌝ }
+{
+    if s.pair {
+        return output::put_two(buf, pos, b',', s.second);
+    }
+    output::put(buf, pos, s.second)
 }
 
 // How many blanks stand before a child of a container that has `width` before itself.

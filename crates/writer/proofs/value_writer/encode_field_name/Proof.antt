@@ -1,4 +1,5 @@
--- `value_writer::encode_field_name` meets its contract: a field has its name, other children have none. Assumes nothing.
+-- `value_writer::encode_field_name` meets its contract. Assumes nothing.
+use native.Mathlib.Omega.{arith}
 use Rattle.output.proofs.Laws.{wrote-none}
 use Rattle.tape.specs.Tape.{nameOf}
 use Rattle.writer.specs.Text.{nameText}
@@ -10,7 +11,9 @@ enum-told : tie.Need-enum-told
 enum-told c = search needs
 
 write-name-requires : tie.Need-write-name-requires
-write-name-requires c κs = search needs
+write-name-requires c κs =
+    let s = c .before .before .before .before .before in
+    (s .pre .0, (s .pre .1 .0, (s .pre .1 .1 .0, rw (c .before .enum-told .given .1) at (s .pre .1 .1 .1))))
 
 enum-told-2 : tie.Need-enum-told-2
 enum-told-2 c = search needs
@@ -29,15 +32,15 @@ returns c = rw (c .before .before .before .before .enum-told .given .1) (c .befo
 
 returns-2 : tie.Need-returns-2
 unfolding nameOf nameText
-returns-2 c = rw (c .enum-told2 .given .1) (wrote-none _ _ (c .before .before .before .before .pre .0) (search needs))
+returns-2 c = rw (c .enum-told2 .given .1) (wrote-none _ _ (c .before .before .before .before .pre .0) (search needs), omega arith)
 
 returns-3 : tie.Need-returns-3
 unfolding nameOf nameText
-returns-3 c = rw (c .enum-told3 .given .1) (wrote-none _ _ (c .before .before .before .before .pre .0) (search needs))
+returns-3 c = rw (c .enum-told3 .given .1) (wrote-none _ _ (c .before .before .before .before .pre .0) (search needs), omega arith)
 
 returns-4 : tie.Need-returns-4
 unfolding nameOf nameText
-returns-4 c = rw (c .enum-told4 .given .1) (wrote-none _ _ (c .before .before .before .before .pre .0) (search needs))
+returns-4 c = rw (c .enum-told4 .given .1) (wrote-none _ _ (c .before .before .before .before .pre .0) (search needs), omega arith)
 
 pub encode-field-name-spec : {M : Type 1} → statement M
 encode-field-name-spec =

@@ -1,46 +1,58 @@
--- `value_writer::write_nodes` and `value_writer::write_value` meet their contracts. The walk's invariant: the text of the nodes before `at` is written,
--- that of the nodes from `at` on is left, and nothing is wrong with these. Assumes nothing.
+-- `value_writer::write_nodes`, `value_writer::write_value` and `value_writer::write_container` meet their contracts. The walk's invariant: the text of the
+-- nodes before `at` is written, that of the nodes from `at` on is left, and nothing is wrong with these. Assumes nothing.
 use mathlib.Core.Path.{_≡_, refl, sym, ap, _∙_}
 use native.Mathlib.Omega.{arith}
 use denote.Ref.{now}
 use Prim.Native.Nat.{ℕ, _+_, _*_, _-_, _<_, _≤_}
-use lib.ListN.{getD}
 use Rattle.output.proofs.Laws.{Progress, start, more, finish, wrote-none, wrote-then, wrote-length, wrote-bound}
 use Rattle.tape.specs.Bytes.{part}
 use Rattle.tape.specs.Tape.{Walked, walk}
 use Rattle.tape.proofs.Walking.{walk-end}
 use Rattle.tape.proofs.Parts.{part-length}
-use Rattle.writer.specs.Steps.{items}
+use Rattle.writer.specs.Steps.{ending, items}
 use Rattle.writer.proofs.Layouts.{deeper-most}
 use Rattle.writer.proofs.Turning.{head-here, turn-here}
-use Rattle.writer.proofs.Items.{Container, items-turn, value-place, scalar-text, scalar-size, marker-text, marker-length, header-room, container}
+use Rattle.writer.proofs.Items.{Container, items-turn, value-place, scalar-text, scalar-size, scalar-some, marker-text, marker-length, header-room, container}
 use borrow.Author.Needs.{needs}
 use borrow.Fn.Kinds.{In}
 use borrow.Fn.PlainCycle.{Measures, is, falls, and}
 use Rattle.tape.proofs.check.frame_of.Reads as frame-of
 use Rattle.tape.proofs.u32_at.Reads as u32-at
+use Rattle.writer.proofs.value_writer.write_container.Reads as container-reads
+use Rattle.writer.proofs.value_writer.write_container.Kinds as container-kinds
+use Rattle.writer.proofs.value_writer.+write_container+write_nodes+write_value.Lts-write_container as container-lts
 use Rattle.writer.proofs.value_writer.write_nodes.Reads as nodes
 use Rattle.writer.proofs.value_writer.write_nodes.Kinds as nodes-kinds
-use Rattle.writer.proofs.value_writer.+write_nodes+write_value.Lts-write_nodes as nodes-lts
+use Rattle.writer.proofs.value_writer.+write_container+write_nodes+write_value.Lts-write_nodes as nodes-lts
 use Rattle.writer.proofs.value_writer.write_value.Reads as value
 use Rattle.writer.proofs.value_writer.write_value.Kinds as value-kinds
-use Rattle.writer.proofs.value_writer.+write_nodes+write_value.Lts-write_value as value-lts
+use Rattle.writer.proofs.value_writer.+write_container+write_nodes+write_value.Lts-write_value as value-lts
 use Rattle.writer.proofs.value_writer.write_close.Reads as write-close
 use Rattle.writer.proofs.value_writer.write_ending.Reads as write-ending
 use Rattle.writer.proofs.value_writer.write_front.Reads as write-front
 use Rattle.writer.proofs.value_writer.write_leaf.Reads as write-leaf
 use Rattle.writer.proofs.value_writer.write_marker.Reads as write-marker
 use Rattle.writer.proofs.whitespace_config.indentation.Reads as indentation
+use Rattle.writer.proofs.whitespace_config.separator_of.Reads as separator-of
 use Rattle.writer.proofs.whitespace_config.write_start.Reads as write-start
-use Rattle.writer.proofs.value_writer.+write_nodes+write_value.{statement}
-use Rattle.writer.proofs.value_writer.+write_nodes+write_value.Tie.{close}
+use Rattle.writer.proofs.value_writer.+write_container+write_nodes+write_value.{statement}
+use Rattle.writer.proofs.value_writer.+write_container+write_nodes+write_value.Tie.{close}
 
--- the body's depth counts twice, so that a value of the same depth stands between two bodies
+-- the body's depth counts three times, so that a value and a container of the same depth stand between two bodies
+abbrev μ-container : Measures 2 container-kinds.ps ℕ
+μ-container κs a = 1 + 3 * (a .1 .1 .1 .0)
+
 abbrev μ-nodes : Measures 2 nodes-kinds.ps ℕ
-μ-nodes κs a = 2 * (a .1 .1 .1 .1 .0)
+μ-nodes κs a = 3 * (a .1 .1 .1 .1 .0)
 
 abbrev μ-value : Measures 2 value-kinds.ps ℕ
-μ-value κs a = 1 + 2 * (a .1 .1 .1 .0)
+μ-value κs a = 2 + 3 * (a .1 .1 .1 .0)
+
+abbrev container-at : ℕ → In 2 container-kinds.ps
+container-at t = and 2 container-kinds.ps (is 2 container-kinds.ps μ-container t) container-reads.Pre
+
+abbrev container-below : ℕ → In 2 container-kinds.ps
+container-below t = and 2 container-kinds.ps (falls 2 container-kinds.ps _<_ μ-container t) container-reads.Pre
 
 abbrev nodes-at : ℕ → In 2 nodes-kinds.ps
 nodes-at t = and 2 nodes-kinds.ps (is 2 nodes-kinds.ps μ-nodes t) nodes.Pre
@@ -54,20 +66,23 @@ value-at t = and 2 value-kinds.ps (is 2 value-kinds.ps μ-value t) value.Pre
 abbrev value-below : ℕ → In 2 value-kinds.ps
 value-below t = and 2 value-kinds.ps (falls 2 value-kinds.ps _<_ μ-value t) value.Pre
 
+abbrev container-calls : ℕ → container-lts.Claims
+container-calls t = (frame-of.Asked, frame-of.Learnt, u32-at.Asked, u32-at.Learnt, write-start.Asked, write-start.Learnt, indentation.Asked, indentation.Learnt, nodes-below t, nodes.Post, write-close.Asked, write-close.Learnt)
+
 abbrev nodes-calls : ℕ → nodes-lts.Claims
-nodes-calls t = (write-front.Asked, write-front.Learnt, value-below t, value.Post, write-ending.Asked, write-ending.Learnt)
+nodes-calls t = (separator-of.Asked, separator-of.Learnt, write-front.Asked, write-front.Learnt, value-below t, value.Post, write-ending.Asked, write-ending.Learnt)
 
 abbrev value-calls : ℕ → value-lts.Claims
-value-calls t = (write-leaf.Asked, write-leaf.Learnt, write-marker.Asked, write-marker.Learnt, frame-of.Asked, frame-of.Learnt, u32-at.Asked, u32-at.Learnt, write-start.Asked, write-start.Learnt, indentation.Asked, indentation.Learnt, nodes-below t, nodes.Post, write-close.Asked, write-close.Learnt)
+value-calls t = (write-leaf.Asked, write-leaf.Learnt, write-marker.Asked, write-marker.Learnt, container-below t, container-reads.Post)
 
 abbrev Inv : nodes-lts.InvT-loop
-Inv tape from end frame depth layout width buf₀ pos at₀ p₀ buf at p =
+Inv tape from end frame depth layout width buf₀ pos s at₀ p₀ buf at p =
     (at ≤ end)
     × (walk depth frame (part tape at end) .1 ≡ 0)
     × Progress buf₀ buf pos p (items layout frame width (walk depth frame (part tape from end) .0)) (items layout frame width (walk depth frame (part tape at end) .0))
 
 abbrev μ-loop : nodes-lts.MeasureT-loop
-μ-loop tape from end frame depth layout width buf₀ pos at₀ p₀ buf at p = end - at
+μ-loop tape from end frame depth layout width buf₀ pos s at₀ p₀ buf at p = end - at
 
 module _ (t : ℕ) where
   -- ---- the nodes of a body
@@ -76,27 +91,32 @@ module _ (t : ℕ) where
   unfolding items walk
   nodes-returns c = rw (c .if1 .taken) (wrote-none _ _ (c .before .before .before .pre .1 .1 .1 .0) (search needs))
 
+  nodes-separator-of-requires : nodes-lts.Need-separator-of-requires (nodes-calls t) (nodes-at t) nodes.Post Inv μ-loop
+  nodes-separator-of-requires c κs = search needs
+
   nodes-loop-holds : nodes-lts.Need-loop-holds (nodes-calls t) (nodes-at t) nodes.Post Inv μ-loop
-  nodes-loop-holds c = (c .before .before .before .pre .1 .0, c .before .before .before .pre .1 .1 .1 .1 .1, start _ _ _ (c .before .before .before .pre .1 .1 .1 .0) (search needs))
+  nodes-loop-holds c = (c .before .before .before .before .pre .1 .0, c .before .before .before .before .pre .1 .1 .1 .1 .1, start _ _ _ (c .before .before .before .before .pre .1 .1 .1 .0) (search needs))
 
   nodes-write-front-requires : nodes-lts.Need-write-front-requires (nodes-calls t) (nodes-at t) nodes.Post Inv μ-loop
   nodes-write-front-requires c κs =
-      let s = c .before .before .before .before .before .before in
+      let s = c .before .before .before .before .before .before .before in
       let a = s .args in
       let l = c .before .before .loop in
-      let nz = c .before .before .before .if1 .left in
+      let nz = c .before .before .before .before .if1 .left in
       let lt = c .before .loop-test .taken in
-      (wrote-bound (l .inv .2 .wrote), (l .inv .0, (s .pre .1 .1 .0, head-here (a .depth) (a .frame) (now (a .tape)) (l .at) (a .end) nz lt (s .pre .1 .1 .0) (l .inv .1))))
+      let u = turn-here (a .depth) (a .frame) (now (a .tape)) (l .at) (a .end) nz lt (s .pre .1 .1 .0) (l .inv .1) in
+      let v = value-place (a .layout) (a .width) (a .depth - 1) (now (a .tape)) _ (a .end) (s .pre .1 .1 .0) (u .value) in
+      (wrote-bound (l .inv .2 .wrote), (l .inv .0, (s .pre .1 .1 .0, (head-here (a .depth) (a .frame) (now (a .tape)) (l .at) (a .end) nz lt (s .pre .1 .1 .0) (l .inv .1), v))))
 
   nodes-sub-write-value : nodes-lts.Need-sub-write-value (nodes-calls t) (nodes-at t) nodes.Post Inv μ-loop
   nodes-sub-write-value c = search needs
 
   nodes-write-value-requires : nodes-lts.Need-write-value-requires (nodes-calls t) (nodes-at t) nodes.Post Inv μ-loop
   nodes-write-value-requires c κs =
-      let s = c .before .before .before .before .before .before .before .before .before .before in
+      let s = c .before .before .before .before .before .before .before .before .before .before .before in
       let a = s .args in
       let l = c .before .before .before .before .before .before .loop in
-      let nz = c .before .before .before .before .before .before .before .if1 .left in
+      let nz = c .before .before .before .before .before .before .before .before .if1 .left in
       let lt = c .before .before .before .before .before .loop-test .taken in
       let u = turn-here (a .depth) (a .frame) (now (a .tape)) (l .at) (a .end) nz lt (s .pre .1 .1 .0) (l .inv .1) in
       let f = c .before .before .before .write-front .ensures in
@@ -109,10 +129,10 @@ module _ (t : ℕ) where
 
   nodes-loop-less : nodes-lts.Need-loop-less (nodes-calls t) (nodes-at t) nodes.Post Inv μ-loop
   nodes-loop-less c =
-      let s = c .before .before .before .before .before .before .before .before .before .before .before .before .before .before .before .before .before .before in
+      let s = c .before .before .before .before .before .before .before .before .before .before .before .before .before .before .before .before .before .before .before in
       let a = s .args in
       let l = c .before .before .before .before .before .before .before .before .before .before .before .before .before .before .loop in
-      let nz = c .before .before .before .before .before .before .before .before .before .before .before .before .before .before .before .if1 .left in
+      let nz = c .before .before .before .before .before .before .before .before .before .before .before .before .before .before .before .before .if1 .left in
       let lt = c .before .before .before .before .before .before .before .before .before .before .before .before .before .loop-test .taken in
       let u = turn-here (a .depth) (a .frame) (now (a .tape)) (l .at) (a .end) nz lt (s .pre .1 .1 .0) (l .inv .1) in
       let f = c .before .before .before .before .before .before .before .before .before .before .before .write-front .ensures .1 in
@@ -122,16 +142,17 @@ module _ (t : ℕ) where
       omega arith
 
   nodes-loop-again : nodes-lts.Need-loop-again (nodes-calls t) (nodes-at t) nodes.Post Inv μ-loop
+  unfolding ending
   nodes-loop-again c =
-      let s = c .before .before .before .before .before .before .before .before .before .before .before .before .before .before .before .before .before .before in
+      let s = c .before .before .before .before .before .before .before .before .before .before .before .before .before .before .before .before .before .before .before in
       let a = s .args in
       let l = c .before .before .before .before .before .before .before .before .before .before .before .before .before .before .loop in
-      let nz = c .before .before .before .before .before .before .before .before .before .before .before .before .before .before .before .if1 .left in
+      let nz = c .before .before .before .before .before .before .before .before .before .before .before .before .before .before .before .before .if1 .left in
       let lt = c .before .before .before .before .before .before .before .before .before .before .before .before .before .loop-test .taken in
       let u = turn-here (a .depth) (a .frame) (now (a .tape)) (l .at) (a .end) nz lt (s .pre .1 .1 .0) (l .inv .1) in
       let f = c .before .before .before .before .before .before .before .before .before .before .before .write-front .ensures in
       let v = rw (f .1) at (c .before .before .before .before .before .before .before .write-value .ensures) in
-      let e = rw (v .1) at (c .before .before .write-ending .ensures) in (
+      let e = rw (v .1, c .before .before .before .before .before .before .before .before .before .before .before .before .before .before .before .separator-of .ensures) at (c .before .before .write-ending .ensures) in (
         rw (v .1) (u .behind),
         rw (v .1) (u .fine),
         rw (v .1) (more (l .inv .2) (wrote-then (f .0) (wrote-then (v .0) e)) (items-turn (a .layout) (a .width) (a .depth) (a .frame) (now (a .tape)) (l .at) (a .end) nz lt (s .pre .1 .1 .0) (l .inv .1))),
@@ -143,11 +164,11 @@ module _ (t : ℕ) where
   nodes-returns-2 : nodes-lts.Need-returns-2 (nodes-calls t) (nodes-at t) nodes.Post Inv μ-loop
   unfolding items
   nodes-returns-2 c =
-      let a = c .before .before .before .before .before .args in
+      let a = c .before .before .before .before .before .before .args in
       let l = c .before .loop in
-      let n = part-length (now (a .tape)) (l .at) (a .end) (c .before .before .before .before .before .pre .1 .1 .0) in
+      let n = part-length (now (a .tape)) (l .at) (a .end) (c .before .before .before .before .before .before .pre .1 .1 .0) in
       let z = c .loop-test .left in
-      finish (l .inv .2) (ap (λ (w : Walked). items (a .layout) (a .frame) (a .width) (w .0)) (walk-end (a .frame) (a .depth) _ (c .before .before .if1 .left) (omega arith)))
+      finish (l .inv .2) (ap (λ (w : Walked). items (a .layout) (a .frame) (a .width) (w .0)) (walk-end (a .frame) (a .depth) _ (c .before .before .before .if1 .left) (omega arith)))
 
   -- ---- a value
 
@@ -161,7 +182,12 @@ module _ (t : ℕ) where
       omega arith
 
   value-write-leaf-requires : value-lts.Need-write-leaf-requires (value-calls t) (value-at t) value.Post
-  value-write-leaf-requires c κs = (c .before .before .before .before .before .pre .1 .1 .1 .0, (c .before .before .before .before .before .pre .1 .0, c .before .before .before .before .before .pre .1 .1 .0))
+  value-write-leaf-requires c κs =
+      let s = c .before .before .before .before .before in
+      let a = s .args in
+      let i = s .pre .1 .1 .0 in
+      let z = s .pre .1 .1 .1 .1 .1 in
+      (s .pre .1 .1 .1 .0, (s .pre .1 .0, (i, scalar-some (a .layout) (a .width) (a .depth) (now (a .tape)) (a .at) (a .end) i z (c .before .if1 .taken))))
 
   value-same-length : value-lts.Need-same-length (value-calls t) (value-at t) value.Post
   value-same-length c = search needs
@@ -178,8 +204,8 @@ module _ (t : ℕ) where
   value-write-marker-requires : value-lts.Need-write-marker-requires (value-calls t) (value-at t) value.Post
   value-write-marker-requires c κs = c .before .before .before .before .before .before .pre .1 .1 .1 .0
 
-  value-add-t25 : value-lts.Need-add-t25 (value-calls t) (value-at t) value.Post
-  value-add-t25 c =
+  value-add-t18 : value-lts.Need-add-t18 (value-calls t) (value-at t) value.Post
+  value-add-t18 c =
       let s = c .before .before .before .before .before .before .before .before .before in
       let a = s .args in
       let i = s .pre .1 .1 .0 in
@@ -200,72 +226,101 @@ module _ (t : ℕ) where
       let h = c .before .before .before .before .if2 .taken in
       (rw (marker-text (a .layout) (a .width) (a .depth) (now (a .tape)) (a .at) (a .end) i z h) (c .before .before .write-marker .ensures), rw (marker-length (a .layout) (a .width) (a .depth) (now (a .tape)) (a .at) (a .end) i z h))
 
-  value-frame-of-requires : value-lts.Need-frame-of-requires (value-calls t) (value-at t) value.Post
-  value-frame-of-requires c κs = search needs
-
-  value-add-start : value-lts.Need-add-start (value-calls t) (value-at t) value.Post
-  value-add-start c =
+  value-write-container-requires : value-lts.Need-write-container-requires (value-calls t) (value-at t) value.Post
+  value-write-container-requires c κs =
       let s = c .before .before .before .before .before .before in
       let a = s .args in
       let i = s .pre .1 .1 .0 in
       let z = s .pre .1 .1 .1 .1 .1 in
-      let h : 10 ≤ getD (now (a .tape)) (a .at) 0 = let x = c .before .before .if1 .left in omega arith in
-      let m = c .before .if2 .left in
-      let r = header-room (a .layout) (a .width) (a .depth) (now (a .tape)) (a .at) (a .end) i z h m in
-      let k = c .before .before .before .before .before .shared-slice-known .given in
-      omega arith
+      let x = c .before .before .if1 .left in
+      let y = s .pre .0 in
+      (omega arith, (s .pre .1 .0, (i, (s .pre .1 .1 .1 .0, (s .pre .1 .1 .1 .1 .0, (z, (omega arith, c .before .if2 .left)))))))
 
-  value-add-u32-at : value-lts.Need-add-u32-at (value-calls t) (value-at t) value.Post
-  value-add-u32-at c =
-      let s = c .before .before .before .before .before .before in
+  value-same-length-3 : value-lts.Need-same-length-3 (value-calls t) (value-at t) value.Post
+  value-same-length-3 c = search needs
+
+  value-returns-3 : value-lts.Need-returns-3 (value-calls t) (value-at t) value.Post
+  value-returns-3 c = c .before .before .write-container .ensures
+
+  -- ---- a container
+
+  container-shared-slice-read-frame-of : container-lts.Need-shared-slice-read-frame-of (container-calls t) (container-at t) container-reads.Post
+  container-shared-slice-read-frame-of c =
+      let s = c .before .before .before in
       let a = s .args in
       let i = s .pre .1 .1 .0 in
-      let z = s .pre .1 .1 .1 .1 .1 in
-      let h : 10 ≤ getD (now (a .tape)) (a .at) 0 = let x = c .before .before .if1 .left in omega arith in
-      let m = c .before .if2 .left in
-      let r = header-room (a .layout) (a .width) (a .depth) (now (a .tape)) (a .at) (a .end) i z h m in
-      let k = c .before .before .before .before .before .shared-slice-known .given in
-      omega arith
-
-  value-u32-at-requires : value-lts.Need-u32-at-requires (value-calls t) (value-at t) value.Post
-  value-u32-at-requires c κs =
-      let s = c .before .before .before .before .before .before in
-      let a = s .args in
-      let i = s .pre .1 .1 .0 in
-      let z = s .pre .1 .1 .1 .1 .1 in
-      let h : 10 ≤ getD (now (a .tape)) (a .at) 0 = let x = c .before .before .if1 .left in omega arith in
-      let m = c .before .if2 .left in
+      let z = s .pre .1 .1 .1 .1 .1 .0 in
+      let h = s .pre .1 .1 .1 .1 .1 .1 .0 in
+      let m = s .pre .1 .1 .1 .1 .1 .1 .1 in
       let r = header-room (a .layout) (a .width) (a .depth) (now (a .tape)) (a .at) (a .end) i z h m in
       omega arith
 
-  value-add-stop : value-lts.Need-add-stop (value-calls t) (value-at t) value.Post
-  value-add-stop c =
-      let s = c .before .before .before .before .before .before .before in
+  container-frame-of-requires : container-lts.Need-frame-of-requires (container-calls t) (container-at t) container-reads.Post
+  container-frame-of-requires c κs = search needs
+
+  container-add-start : container-lts.Need-add-start (container-calls t) (container-at t) container-reads.Post
+  container-add-start c =
+      let s = c .before .before .before .before in
       let a = s .args in
       let i = s .pre .1 .1 .0 in
-      let z = s .pre .1 .1 .1 .1 .1 in
-      let h : 10 ≤ getD (now (a .tape)) (a .at) 0 = let x = c .before .before .before .if1 .left in omega arith in
-      let m = c .before .before .if2 .left in
+      let z = s .pre .1 .1 .1 .1 .1 .0 in
+      let h = s .pre .1 .1 .1 .1 .1 .1 .0 in
+      let m = s .pre .1 .1 .1 .1 .1 .1 .1 in
+      let r = header-room (a .layout) (a .width) (a .depth) (now (a .tape)) (a .at) (a .end) i z h m in
+      let k = c .before .before .before .shared-slice-known .given in
+      omega arith
+
+  container-add-u32-at : container-lts.Need-add-u32-at (container-calls t) (container-at t) container-reads.Post
+  container-add-u32-at c =
+      let s = c .before .before .before .before in
+      let a = s .args in
+      let i = s .pre .1 .1 .0 in
+      let z = s .pre .1 .1 .1 .1 .1 .0 in
+      let h = s .pre .1 .1 .1 .1 .1 .1 .0 in
+      let m = s .pre .1 .1 .1 .1 .1 .1 .1 in
+      let r = header-room (a .layout) (a .width) (a .depth) (now (a .tape)) (a .at) (a .end) i z h m in
+      let k = c .before .before .before .shared-slice-known .given in
+      omega arith
+
+  container-u32-at-requires : container-lts.Need-u32-at-requires (container-calls t) (container-at t) container-reads.Post
+  container-u32-at-requires c κs =
+      let s = c .before .before .before .before in
+      let a = s .args in
+      let i = s .pre .1 .1 .0 in
+      let z = s .pre .1 .1 .1 .1 .1 .0 in
+      let h = s .pre .1 .1 .1 .1 .1 .1 .0 in
+      let m = s .pre .1 .1 .1 .1 .1 .1 .1 in
+      let r = header-room (a .layout) (a .width) (a .depth) (now (a .tape)) (a .at) (a .end) i z h m in
+      omega arith
+
+  container-add-stop : container-lts.Need-add-stop (container-calls t) (container-at t) container-reads.Post
+  container-add-stop c =
+      let s = c .before .before .before .before .before in
+      let a = s .args in
+      let i = s .pre .1 .1 .0 in
+      let z = s .pre .1 .1 .1 .1 .1 .0 in
+      let h = s .pre .1 .1 .1 .1 .1 .1 .0 in
+      let m = s .pre .1 .1 .1 .1 .1 .1 .1 in
       let r = header-room (a .layout) (a .width) (a .depth) (now (a .tape)) (a .at) (a .end) i z h m in
       let q = container (a .layout) (a .width) (a .depth) (now (a .tape)) (a .at) (a .end) i z h m _ (c .before .frame-of .ensures) _ (c .u32-at .ensures .0) in
-      let k = c .before .before .before .before .before .before .shared-slice-known .given in
+      let k = c .before .before .before .before .shared-slice-known .given in
       let o = q .room in
       omega arith
 
-  value-write-start-requires : value-lts.Need-write-start-requires (value-calls t) (value-at t) value.Post
-  value-write-start-requires c κs = c .before .before .before .before .before .before .before .before .pre .1 .1 .1 .0
+  container-write-start-requires : container-lts.Need-write-start-requires (container-calls t) (container-at t) container-reads.Post
+  container-write-start-requires c κs = c .before .before .before .before .before .before .pre .1 .1 .1 .0
 
-  value-indentation-requires : value-lts.Need-indentation-requires (value-calls t) (value-at t) value.Post
-  value-indentation-requires c κs = let m = c .before .before .before .before .before .before .before .before .before .before .before .pre .1 .1 .1 .1 .0 in omega arith
+  container-indentation-requires : container-lts.Need-indentation-requires (container-calls t) (container-at t) container-reads.Post
+  container-indentation-requires c κs = let m = c .before .before .before .before .before .before .before .before .before .pre .1 .1 .1 .1 .0 in omega arith
 
-  value-write-nodes-requires : value-lts.Need-write-nodes-requires (value-calls t) (value-at t) value.Post
-  value-write-nodes-requires c κs =
-      let s = c .before .before .before .before .before .before .before .before .before .before .before .before .before in
+  container-write-nodes-requires : container-lts.Need-write-nodes-requires (container-calls t) (container-at t) container-reads.Post
+  container-write-nodes-requires c κs =
+      let s = c .before .before .before .before .before .before .before .before .before .before .before in
       let a = s .args in
       let i = s .pre .1 .1 .0 in
-      let z = s .pre .1 .1 .1 .1 .1 in
-      let h : 10 ≤ getD (now (a .tape)) (a .at) 0 = let x = c .before .before .before .before .before .before .before .before .before .if1 .left in omega arith in
-      let m = c .before .before .before .before .before .before .before .before .if2 .left in
+      let z = s .pre .1 .1 .1 .1 .1 .0 in
+      let h = s .pre .1 .1 .1 .1 .1 .1 .0 in
+      let m = s .pre .1 .1 .1 .1 .1 .1 .1 in
       let r = header-room (a .layout) (a .width) (a .depth) (now (a .tape)) (a .at) (a .end) i z h m in
       let q = container (a .layout) (a .width) (a .depth) (now (a .tape)) (a .at) (a .end) i z h m _ (c .before .before .before .before .before .before .before .frame-of .ensures) _ (c .before .before .before .before .before .before .u32-at .ensures .0) in
       let y = s .pre .0 in
@@ -275,27 +330,29 @@ module _ (t : ℕ) where
       let j = c .before .indentation .ensures in
       (omega arith, (omega arith, (omega arith, (wrote-bound (c .before .before .before .before .write-start .ensures), (omega arith, q .fine)))))
 
-  value-write-close-requires : value-lts.Need-write-close-requires (value-calls t) (value-at t) value.Post
-  value-write-close-requires c κs = wrote-bound (c .before .before .before .write-nodes .ensures)
+  container-write-close-requires : container-lts.Need-write-close-requires (container-calls t) (container-at t) container-reads.Post
+  container-write-close-requires c κs = wrote-bound (c .before .before .before .write-nodes .ensures)
 
-  value-same-length-3 : value-lts.Need-same-length-3 (value-calls t) (value-at t) value.Post
-  value-same-length-3 c = search needs
+  container-same-length : container-lts.Need-same-length (container-calls t) (container-at t) container-reads.Post
+  container-same-length c = search needs
 
-  value-returns-3 : value-lts.Need-returns-3 (value-calls t) (value-at t) value.Post
-  value-returns-3 c =
-      let s = c .before .before .before .before .before .before .before .before .before .before .before .before .before .before .before .before .before .before .before .before in
+  container-returns : container-lts.Need-returns (container-calls t) (container-at t) container-reads.Post
+  container-returns c =
+      let s = c .before .before .before .before .before .before .before .before .before .before .before .before .before .before .before .before .before .before in
       let a = s .args in
       let i = s .pre .1 .1 .0 in
-      let z = s .pre .1 .1 .1 .1 .1 in
-      let h : 10 ≤ getD (now (a .tape)) (a .at) 0 = let x = c .before .before .before .before .before .before .before .before .before .before .before .before .before .before .before .before .if1 .left in omega arith in
-      let m = c .before .before .before .before .before .before .before .before .before .before .before .before .before .before .before .if2 .left in
+      let z = s .pre .1 .1 .1 .1 .1 .0 in
+      let h = s .pre .1 .1 .1 .1 .1 .1 .0 in
+      let m = s .pre .1 .1 .1 .1 .1 .1 .1 in
       let r = header-room (a .layout) (a .width) (a .depth) (now (a .tape)) (a .at) (a .end) i z h m in
       let q = container (a .layout) (a .width) (a .depth) (now (a .tape)) (a .at) (a .end) i z h m _ (c .before .before .before .before .before .before .before .before .before .before .before .before .before .before .frame-of .ensures) _ (c .before .before .before .before .before .before .before .before .before .before .before .before .before .u32-at .ensures .0) in
       let b = rw (c .before .before .before .before .before .before .before .before .indentation .ensures) at (c .before .before .before .before .before .before .write-nodes .ensures) in
       (rw (q .written) (wrote-then (wrote-then (c .before .before .before .before .before .before .before .before .before .before .before .write-start .ensures) b) (c .before .before .write-close .ensures)), q .place)
 
-pub +write-nodes+write-value-spec : {M : Type 1} → statement M
-+write-nodes+write-value-spec = close μ-nodes μ-value (λ t. nodes-lts.spec (nodes-calls t) (nodes-at t) nodes.Post Inv μ-loop
-    (nodes-returns t) (nodes-loop-holds t) (nodes-write-front-requires t) (nodes-sub-write-value t) (nodes-write-value-requires t) (nodes-write-ending-requires t) (nodes-loop-less t) (nodes-loop-again t) (nodes-same-length t) (nodes-returns-2 t))
+pub +write-container+write-nodes+write-value-spec : {M : Type 1} → statement M
++write-container+write-nodes+write-value-spec = close μ-container μ-nodes μ-value (λ t. container-lts.spec (container-calls t) (container-at t) container-reads.Post
+    (container-shared-slice-read-frame-of t) (container-frame-of-requires t) (container-add-start t) (container-add-u32-at t) (container-u32-at-requires t) (container-add-stop t) (container-write-start-requires t) (container-indentation-requires t) (container-write-nodes-requires t) (container-write-close-requires t) (container-same-length t) (container-returns t))
+    (λ t. nodes-lts.spec (nodes-calls t) (nodes-at t) nodes.Post Inv μ-loop
+    (nodes-returns t) (nodes-separator-of-requires t) (nodes-loop-holds t) (nodes-write-front-requires t) (nodes-sub-write-value t) (nodes-write-value-requires t) (nodes-write-ending-requires t) (nodes-loop-less t) (nodes-loop-again t) (nodes-same-length t) (nodes-returns-2 t))
     λ t. value-lts.spec (value-calls t) (value-at t) value.Post
-    (value-shared-slice-read-k t) (value-write-leaf-requires t) (value-same-length t) (value-returns t) (value-write-marker-requires t) (value-add-t25 t) (value-same-length-2 t) (value-returns-2 t) (value-frame-of-requires t) (value-add-start t) (value-add-u32-at t) (value-u32-at-requires t) (value-add-stop t) (value-write-start-requires t) (value-indentation-requires t) (value-write-nodes-requires t) (value-write-close-requires t) (value-same-length-3 t) (value-returns-3 t)
+    (value-shared-slice-read-k t) (value-write-leaf-requires t) (value-same-length t) (value-returns t) (value-write-marker-requires t) (value-add-t18 t) (value-same-length-2 t) (value-returns-2 t) (value-write-container-requires t) (value-same-length-3 t) (value-returns-3 t)
