@@ -1,13 +1,16 @@
 -- Laws of what is written for a byte, and of a bitwise or of flags. Assumes nothing.
-use mathlib.Core.Path.{_≡_, sym, _∙_}
-use mathlib.Core.List.{List, [], _∷_, _++_}
-use Prim.Native.Nat.{ℕ, suc, _+_, _≤_, _<_}
+use mathlib.Core.Path.{_≡_, refl, sym, ap, ap₂, _∙_}
+use mathlib.Core.Bool.{Bool, true, false, _||_}
+use mathlib.Core.List.{List, [], _∷_, _++_, append-assoc}
+use Prim.Native.Nat.{ℕ, zero, suc, _+_, _-_, _≤_, _<_}
 use native.Mathlib.Numerals.{add-one}
 use native.Mathlib.Omega.{arith}
 use lib.Bits.{bitOr, bitAnd, or-add-and, and-comm, and-le-l}
-use lib.ListN.{length, getD, drop}
-use lib.Seq.{drop-cons}
-use Rattle.text_rules.specs.Escapes.{textEscape, textBody}
+use lib.Dec.{eqb}
+use lib.ListN.{length, getD, take, drop, take-append-drop, length-drop}
+use lib.Seq.{drop-cons, drop-drop, take-all}
+use Rattle.output.specs.Logic.{if, byte}
+use Rattle.text_rules.specs.Escapes.{letterOf, hasLetter, textEscape, textBody}
 
 -- ---- a bitwise or is no less than either side
 
@@ -30,3 +33,47 @@ body-step s i h = rw (byte-at s i h)
 -- a raw byte, and then a text that needs no escape
 pub body-raw : (s : List ℕ) (i : ℕ) → i < length s → textEscape (getD s i 0) ≡ getD s i 0 ∷ [] → textBody (drop (i + 1) s) ≡ drop (i + 1) s → textBody (drop i s) ≡ drop i s
 body-raw s i h e g = body-step s i h ∙ rw (e, g) (sym (byte-at s i h))
+
+-- ---- text that needs no escape, in parts
+
+body-append : (s t : List ℕ) → textBody (s ++ t) ≡ textBody s ++ textBody t
+unfolding textBody
+body-append [] t = refl
+body-append (c ∷ s) t = ap (λ (u : List ℕ). textEscape c ++ u) (body-append s t) ∙ sym (append-assoc (textEscape c) (textBody s) (textBody t))
+
+-- k bytes that need none, and then a text that needs none
+pub body-part : (s : List ℕ) (i k : ℕ) → textBody (take k (drop i s)) ≡ take k (drop i s) → textBody (drop (i + k) s) ≡ drop (i + k) s → textBody (drop i s) ≡ drop i s
+body-part s i k e g =
+    let j : take k (drop i s) ++ drop (i + k) s ≡ drop i s = ap (λ (u : List ℕ). take k (drop i s) ++ u) (sym (drop-drop k i s)) ∙ take-append-drop k (drop i s) in
+    ap textBody (sym j) ∙ body-append (take k (drop i s)) (drop (i + k) s) ∙ ap₂ (λ (u v : List ℕ). u ++ v) e g ∙ j
+
+-- an escape makes a text longer, so every part of a text that needs none needs none
+body-longer : (s : List ℕ) → length s ≤ length (textBody s)
+unfolding textBody textEscape
+body-longer [] = omega arith
+body-longer (c ∷ s) = go (hasLetter c || eqb c (byte "'")) (body-longer s)
+  where
+    go : (b : Bool) → length s ≤ length (textBody s) → suc (length s) ≤ length (if b (byte "\\" ∷ letterOf c ∷ []) (c ∷ []) ++ textBody s)
+    go true h = omega arith
+    go false h = omega arith
+
+body-tail : (c : ℕ) (s : List ℕ) → textBody (c ∷ s) ≡ c ∷ s → textBody s ≡ s
+unfolding textBody textEscape
+body-tail c s = go (hasLetter c || eqb c (byte "'"))
+  where
+    go : (b : Bool) → if b (byte "\\" ∷ letterOf c ∷ []) (c ∷ []) ++ textBody s ≡ c ∷ s → textBody s ≡ s
+    go true e = absurd (omega (arith, ap length e, body-longer s))
+    go false e = ap (drop 1) e
+
+pub body-drop : (k : ℕ) (s : List ℕ) → textBody s ≡ s → textBody (drop k s) ≡ drop k s
+body-drop zero s e = e
+body-drop (suc k) [] e = e
+body-drop (suc k) (c ∷ s) e = body-drop k s (body-tail c s e)
+
+-- the last k bytes need no escape, so what is left of them needs none
+pub body-last : (s : List ℕ) (i k : ℕ) → length s ≤ i + k → k ≤ length s → textBody (take k (drop (length s - k) s)) ≡ take k (drop (length s - k) s) → textBody (drop i s) ≡ drop i s
+body-last s i k h l e =
+    let m = length s - k in
+    let t : take k (drop m s) ≡ drop m s = take-all k (drop m s) (omega (arith, length-drop m s)) in
+    let j : drop (i - m) (drop m s) ≡ drop i s = drop-drop (i - m) m s ∙ ap (λ (n : ℕ). drop n s) (let q : m + (i - m) ≡ i = omega arith in q) in
+    rw j at (body-drop (i - m) (drop m s) (rw t at e))

@@ -14,4 +14,6 @@ pub mod WordsLaws
 pub mod SymbolsText
 pub mod FloatsBits
 pub mod NullsText
+pub mod LaneLaws
+pub mod LaneTests
 pub mod WordsBack

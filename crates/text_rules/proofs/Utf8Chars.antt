@@ -93,7 +93,7 @@ stop s i h z =
     ap (λ (x : List ℕ). after 0 x) e ∙ ap (λ (m : ℕ). ltb 0 m && after (m - 1) (drop (suc i) s)) k
 
 -- a byte below hex 80 is a character
-pub ascii-step : (s : List ℕ) (i : ℕ) → i < length s → getD s i 0 < 128 → after 0 (drop (i + 1) s) ≡ true → after 0 (drop i s) ≡ true
-ascii-step s i h l e =
+pub ascii-step : (s : List ℕ) (i : ℕ) → i < length s → getD s i 0 < 128 → after 0 (drop i s) ≡ after 0 (drop (i + 1) s)
+ascii-step s i h l =
     let one : charAt s i ≡ 1 = ascii _ _ _ _ l in
-    step s i h (omega arith) ∙ ap (λ (n : ℕ). after 0 (drop (i + n) s)) one ∙ e
+    step s i h (omega arith) ∙ ap (λ (n : ℕ). after 0 (drop (i + n) s)) one

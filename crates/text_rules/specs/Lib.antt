@@ -7,3 +7,4 @@ pub mod Utf8
 pub mod Escapes
 pub mod Text
 pub mod WordSteps
+pub mod Lanes

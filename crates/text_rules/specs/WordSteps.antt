@@ -7,7 +7,7 @@ use mathlib.Core.Option.{none, some}
 use lib.Dec.{leb, eqb}
 use lib.ListN.{length, take, drop}
 use Rattle.output.specs.Logic.{if, byte}
-use Rattle.text_rules.specs.Texts.{strip}
+use Rattle.text_rules.specs.Texts.{empty, strip}
 use Rattle.text_rules.specs.Digits.{past}
 use Rattle.text_rules.specs.Words.{isKeyword, resemblesSymbolId, resemblesVersionMarker, isIdentifier, word, behind, kindOf}
 use Rattle.text_rules.specs.declared.words.Word.{Word}
@@ -51,3 +51,7 @@ special c = eqb c (byte "$") || eqb c (byte "t") || eqb c (byte "f") || eqb c (b
 -- symbol text that is written bare
 unfoldable pub isBare : List ℕ → Bool
 isBare s = isIdentifier s && (not (isKeyword s) && (not (resemblesSymbolId s) && not (resemblesVersionMarker s)))
+
+-- every byte is one of an identifier
+unfoldable pub allPart : List ℕ → Bool
+allPart s = empty (behind s)

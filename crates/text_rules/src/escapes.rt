@@ -1,8 +1,9 @@
 // Escapes, written: the table of escape kinds, and the body of quoted text and strings.
 ghost use mathlib.Core.Path.{_≡_};
-ghost use mathlib.Core.Bool.{_||_};
+ghost use mathlib.Core.Bool.{true, _||_};
 ghost use mathlib.Core.List.{[], _∷_};
 ghost use lib.Dec.{eqb};
+ghost use lib.ListN.{length, drop};
 ghost use Prim.Native.Nat.{_≤_};
 ghost use Rattle.output.specs.Logic.{byte};
 ghost use Rattle.output.specs.Wrote.{Wrote, limit};
@@ -382,17 +383,53 @@ fn suspect(b: u8) -> u8
     0
 }
 
-// 0 only where no byte needs an escape. There is no way out of the loop, so that the compiler makes it a vector loop.
-fn any_suspect(s: &[u8]) -> u8
-    ensures { λ r. ⌜ (r ≡ 0 → textBody (now (s .entry)) ≡ now (s .entry)) ⌝ }
+// 0 only where none of the first m bytes needs an escape. There is no way out of the loop, so that the compiler makes it a vector loop.
+fn any_suspect(s: &[u8], m: usize) -> u8
+    requires { ⌜ m ≤ length (now s) ⌝ }
+    ensures { λ r. ⌜ (r ≡ 0 → textBody (drop m (now (s .entry))) ≡ drop m (now (s .entry)) → textBody (now (s .entry)) ≡ now (s .entry)) ⌝ }
 {
     let mut n = 0;
     let mut i = 0;
-    while i < s.len() {
+    while i < m {
         n = n | suspect(s[i]);
         i += 1;
     }
     n
+}
+
+// No byte needs an escape, one after the other.
+fn raw_bytes(s: &[u8]) -> bool
+    ensures { λ r. ⌜ (r ≡ true → textBody (now (s .entry)) ≡ now (s .entry)) ⌝ }
+{
+    let mut i = 0;
+    while i < s.len() {
+        if suspect(s[i]) != 0 {
+            return false;
+        }
+        i += 1;
+    }
+    true
+}
+
+// No byte needs an escape: many at a time, then words of eight, and the last eight again. It may say no too often, never yes.
+fn is_raw(s: &[u8]) -> bool
+    ensures { λ r. ⌜ (r ≡ true → textBody (now (s .entry)) ≡ now (s .entry)) ⌝ }
+{
+    let n = s.len();
+    if n < 8 {
+        return raw_bytes(s);
+    }
+    let mut i = n / 32 * 32;
+    if any_suspect(s, i) != 0 {
+        return false;
+    }
+    while i + 8 < n {
+        if !crate::lanes::is_raw_word(output::word_at(s, i), 8) {
+            return false;
+        }
+        i += 8;
+    }
+    crate::lanes::is_raw_word(output::word_at(s, n - 8), 8)
 }
 
 // The body of quoted text and strings: NUL, 7 to 13, the backslash and both quote marks escaped, other characters raw.
@@ -400,7 +437,7 @@ pub fn format_escaped_text_body(buf: &mut [u8], pos: usize, s: &[u8]) -> usize
     requires { ⌜ pos ≤ limit ⌝ }
     ensures { λ r. ⌜ Wrote (now (buf .entry)) (now (buf .exit)) pos r (textBody (now (s .entry))) ⌝ }
 {
-    if any_suspect(s) == 0 {
+    if is_raw(s) {
         return output::put_bytes(buf, pos, s);
     }
     put_text_escaped(buf, pos, s)

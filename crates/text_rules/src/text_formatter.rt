@@ -1,7 +1,10 @@
 // What the Rust's `text_formatter` writes of scalars: symbols, strings, nulls, bools and floats.
-ghost use Prim.Native.Nat.{_≤_};
+ghost use Prim.Native.Nat.{_+_, _≤_};
 ghost use mathlib.Core.Path.{_≡_};
-ghost use Rattle.output.specs.Wrote.{Wrote, limit};
+ghost use mathlib.Core.List.{[], _∷_, _++_};
+ghost use lib.ListN.{length, take, drop};
+ghost use Rattle.output.specs.Logic.{byte};
+ghost use Rattle.output.specs.Wrote.{Wrote, limit, leBytes};
 ghost use Rattle.text_rules.specs.Text.{marked, symbolText, symbolIdText, stringText, nullText, boolText, bitsText, floatText};
 ghost use Rattle.text_rules.specs.WordSteps.{special, isBare};
 
@@ -189,4 +192,37 @@ pub fn format_symbol_token(buf: &mut [u8], pos: usize, text: &[u8]) -> usize
         return output::put_bytes(buf, pos, text);
     }
     put_marked(buf, pos, b'\'', text)
+}
+
+// The n lowest bytes of x between quote marks, with no escapes.
+fn put_quoted_word(buf: &mut [u8], pos: usize, x: u64, n: usize) -> usize
+    requires { ⌜ pos ≤ limit ⌝ }
+    ensures { λ r. ⌜ Wrote (now (buf .entry)) (now (buf .exit)) pos r (byte "'" ∷ (leBytes n x ++ (byte "'" ∷ []))) ⌝ }
+{
+    let p = output::put(buf, pos, b'\'');
+    let q = output::put_le(buf, p, x, n);
+    output::put(buf, q, b'\'')
+}
+
+// A symbol's text that is n bytes of s from a place on. Up to eight bytes, with as many in s, are looked through at once.
+pub fn format_symbol_at(buf: &mut [u8], pos: usize, s: &[u8], from: usize, n: usize) -> usize
+    requires { ⌜ pos ≤ limit ⌝ }
+    requires { ⌜ from + n ≤ length (now s) ⌝ }
+    ensures { λ r. ⌜ Wrote (now (buf .entry)) (now (buf .exit)) pos r (symbolText (take n (drop from (now (s .entry))))) ⌝ }
+{
+    if 1 <= n {
+        if n <= 8 {
+            if from + 8 <= s.len() {
+                let x = output::word_at(s, from);
+                if crate::lanes::is_bare_word(x, n) {
+                    return output::put_le(buf, pos, x, n);
+                }
+                if crate::lanes::is_quoted_word(x, n) {
+                    return put_quoted_word(buf, pos, x, n);
+                }
+            }
+        }
+    }
+    let to = from + n;
+    format_symbol_token(buf, pos, &s[from..to])
 }

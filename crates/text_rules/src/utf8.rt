@@ -1,8 +1,7 @@
 // UTF-8 checking. The leading one bits of a first byte give the character's length.
 ghost use mathlib.Core.Path.{_≡_};
-ghost use mathlib.Core.Bool.{true};
-ghost use Prim.Native.Nat.{_<_};
-ghost use lib.ListN.{length, getD};
+ghost use Prim.Native.Nat.{_+_, _≤_, _<_};
+ghost use lib.ListN.{length, getD, take, drop};
 ghost use Rattle.text_rules.specs.Utf8.{leadOf, isCont, value2, value3, value4, isScalar, ok2, ok3, ok4, charOf, charAt, valid};
 
 // The number of bytes that a first byte announces, 0 for a byte that starts no character: the leading zeros of the inverted byte are the
@@ -158,24 +157,41 @@ pub fn char_len(s: &[u8], at: usize) -> usize
     char_of(a, b, c, d)
 }
 
-// Every bit that some byte has. There is no way out of the loop, so that the compiler makes it a vector loop.
-fn or_all(s: &[u8]) -> u8
-    ensures { λ r. ⌜ (r < 0x80 → valid (now (s .entry)) ≡ true) ⌝ }
+// Every bit that some of the first m bytes has. There is no way out of the loop, so that the compiler makes it a vector loop.
+fn or_first(s: &[u8], m: usize) -> u8
+    requires { ⌜ m ≤ length (now s) ⌝ }
+    ensures { λ r. ⌜ (r < 0x80 → valid (now (s .entry)) ≡ valid (drop m (now (s .entry)))) ⌝ }
 {
     let mut n = 0;
     let mut i = 0;
-    while i < s.len() {
+    while i < m {
         n = n | s[i];
         i += 1;
     }
     n
 }
 
-// Whether the bytes are characters, one after the other.
-fn valid_chars(s: &[u8]) -> bool
-    ensures { λ r. ⌜ r ≡ valid (now (s .entry)) ⌝ }
+// The place behind the words of eight bytes below hex 80 from a place on.
+fn ascii_words(s: &[u8], from: usize) -> usize
+    requires { ⌜ from ≤ length (now s) ⌝ }
+    ensures { λ r. ⌜ (r ≤ length (now (s .entry))) × (valid (drop from (now (s .entry))) ≡ valid (drop r (now (s .entry)))) ⌝ }
 {
-    let mut i: usize = 0;
+    let mut i = from;
+    while i + 8 <= s.len() {
+        if output::word_at(s, i) & 0x8080808080808080 != 0 {
+            return i;
+        }
+        i += 8;
+    }
+    i
+}
+
+// Whether the bytes from a place on are characters, one after the other.
+fn valid_chars(s: &[u8], from: usize) -> bool
+    requires { ⌜ from ≤ length (now s) ⌝ }
+    ensures { λ r. ⌜ r ≡ valid (drop from (now (s .entry))) ⌝ }
+{
+    let mut i = from;
     while i < s.len() {
         let n = char_len(s, i);
         if n == 0 {
@@ -186,12 +202,39 @@ fn valid_chars(s: &[u8]) -> bool
     true
 }
 
-// Whether the bytes are characters one after the other. Bytes that are all below hex 80 are.
+// The same by words of eight bytes first, and the last eight again.
+fn valid_from(s: &[u8], from: usize) -> bool
+    requires { ⌜ from ≤ length (now s) ⌝ }
+    ensures { λ r. ⌜ r ≡ valid (drop from (now (s .entry))) ⌝ }
+{
+    let n = s.len();
+    let i = ascii_words(s, from);
+    if n < i + 8 {
+        if 8 <= n {
+            if output::word_at(s, n - 8) & 0x8080808080808080 == 0 {
+                return true;
+            }
+        }
+    }
+    valid_chars(s, i)
+}
+
+// Whether the bytes are characters one after the other. Bytes below hex 80 are, and are passed many at a time.
 pub fn valid_utf8(s: &[u8]) -> bool
     ensures { λ r. ⌜ r ≡ valid (now (s .entry)) ⌝ }
 {
-    if or_all(s) < 0x80 {
-        return true;
+    let m = s.len() / 32 * 32;
+    if or_first(s, m) < 0x80 {
+        return valid_from(s, m);
     }
-    valid_chars(s)
+    valid_from(s, 0)
+}
+
+// The same of n bytes from a place on.
+pub fn valid_part(s: &[u8], from: usize, n: usize) -> bool
+    requires { ⌜ from + n ≤ length (now s) ⌝ }
+    ensures { λ r. ⌜ r ≡ valid (take n (drop from (now (s .entry)))) ⌝ }
+{
+    let to = from + n;
+    valid_utf8(&s[from..to])
 }

@@ -3,8 +3,8 @@ use borrow.Author.Needs.{needs}
 use Rattle.text_rules.proofs.escapes.format_escaped_text_body.Statement.{statement}
 use Rattle.text_rules.proofs.escapes.format_escaped_text_body.Tie as tie
 
-any-suspect-requires : tie.Need-any-suspect-requires
-any-suspect-requires c κs = search needs
+is-raw-requires : tie.Need-is-raw-requires
+is-raw-requires c κs = search needs
 
 put-bytes-requires : tie.Need-put-bytes-requires
 put-bytes-requires c κs = search needs
@@ -13,7 +13,7 @@ same-length : tie.Need-same-length
 same-length c = search needs
 
 returns : tie.Need-returns
-returns c = rw (c .before .before .before .before .before .any-suspect .ensures (c .before .before .before .before .if1 .taken)) (c .before .before .put-bytes .ensures)
+returns c = rw (c .before .before .before .before .before .is-raw .ensures (c .before .before .before .before .if1 .taken)) (c .before .before .put-bytes .ensures)
 
 put-text-escaped-requires : tie.Need-put-text-escaped-requires
 put-text-escaped-requires c κs = search needs
@@ -28,7 +28,7 @@ pub format-escaped-text-body-spec : {M : Type 1} → statement M
 format-escaped-text-body-spec =
     tie.close
     (tie.spec
-    any-suspect-requires
+    is-raw-requires
     put-bytes-requires
     same-length
     returns

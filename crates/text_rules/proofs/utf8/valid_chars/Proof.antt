@@ -1,4 +1,4 @@
--- `utf8::valid_chars` meets its contract. The invariant: what is left from i decides the whole. Assumes nothing.
+-- `utf8::valid_chars` meets its contract. The invariant: what is left from i decides what is left from the first place. Assumes nothing.
 use mathlib.Core.Path.{_≡_, refl, sym, ap, _∙_}
 use mathlib.Core.List.{List}
 use Prim.Native.Nat.{ℕ, _+_, _-_, _≤_, _<_}
@@ -10,14 +10,14 @@ use Rattle.text_rules.proofs.utf8.valid_chars.Statement.{statement}
 use Rattle.text_rules.proofs.utf8.valid_chars.Tie as tie
 
 abbrev Inv-loop : tie.InvT-loop
-Inv-loop s i₀ i = (i ≤ length s) × (valid s ≡ after 0 (drop i s))
+Inv-loop s from i₀ i = (i ≤ length s) × (valid (drop from s) ≡ after 0 (drop i s))
 
 abbrev μ-loop : tie.MeasureT-loop
-μ-loop s i₀ i = length s - i
+μ-loop s from i₀ i = length s - i
 
 loop-holds : tie.Need-loop-holds Inv-loop μ-loop
 unfolding valid
-loop-holds c = (omega arith, refl)
+loop-holds c = (c .before .pre, refl)
 
 char-len-requires : tie.Need-char-len-requires Inv-loop μ-loop
 char-len-requires c κs = omega arith

@@ -1,0 +1,280 @@
+-- What the tests of a word's bytes say: each is one test over the 256 bytes, and then every byte of a text passes it. Assumes nothing.
+use mathlib.Core.Path.{_≡_, refl, sym, ap, ap₂, _∙_}
+use mathlib.Core.Bool.{Bool, true, false, _&&_, _||_, not}
+use mathlib.Core.List.{List, [], _∷_, _++_, append-nil}
+use mathlib.Core.Option.{none}
+use Prim.Native.Nat.{ℕ, zero, suc, _+_, _-_, _*_, _/_, _%_, _^_, _≤_, _<_}
+use native.Mathlib.Nat.{mod-one, pow-suc}
+use native.Mathlib.Omega.{arith}
+use lib.Arith.{mod-mul}
+use lib.Bits.{bitAnd, bitOr, bitXor}
+use lib.Dec.{eqb, ltb, leb}
+use lib.ListN.{length, take, drop, take-append-drop, length-drop}
+use lib.Seq.{drop-drop, take-all, take-take}
+use borrow.Author.Tests.{ltb-true, not-true, eq-eqb, ne-eqb}
+use Rattle.output.specs.Logic.{if, on, byte, ascii}
+use Rattle.output.specs.Wrote.{leBytes}
+use Rattle.output.proofs.Laws.{length-le}
+use Rattle.output.proofs.Words.{take-le}
+use Rattle.text_rules.specs.Texts.{empty, starts, strip, same}
+use Rattle.text_rules.specs.Digits.{isDigit}
+use Rattle.text_rules.specs.Utf8.{charAt, after, valid}
+use Rattle.text_rules.specs.Escapes.{hasLetter, textEscape, textBody}
+use Rattle.text_rules.specs.Words.{isStart, isPart, behind, isKeyword, resemblesSymbolId, resemblesVersionMarker, isIdentifier}
+use Rattle.text_rules.specs.WordSteps.{isBare, allPart}
+use Rattle.text_rules.specs.Text.{symbolText}
+use Rattle.text_rules.specs.Lanes.{Lane, rep, equalMark, letterMark, digitMark, rawMark, every}
+use Rattle.text_rules.proofs.Table.{same as agree}
+use Rattle.text_rules.proofs.LaneLaws.{two-digits, lane-self, unmarked}
+use Rattle.text_rules.proofs.SymbolsText.{symbol-marked}
+use Rattle.text_rules.proofs.Utf8Chars.{ascii as one-byte}
+use Rattle.text_rules.proofs.WordsLaws.{same-long, same-is}
+use Rattle.text_rules.proofs.DigitLaws.{never}
+
+both : (a b : Bool) → (a && b) ≡ true → (a ≡ true) × (b ≡ true)
+both true b h = (refl, h)
+both false b h = never (sym h)
+
+-- ---- bytes below hex 80
+
+abbrev pub isAscii : ℕ → Bool
+isAscii b = ltb b 0x80
+
+pub ascii-test : (b : ℕ) → b < 256 → eqb (bitAnd b 128) 0 ≡ isAscii b
+ascii-test = agree (λ b. eqb (bitAnd b 128) 0) isAscii 256 refl
+
+-- in front of a text they decide nothing
+pub ascii-front : (s t : List ℕ) → every isAscii s ≡ true → after 0 (s ++ t) ≡ after 0 t
+unfolding after every
+ascii-front [] t h = refl
+ascii-front (b ∷ s) t h =
+    let p = both (isAscii b) (every isAscii s) h in
+    let one : charAt (b ∷ (s ++ t)) 0 ≡ 1 = one-byte _ _ _ _ (ltb-true b 0x80 (p .0)) in
+    rw one (ascii-front s t (p .1))
+
+pub ascii-all : (s : List ℕ) → every isAscii s ≡ true → valid s ≡ true
+unfolding valid after
+ascii-all s h = ap (after 0) (sym (append-nil s)) ∙ ascii-front s [] h
+
+-- eight bytes of which no high bit is set
+word-ascii : (x : ℕ) → x < 2 ^ 64 → bitAnd x 0x8080808080808080 ≡ 0 → every isAscii (leBytes 8 x) ≡ true
+unfolding rep
+word-ascii x h e = sym (unmarked isAscii 8 (lane-self x h) ascii-test (omega arith)) ∙ eq-eqb (bitAnd x 0x8080808080808080) 0 e
+
+-- a word at a place of which no high bit is set is passed
+pub word-passed : (s : List ℕ) (i x : ℕ) → x < 2 ^ 64 → leBytes 8 x ≡ take 8 (drop i s) → bitAnd x 0x8080808080808080 ≡ 0 → valid (drop i s) ≡ valid (drop (i + 8) s)
+unfolding valid
+word-passed s i x h w e =
+    let a : every isAscii (take 8 (drop i s)) ≡ true = rw w at (word-ascii x h e) in
+    ap (after 0) (sym (take-append-drop 8 (drop i s))) ∙ ascii-front (take 8 (drop i s)) (drop 8 (drop i s)) a ∙ ap (after 0) (drop-drop 8 i s)
+
+every-drop : (p : ℕ → Bool) (k : ℕ) (s : List ℕ) → every p s ≡ true → every p (drop k s) ≡ true
+unfolding every
+every-drop p zero s h = h
+every-drop p (suc k) [] h = h
+every-drop p (suc k) (b ∷ s) h = every-drop p k s (both (p b) (every p s) h .1)
+
+-- where no high bit of the last eight bytes is set, what is left of them is valid
+pub last-word : (s : List ℕ) (i x : ℕ) → 8 ≤ length s → length s < i + 8 → x < 2 ^ 64 → leBytes 8 x ≡ take 8 (drop (length s - 8) s) → bitAnd x 0x8080808080808080 ≡ 0 → valid (drop i s) ≡ true
+last-word s i x l g h w e =
+    let m = length s - 8 in
+    let t : take 8 (drop m s) ≡ drop m s = take-all 8 (drop m s) (omega (arith, length-drop m s)) in
+    let a : every isAscii (drop m s) ≡ true = rw (w ∙ t) at (word-ascii x h e) in
+    let j : m + (i - m) ≡ i = omega arith in
+    ap (λ (u : List ℕ). valid u) (sym (drop-drop (i - m) m s ∙ ap (λ (k : ℕ). drop k s) j)) ∙ ascii-all (drop (i - m) (drop m s)) (every-drop isAscii (i - m) (drop m s) a)
+
+-- ---- bytes that text has raw
+
+abbrev pub isRaw : ℕ → Bool
+isRaw b = leb 0x20 b && not (hasLetter b || eqb b (byte "'"))
+
+pub raw-test : (b : ℕ) → b < 256 → eqb (bitAnd (0xFF - bitOr (rawMark b) b) 128) 0 ≡ isRaw b
+unfolding hasLetter
+raw-test = agree (λ b. eqb (bitAnd (0xFF - bitOr (rawMark b) b) 128) 0) isRaw 256 refl
+
+pub raw-body : (s : List ℕ) → every isRaw s ≡ true → textBody s ≡ s
+unfolding textBody textEscape every
+raw-body [] h = refl
+raw-body (b ∷ s) h =
+    let p = both (isRaw b) (every isRaw s) h in
+    let q = both (leb 0x20 b) (not (hasLetter b || eqb b (byte "'"))) (p .0) in
+    rw (not-true (hasLetter b || eqb b (byte "'")) (q .1), raw-body s (p .1))
+
+-- ---- bytes of identifiers
+
+pub part-test : (b : ℕ) → b < 256 → eqb (bitAnd (bitOr (0xFF - bitOr (bitOr (letterMark b) (digitMark b)) (equalMark 0x24 b)) b) 128) 0 ≡ isPart b
+unfolding isPart isStart isDigit
+part-test = agree (λ b. eqb (bitAnd (bitOr (0xFF - bitOr (bitOr (letterMark b) (digitMark b)) (equalMark 0x24 b)) b) 128) 0) isPart 256 refl
+
+pub every-part : (s : List ℕ) → every isPart s ≡ allPart s
+unfolding allPart behind every
+every-part [] = refl
+every-part (b ∷ s) = go (isPart b) (every-part s)
+  where
+    go : (p : Bool) → every isPart s ≡ empty (behind s) → p && every isPart s ≡ empty (if p (behind s) (b ∷ s))
+    go true e = e
+    go false e = refl
+
+-- letters and `_`
+abbrev pub isName : ℕ → Bool
+isName b = isStart b && not (eqb b (byte "$"))
+
+pub name-test : (b : ℕ) → b < 256 → eqb (bitAnd (bitOr (0xFF - letterMark b) b) 128) 0 ≡ isName b
+unfolding isStart
+name-test = agree (λ b. eqb (bitAnd (bitOr (0xFF - letterMark b) b) 128) 0) isName 256 refl
+
+-- an identifier's byte with the mark of a letter or `_`
+start-test : (b : ℕ) → b < 256 → isPart b && not (eqb (bitAnd (letterMark b) 128) 0) ≡ isName b
+unfolding isPart isStart isDigit
+start-test = agree (λ b. isPart b && not (eqb (bitAnd (letterMark b) 128) 0)) isName 256 refl
+
+part-first : (b : ℕ) (s : List ℕ) → allPart (b ∷ s) ≡ true → (isPart b ≡ true) × (allPart s ≡ true)
+part-first b s h =
+    let p : isPart b && allPart s ≡ true = ap (λ (e : Bool). isPart b && e) (sym (every-part s)) ∙ unfold every in (every-part (b ∷ s) ∙ h) in
+    both (isPart b) (allPart s) p
+
+names-part : (s : List ℕ) → every isName s ≡ true → allPart s ≡ true
+unfolding allPart behind every isPart
+names-part [] h = refl
+names-part (b ∷ s) h =
+    let p = both (isName b) (every isName s) h in
+    let q = both (isStart b) (not (eqb b (byte "$"))) (p .0) in
+    rw (q .0) (names-part s (p .1))
+
+-- an identifier that starts with no `$` and is no keyword is bare
+pub name-bare : (b : ℕ) (s : List ℕ) → isName b ≡ true → allPart s ≡ true → isKeyword (b ∷ s) ≡ false → isBare (b ∷ s) ≡ true
+unfolding isBare isIdentifier resemblesSymbolId resemblesVersionMarker starts strip allPart
+name-bare b s h e k =
+    let q = both (isStart b) (not (eqb b (byte "$"))) h in
+    rw (q .0, e, k, not-true (eqb b (byte "$")) (q .1))
+
+pub names-bare : (s : List ℕ) → 0 < length s → every isName s ≡ true → isKeyword s ≡ false → isBare s ≡ true
+unfolding every
+names-bare [] l h k = absurd (omega arith)
+names-bare (b ∷ s) l h k =
+    let p = both (isName b) (every isName s) h in
+    name-bare b s (p .0) (names-part s (p .1)) k
+
+-- the mark of the lowest byte
+pub first-name : (x v n : ℕ) → 1 ≤ n → Lane letterMark x v → allPart (leBytes n x) ≡ true → (bitAnd v 128 ≡ 0 → ⊥) → isKeyword (leBytes n x) ≡ false → isBare (leBytes n x) ≡ true
+unfolding rep every leBytes allPart behind
+first-name x v zero l a p e k = absurd (omega arith)
+first-name x v (suc n) l a p e k =
+    let b = x % 256 in
+    let m : ℕ → Bool = λ c. eqb (bitAnd (letterMark c) 128) 0 in
+    let t : every m (leBytes 1 x) ≡ false = sym (unmarked m 1 a (λ c h. refl) (omega arith)) ∙ ne-eqb (bitAnd v 128) 0 e in
+    let g : m b ≡ false = first (m b) t in
+    let q = part-first b (leBytes n (x / 256)) p in
+    name-bare b (leBytes n (x / 256)) (sym (start-test b (omega arith)) ∙ rw (q .0, g)) (q .1) k
+  where
+    first : (c : Bool) → c && true ≡ false → c ≡ false
+    first true h = h
+    first false h = refl
+
+-- a text that is no identifier, or is a keyword, is not bare
+pub identifier-part : (s : List ℕ) → isIdentifier s ≡ true → allPart s ≡ true
+unfolding isIdentifier allPart behind isPart
+identifier-part [] h = refl
+identifier-part (c ∷ s) h =
+    let p = both (isStart c) (empty (behind s)) h in
+    rw (p .0) (p .1)
+
+pub other-marked : (s : List ℕ) → allPart s ≡ false → isBare s ≡ false
+unfolding isBare
+other-marked s h = go (isIdentifier s) refl
+  where
+    go : (b : Bool) → isIdentifier s ≡ b → b && (not (isKeyword s) && (not (resemblesSymbolId s) && not (resemblesVersionMarker s))) ≡ false
+    go true e = never (sym (identifier-part s e) ∙ h)
+    go false e = refl
+
+pub keyword-marked : (s : List ℕ) → isKeyword s ≡ true → isBare s ≡ false
+unfolding isBare
+keyword-marked s h = rw h (go (isIdentifier s))
+  where
+    go : (b : Bool) → b && false ≡ false
+    go true = refl
+    go false = refl
+
+-- a text that is not bare and needs no escape, quoted
+pub symbol-quoted : (s : List ℕ) → isBare s ≡ false → textBody s ≡ s → symbolText s ≡ byte "'" ∷ (s ++ (byte "'" ∷ []))
+symbol-quoted s h e = symbol-marked s h ∙ ap (λ (t : List ℕ). byte "'" ∷ (t ++ (byte "'" ∷ []))) e
+
+-- n bytes of a word of eight at a place
+pub word-part : (s : List ℕ) (i n x : ℕ) → n ≤ 8 → leBytes 8 x ≡ take 8 (drop i s) → leBytes n x ≡ take n (drop i s)
+word-part s i n x h e = sym (take-le n 8 x h) ∙ ap (take n) e ∙ take-take n 8 (drop i s) h
+
+-- ---- keywords
+
+-- no byte of a keyword needs an escape
+pub keyword-raw : (s : List ℕ) → isKeyword s ≡ true → textBody s ≡ s
+unfolding isKeyword textBody textEscape hasLetter
+keyword-raw s h = go (same (ascii "true") s) refl (same (ascii "false") s) refl (same (ascii "nan") s) refl (same (ascii "null") s) refl h
+  where
+    go : (a : Bool) → same (ascii "true") s ≡ a → (b : Bool) → same (ascii "false") s ≡ b → (c : Bool) → same (ascii "nan") s ≡ c → (d : Bool) → same (ascii "null") s ≡ d → a || b || c || d ≡ true → textBody s ≡ s
+    go true p b q c r d t e = rw (same-is (ascii "true") s p)
+    go false p true q c r d t e = rw (same-is (ascii "false") s q)
+    go false p false q true r d t e = rw (same-is (ascii "nan") s r)
+    go false p false q false r true t e = rw (same-is (ascii "null") s t)
+    go false p false q false r false t e = never (sym e)
+
+-- a text as a number, the lowest byte first
+unfoldable value : List ℕ → ℕ
+value [] = 0
+value (b ∷ s) = value s * 256 + b
+
+same-cons : (c b : ℕ) (s t : List ℕ) → same (c ∷ s) (b ∷ t) ≡ eqb b c && same s t
+unfolding same strip
+same-cons c b s t = go (eqb b c)
+  where
+    go : (a : Bool) → on (if a (strip s t) none) empty false ≡ a && on (strip s t) empty false
+    go true = refl
+    go false = refl
+
+-- the lowest bytes of a number are a text
+same-le : (s : List ℕ) → every (λ b. ltb b 256) s ≡ true → (x : ℕ) → same s (leBytes (length s) x) ≡ eqb (x % 256 ^ length s) (value s)
+unfolding every leBytes value same strip
+same-le [] h x = sym (ap (λ (k : ℕ). eqb k 0) (mod-one x))
+same-le (c ∷ s) h x =
+    let p = both (ltb c 256) (every (λ b. ltb b 256) s) h in
+    let l : x % 256 < 256 = omega arith in
+    let m : x % 256 ^ suc (length s) ≡ (x / 256 % 256 ^ length s) * 256 + x % 256 = rw (pow-suc 256 (length s)) (mod-mul x (pow-pos (length s)) (omega arith)) in
+    same-cons c (x % 256) s (leBytes (length s) (x / 256))
+    ∙ ap (λ (b : Bool). eqb (x % 256) c && b) (same-le s (p .1) (x / 256))
+    ∙ sym (two-digits (x / 256 % 256 ^ length s) (x % 256) (value s) c l (ltb-true c 256 (p .0)))
+    ∙ ap (λ (k : ℕ). eqb k (value s * 256 + c)) (sym m)
+  where
+    pow-pos : (n : ℕ) → 0 < 256 ^ n
+    pow-pos zero = omega arith
+    pow-pos (suc n) = rw (pow-suc 256 n) (omega (arith, pow-pos n))
+
+-- a word of another length
+other-length : (s : List ℕ) (n x : ℕ) → (n ≡ length s → ⊥) → same s (leBytes n x) ≡ false
+other-length s n x h = same-long s (leBytes n x) (λ e. h (sym (length-le n x) ∙ e))
+
+first-last : (a d : Bool) → a || false || false || d ≡ a || d
+first-last true d = refl
+first-last false d = refl
+
+third : (c : Bool) → false || false || c || false ≡ c
+third true = refl
+third false = refl
+
+second : (c : Bool) → false || c || false || false ≡ c
+second true = refl
+second false = refl
+
+pub keyword-4 : (x : ℕ) → isKeyword (leBytes 4 x) ≡ eqb (x % 4294967296) 0x65757274 || eqb (x % 4294967296) 0x6C6C756E
+unfolding isKeyword every value
+keyword-4 x = rw (same-le (ascii "true") refl x, other-length (ascii "false") 4 x (λ (e : 4 ≡ 5). omega arith), other-length (ascii "nan") 4 x (λ (e : 4 ≡ 3). omega arith), same-le (ascii "null") refl x) (first-last (eqb (x % 4294967296) 0x65757274) (eqb (x % 4294967296) 0x6C6C756E))
+
+pub keyword-3 : (x : ℕ) → isKeyword (leBytes 3 x) ≡ eqb (x % 16777216) 0x6E616E
+unfolding isKeyword every value
+keyword-3 x = rw (other-length (ascii "true") 3 x (λ (e : 3 ≡ 4). omega arith), other-length (ascii "false") 3 x (λ (e : 3 ≡ 5). omega arith), same-le (ascii "nan") refl x, other-length (ascii "null") 3 x (λ (e : 3 ≡ 4). omega arith)) (third (eqb (x % 16777216) 0x6E616E))
+
+pub keyword-5 : (x : ℕ) → isKeyword (leBytes 5 x) ≡ eqb (x % 1099511627776) 0x65736C6166
+unfolding isKeyword every value
+keyword-5 x = rw (other-length (ascii "true") 5 x (λ (e : 5 ≡ 4). omega arith), same-le (ascii "false") refl x, other-length (ascii "nan") 5 x (λ (e : 5 ≡ 3). omega arith), other-length (ascii "null") 5 x (λ (e : 5 ≡ 4). omega arith)) (second (eqb (x % 1099511627776) 0x65736C6166))
+
+pub keyword-none : (n x : ℕ) → (n ≡ 3 → ⊥) → (n ≡ 4 → ⊥) → (n ≡ 5 → ⊥) → isKeyword (leBytes n x) ≡ false
+unfolding isKeyword
+keyword-none n x h3 h4 h5 = rw (other-length (ascii "true") n x h4, other-length (ascii "false") n x h5, other-length (ascii "nan") n x h3, other-length (ascii "null") n x h4)

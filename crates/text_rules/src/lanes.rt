@@ -1,0 +1,134 @@
+// Tests of the bytes of a word side by side: up to eight bytes at once, the lowest first. A mark is the high bit of a byte's place. Each test
+// may say no too often, never yes too often, unless it says otherwise.
+ghost use Prim.Native.Nat.{_≤_};
+ghost use mathlib.Core.Path.{_≡_};
+ghost use mathlib.Core.Bool.{true};
+ghost use mathlib.Core.List.{[], _∷_, _++_};
+ghost use Rattle.output.specs.Logic.{byte};
+ghost use Rattle.output.specs.Wrote.{leBytes};
+ghost use Rattle.text_rules.specs.Lanes.{rep, Lane, letterMark, digitMark, equalMark};
+ghost use Rattle.text_rules.specs.Utf8.{valid};
+ghost use Rattle.text_rules.specs.Words.{isKeyword};
+ghost use Rattle.text_rules.specs.WordSteps.{allPart};
+ghost use Rattle.text_rules.specs.Escapes.{textBody};
+ghost use Rattle.text_rules.specs.Text.{symbolText};
+
+// Hex 80 in each of the n lowest bytes.
+fn high_bits(n: usize) -> u64
+    requires { ⌜ (1 ≤ n) × (n ≤ 8) ⌝ }
+    ensures { λ r. ⌜ r ≡ rep n 0x80 ⌝ }
+{
+    match n {
+        1 => 0x80,
+        2 => 0x8080,
+        3 => 0x808080,
+        4 => 0x80808080,
+        5 => 0x8080808080,
+        6 => 0x808080808080,
+        7 => 0x80808080808080,
+        _ => 0x8080808080808080,
+    }
+}
+
+// The n lowest bytes are below hex 80.
+pub fn is_ascii(x: u64, n: usize) -> bool
+    requires { ⌜ (1 ≤ n) × (n ≤ 8) ⌝ }
+    ensures { λ r. ⌜ (r ≡ true → valid (leBytes n x) ≡ true) ⌝ }
+{
+    x & high_bits(n) == 0
+}
+
+// Marks of the bytes whose seven low bits are an ASCII letter or `_`.
+fn letters(x: u64) -> u64
+    ensures { λ r. ⌜ Lane letterMark x r ⌝ }
+{
+    let z = x & 0x7F7F7F7F7F7F7F7F;
+    let y = z | 0x2020202020202020;
+    (y + 0x1F1F1F1F1F1F1F1F) & !(y + 0x0505050505050505)
+        | !((z ^ 0x5F5F5F5F5F5F5F5F) + 0x7F7F7F7F7F7F7F7F)
+}
+
+// The n lowest bytes are true, false, nan or null, no more and no less.
+pub fn is_keyword_word(x: u64, n: usize) -> bool
+    requires { ⌜ (1 ≤ n) × (n ≤ 8) ⌝ }
+    ensures { λ r. ⌜ r ≡ isKeyword (leBytes n x) ⌝ }
+{
+    if n == 4 {
+        let y = x % 4294967296;
+        if y == 0x65757274 {
+            return true;
+        }
+        return y == 0x6C6C756E;
+    }
+    if n == 3 {
+        return x % 16777216 == 0x6E616E;
+    }
+    if n == 5 {
+        return x % 1099511627776 == 0x65736C6166;
+    }
+    false
+}
+
+// The n lowest bytes are letters and `_`, and no keyword: as a symbol they stand bare.
+pub fn is_plain(x: u64, n: usize) -> bool
+    requires { ⌜ (1 ≤ n) × (n ≤ 8) ⌝ }
+    ensures { λ r. ⌜ (r ≡ true → symbolText (leBytes n x) ≡ leBytes n x) ⌝ }
+{
+    if (!letters(x) | x) & high_bits(n) != 0 {
+        return false;
+    }
+    !is_keyword_word(x, n)
+}
+
+// The n lowest bytes are written in text as they are. Every control character is refused, which keeps the test short.
+pub fn is_raw_word(x: u64, n: usize) -> bool
+    requires { ⌜ (1 ≤ n) × (n ≤ 8) ⌝ }
+    ensures { λ r. ⌜ (r ≡ true → textBody (leBytes n x) ≡ leBytes n x) ⌝ }
+{
+    let z = x & 0x7F7F7F7F7F7F7F7F;
+    let r = (z + 0x6060606060606060)
+        & ((z ^ 0x2222222222222222) + 0x7F7F7F7F7F7F7F7F)
+        & ((z ^ 0x2727272727272727) + 0x7F7F7F7F7F7F7F7F)
+        & ((z ^ 0x5C5C5C5C5C5C5C5C) + 0x7F7F7F7F7F7F7F7F);
+    !(r | x) & high_bits(n) == 0
+}
+
+// The n lowest bytes are letters, digits, `_` and `$`, no more and no less.
+pub fn is_identifier_word(x: u64, n: usize) -> bool
+    requires { ⌜ (1 ≤ n) × (n ≤ 8) ⌝ }
+    ensures { λ r. ⌜ r ≡ allPart (leBytes n x) ⌝ }
+{
+    let z = x & 0x7F7F7F7F7F7F7F7F;
+    let m = letters(x)
+        | (z + 0x5050505050505050) & !(z + 0x4646464646464646)
+        | !((z ^ 0x2424242424242424) + 0x7F7F7F7F7F7F7F7F);
+    (!m | x) & high_bits(n) == 0
+}
+
+// As a symbol the n lowest bytes stand bare: an identifier that starts with no `$`, and no keyword.
+pub fn is_bare_word(x: u64, n: usize) -> bool
+    requires { ⌜ (1 ≤ n) × (n ≤ 8) ⌝ }
+    ensures { λ r. ⌜ (r ≡ true → symbolText (leBytes n x) ≡ leBytes n x) ⌝ }
+{
+    if !is_identifier_word(x, n) {
+        return false;
+    }
+    if letters(x) & 0x80 == 0 {
+        return false;
+    }
+    !is_keyword_word(x, n)
+}
+
+// As a symbol the n lowest bytes are quoted as they are: a keyword, or no identifier and nothing to escape.
+pub fn is_quoted_word(x: u64, n: usize) -> bool
+    requires { ⌜ (1 ≤ n) × (n ≤ 8) ⌝ }
+    ensures { λ r. ⌜ (r ≡ true → symbolText (leBytes n x) ≡ byte "'" ∷ (leBytes n x ++ (byte "'" ∷ []))) ⌝ }
+{
+    if is_keyword_word(x, n) {
+        return true;
+    }
+    if is_identifier_word(x, n) {
+        return false;
+    }
+    is_raw_word(x, n)
+}
