@@ -175,7 +175,7 @@ module _ (l : List ℕ) where
   unfolding nameOf
   name-good at e n z nz = let r = sym-read n z nz in rw (r .is, r .sound)
 
-  pub number-text : kind l ≡ 6 → numberIn l ≡ false
+  number-text : kind l ≡ 6 → numberIn l ≡ false
   unfolding numberIn symOf
   number-text k = simp (eq-eqb _ _ k) (go (textOf l))
     where

@@ -102,7 +102,7 @@ pub record Refused (d : ℕ) (k : Frame) (s : List ℕ) (at e g : ℕ) : Type 0 
   pub fault : walk d k (part s at e) .1 ≡ g
   pub some : g ≡ 0 → ⊥
 
-pub head-turn : (k : Frame) (s : List ℕ) (at e : ℕ) (a b : Bool) (p : ℕ) (m n : Bool) → at ≤ e → e ≤ length s → F.Whole p m n ≡ headFront at a b (headOf k (part s at e))
+head-turn : (k : Frame) (s : List ℕ) (at e : ℕ) (a b : Bool) (p : ℕ) (m n : Bool) → at ≤ e → e ≤ length s → F.Whole p m n ≡ headFront at a b (headOf k (part s at e))
     → HeadSeen k s at e a b p m n
 head-turn k s at e a b p m n h i z =
     let g = go (headOf k (part s at e)) z in
@@ -150,7 +150,7 @@ value-unnoted f l =
 -- ---- the turns
 
 module _ (d : ℕ) (k : Frame) (s : List ℕ) (at e : ℕ) (nz : d ≡ 0 → ⊥) (h : at < e) (i : e ≤ length s) where
-  pub headless-turn : (a b : Bool) → F.Bad ≡ headFront at a b (headOf k (part s at e)) → Refused d k s at e 2
+  headless-turn : (a b : Bool) → F.Bad ≡ headFront at a b (headOf k (part s at e)) → Refused d k s at e 2
   headless-turn a b z = record { fault = go (headOf k (part s at e)) refl z; some = λ z. omega arith }
     where
       go : (o : Option (Head × ℕ)) → headOf k (part s at e) ≡ o → F.Bad ≡ headFront at a b o → walk d k (part s at e) .1 ≡ 2

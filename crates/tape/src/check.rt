@@ -42,14 +42,23 @@ fn either(a: bool, b: bool) -> bool
 
 // ---- contents: how many bytes a node without a body takes; 0 where it is refused by 2, 1 where it is refused by 4
 
-// The n bytes of the text node at a place are UTF-8.
+// The n bytes of the text node at a place are UTF-8. Eight bytes at most are told by one word where they are ASCII.
 fn is_text(tape: &[u8], at: usize, n: usize) -> bool
     requires { ⌜ at + (5 + n) ≤ length (now tape) ⌝ }
     ensures { λ r. ⌜ r ≡ valid (take n (drop (at + 5) (now (tape .entry)))) ⌝ }
 {
+    if n == 0 {
+        return true;
+    }
     let from = at + 5;
-    let to = from + n;
-    text_rules::utf8::valid_utf8(&tape[from..to])
+    if n <= 8 {
+        if 8 <= tape.len() - from {
+            if text_rules::lanes::is_ascii(output::word_at(tape, from), n) {
+                return true;
+            }
+        }
+    }
+    text_rules::utf8::valid_part(tape, from, n)
 }
 
 fn null_size(tape: &[u8], at: usize, end: usize) -> usize
@@ -177,9 +186,7 @@ fn text_size(tape: &[u8], at: usize, end: usize) -> usize
     if n == 0 {
         return 0;
     }
-    let from = at + 5;
-    let to = at + n;
-    if text_rules::utf8::valid_utf8(&tape[from..to]) {
+    if text_rules::utf8::valid_part(tape, at + 5, n - 5) {
         return n;
     }
     0

@@ -1,6 +1,5 @@
 -- `tape::check::scalar_size` meets its contract: each kind by its own function. Assumes nothing.
 use mathlib.Core.Path.{sym, ap, _∙_}
-use native.Mathlib.Omega.{arith}
 use denote.Ref.{now}
 use Rattle.tape.specs.Bytes.{part}
 use Rattle.tape.specs.CheckSteps.{scalarCode}

@@ -3,7 +3,7 @@ use mathlib.Core.Path.{_≡_, sym, ap, _∙_}
 use native.Mathlib.Omega.{arith}
 use denote.Ref.{now}
 use mathlib.Core.Bool.{true, false}
-use Prim.Native.Nat.{ℕ, _+_, _-_}
+use Prim.Native.Nat.{_-_}
 use lib.ListN.{take, drop}
 use Rattle.text_rules.specs.Utf8.{valid}
 use Rattle.tape.specs.Bytes.{part}
@@ -25,22 +25,11 @@ returns c =
     let l = part (now (a .tape)) (a .at) (a .end) in
     sym (ap (codeOf textFault) (span-none l (sym (c .if1 .taken) ∙ c .before .span .ensures)))
 
-add-from : tie.Need-add-from
-add-from c = search needs
+add-valid-part : tie.Need-add-valid-part
+add-valid-part c = search needs
 
-add-to : tie.Need-add-to
-add-to c =
-    let s = c .before .before .before in
-    let a = s .args in
-    let l = part (now (a .tape)) (a .at) (a .end) in
-    let n = part-length (now (a .tape)) (a .at) (a .end) (s .pre .1) in
-    let m = span-is l _ (c .before .span .ensures) (c .if1 .left) in
-    let five = m .0 in
-    let most = m .1 in
-    record { fits = omega arith }
-
-sub-valid-utf8 : tie.Need-sub-valid-utf8
-sub-valid-utf8 c =
+sub-valid-part : tie.Need-sub-valid-part
+sub-valid-part c =
     let s = c .before .before .before in
     let a = s .args in
     let l = part (now (a .tape)) (a .at) (a .end) in
@@ -50,8 +39,8 @@ sub-valid-utf8 c =
     let most = m .1 in
     omega arith
 
-part-valid-utf8-start : tie.Need-part-valid-utf8-start
-part-valid-utf8-start c =
+valid-part-requires : tie.Need-valid-part-requires
+valid-part-requires c κs =
     let s = c .before .before .before in
     let a = s .args in
     let l = part (now (a .tape)) (a .at) (a .end) in
@@ -60,52 +49,34 @@ part-valid-utf8-start c =
     let five = m .0 in
     let most = m .1 in
     omega arith
-
-part-valid-utf8-end : tie.Need-part-valid-utf8-end
-part-valid-utf8-end c =
-    let s = c .before .before .before in
-    let a = s .args in
-    let l = part (now (a .tape)) (a .at) (a .end) in
-    let n = part-length (now (a .tape)) (a .at) (a .end) (s .pre .1) in
-    let m = span-is l _ (c .before .span .ensures) (c .if1 .left) in
-    let five = m .0 in
-    let most = m .1 in
-    omega arith
-
-valid-utf8-requires : tie.Need-valid-utf8-requires
-valid-utf8-requires c κs = search needs
 
 returns-2 : tie.Need-returns-2
 unfolding textFault
 returns-2 c =
-    let s = c .before .before .before .before .before .before in
+    let s = c .before .before .before .before .before in
     let a = s .args in
     let l = part (now (a .tape)) (a .at) (a .end) in
     let n = part-length (now (a .tape)) (a .at) (a .end) (s .pre .1) in
-    let m = span-is l _ (c .before .before .before .before .span .ensures) (c .before .before .before .if1 .left) in
+    let m = span-is l _ (c .before .before .before .span .ensures) (c .before .before .if1 .left) in
     let five = m .0 in
     let most = m .1 in
-    let i = c .before .before .before .before .span .result in
-    let j : a .at + i - (a .at + 5) ≡ i - 5 = omega arith in
-    let cut = ap (λ (x : ℕ). valid (take x (drop (a .at + 5) (now (a .tape))))) j in
-    let v : valid (take (i - 5) (drop 5 l)) ≡ true = ap valid (part-text (now (a .tape)) (a .at) (a .end) (i - 5) (omega arith)) ∙ sym (c .before .valid-utf8 .ensures ∙ cut) ∙ c .if2 .taken in
-    rw (span-text l _ (c .before .before .before .before .span .ensures) (c .before .before .before .if1 .left), v)
+    let i = c .before .before .before .span .result in
+    let v : valid (take (i - 5) (drop 5 l)) ≡ true = ap valid (part-text (now (a .tape)) (a .at) (a .end) (i - 5) (omega arith)) ∙ sym (c .before .valid-part .ensures) ∙ c .if2 .taken in
+    rw (span-text l _ (c .before .before .before .span .ensures) (c .before .before .if1 .left), v)
 
 returns-3 : tie.Need-returns-3
 unfolding textFault
 returns-3 c =
-    let s = c .before .before .before .before .before .before in
+    let s = c .before .before .before .before .before in
     let a = s .args in
     let l = part (now (a .tape)) (a .at) (a .end) in
     let n = part-length (now (a .tape)) (a .at) (a .end) (s .pre .1) in
-    let m = span-is l _ (c .before .before .before .before .span .ensures) (c .before .before .before .if1 .left) in
+    let m = span-is l _ (c .before .before .before .span .ensures) (c .before .before .if1 .left) in
     let five = m .0 in
     let most = m .1 in
-    let i = c .before .before .before .before .span .result in
-    let j : a .at + i - (a .at + 5) ≡ i - 5 = omega arith in
-    let cut = ap (λ (x : ℕ). valid (take x (drop (a .at + 5) (now (a .tape))))) j in
-    let v : valid (take (i - 5) (drop 5 l)) ≡ false = ap valid (part-text (now (a .tape)) (a .at) (a .end) (i - 5) (omega arith)) ∙ sym (c .before .valid-utf8 .ensures ∙ cut) ∙ c .if2 .left in
-    rw (span-text l _ (c .before .before .before .before .span .ensures) (c .before .before .before .if1 .left), v)
+    let i = c .before .before .before .span .result in
+    let v : valid (take (i - 5) (drop 5 l)) ≡ false = ap valid (part-text (now (a .tape)) (a .at) (a .end) (i - 5) (omega arith)) ∙ sym (c .before .valid-part .ensures) ∙ c .if2 .left in
+    rw (span-text l _ (c .before .before .before .span .ensures) (c .before .before .if1 .left), v)
 
 pub text-size-spec : {M : Type 1} → statement M
-text-size-spec = tie.close (tie.spec span-requires returns add-from add-to sub-valid-utf8 part-valid-utf8-start part-valid-utf8-end valid-utf8-requires returns-2 returns-3)
+text-size-spec = tie.close (tie.spec span-requires returns add-valid-part sub-valid-part valid-part-requires returns-2 returns-3)
