@@ -243,18 +243,18 @@ scalar-sound l =
     if-all (Sound encodeScalar l) (λ e. sized-sound 8 string l (eqb-true _ _ e) (λ s. refl)) (λ _.
     if-all (Sound encodeScalar l) (λ e. sized-sound 9 clob l (eqb-true _ _ e) (λ s. refl)) (λ _. nothing))))))))))
 
--- ---- a scalar takes a byte at least
+-- ---- a scalar takes two bytes at least
 
 pub data Long {A : Type 0} : Option (A × ℕ) → Type 0 where
   no-length : Long none
-  long : {a : A} {n : ℕ} → 0 < n → Long (some (a, n))
+  long : {a : A} {n : ℕ} → 1 < n → Long (some (a, n))
 
 map-long : {A B : Type 0} (f : A → B) (o : Option (A × ℕ)) → Long o → Long (past o none (λ a n. some (f a, n)))
 map-long f none h = no-length
 map-long f (some (a, n)) (long h) = long h
 
 -- where there are bytes enough
-if-long : {A : Type 0} (b : Bool) (a : A) (n : ℕ) → 0 < n → Long (if b (some (a, n)) none)
+if-long : {A : Type 0} (b : Bool) (a : A) (n : ℕ) → 1 < n → Long (if b (some (a, n)) none)
 if-long true a n h = long h
 if-long false a n h = no-length
 
@@ -323,7 +323,7 @@ marker-sound f (x ∷ l) k =
 leaf-sound : (l : List ℕ) (o : Option (Scalar × ℕ)) → Sound encodeScalar l o → Long o → SoundV l (past o absent (λ s n. leaf (scalar s) n))
 unfolding encode
 leaf-sound l none s h = no-value
-leaf-sound l (some (s, n)) (something i e) (long h) = a-leaf h i e
+leaf-sound l (some (s, n)) (something i e) (long h) = let p : 0 < n = omega arith in a-leaf p i e
 
 pub value-sound : (f : Bool) (l : List ℕ) → SoundV l (valueOf f l)
 unfolding valueOf

@@ -2,63 +2,32 @@
 use Prim.Native.Nat.{ℕ, zero, suc, _+_, _-_, _<_, _≤_}
 use mathlib.Core.Path.{_≡_, refl, sym, ap, subst, _∙_}
 use mathlib.Core.List.{List, []}
-use mathlib.Core.Bool.{Bool, false, _||_}
+use mathlib.Core.Bool.{Bool, true, false, _||_}
 use mathlib.Core.Option.{Option, none, some}
 use native.Mathlib.Omega.{arith}
 use lib.Dec.{eqb, leb}
 use lib.ListN.{length, drop}
+use Rattle.output.specs.Logic.{if}
 use Rattle.tape.specs.Bytes.{part}
 use Rattle.tape.specs.Tree.{Scalar, Head, Node, scalar, nest, marker, nil}
-use Rattle.tape.specs.Tape.{past, kind, lengthOf, headOf, scalarOf, Value, absent, leaf, body, openOf, valueOf, single, free, childOf, headFault, scalarFault, Walked, fault, join, walk}
+use Rattle.tape.specs.Tape.{past, kind, lengthOf, nameOf, notesOf, headOf, scalarOf, Value, absent, leaf, body, openOf, valueOf, single, free, childOf, nameFault, headFault, scalarFault, Walked, fault, join, walk}
 use Rattle.tape.specs.Refusal.{annotated, noted, headNumbered, numbered}
-use Rattle.tape.specs.Steps.{placeOf, meantScalar, sizeOf, headAt, ChildAt}
-use Rattle.tape.specs.CheckSteps.{whole, leafMet, met, front, headFront}
+use Rattle.tape.specs.Steps.{placeOf, headAt, ChildAt}
+use Rattle.tape.specs.CheckSteps.{coded, scalarCode, spanOf, numberIn, nameIn, endOf, frameOf, front, notesFront}
 use Rattle.tape.specs.declared.Frame.{Frame}
 use Rattle.tape.specs.declared.Frame.the-variants.{List as ListF, Sexp, Struct}
-use Rattle.tape.specs.declared.Scalar.{Scalar as ScalarC}
-use Rattle.tape.specs.declared.Scalar.the-variants as C
-use Rattle.tape.specs.declared.Child.the-variants.{Bad as NoChild, Leaf as LeafC, Marker as MarkerC, Open as OpenC}
+use Rattle.tape.specs.declared.Child.the-variants.{Bad as NoChild, Open as OpenC}
 use Rattle.tape.specs.declared.Place.the-variants.{At}
-use Rattle.tape.specs.declared.check.Met.the-variants as M
 use Rattle.tape.specs.declared.check.Front.the-variants as F
 use Rattle.tape.proofs.Parts.{part-length, part-drop, part-inner}
-use Rattle.tape.proofs.Reading.{if-all, SoundV, a-leaf, value-sound}
+use Rattle.tape.proofs.Reading.{if-all, Long, long, scalar-long, SoundV, a-leaf, value-sound}
 use Rattle.tape.proofs.Walking.{walk-bad, walk-headed, walk-leaf, walk-tree}
+use Rattle.tape.proofs.CodeReading.{scalar-other, value-empty, value-marker, value-scalar, notes-empty}
 use Rattle.tape.proofs.CodeChild.{behind-open, head-within, child-headless, child-is, child-from}
-use Rattle.tape.proofs.CodeFacts.{head-two}
+use Rattle.tape.proofs.CodeFacts.{head-two, code-read, Ended, Stopped, missed, reached, end-stopped, Problem, no-problem, problem-2, problem-4, scalar-problem, scalar-number, span-is, value-missing, value-body, front-none, headFront, front-nameless, front-head}
 use Rattle.tape.proofs.CodeWalk.{join-fault}
 
--- a scalar takes a byte at least
-size-some : (x : ScalarC) → 0 < sizeOf x
-size-some (C.Null t) = omega arith
-size-some (C.«Bool» b) = omega arith
-size-some (C.Int n) = omega arith
-size-some (C.«Float» x) = omega arith
-size-some (C.Decimal neg m e) = omega arith
-size-some (C.Timestamp x) = omega arith
-size-some (C.Symbol n) = omega arith
-size-some (C.Id i) = omega arith
-size-some (C.«String» n) = omega arith
-size-some (C.Clob n) = omega arith
-
 -- d: how many bodies may be opened, this one of the frame k included; it reaches to the place e, and at is where the child starts
-
--- the scalar x at p, behind its head; r is where it ends
-pub record LeafTurn (d : ℕ) (k : Frame) (s : List ℕ) (at e p : ℕ) (x : ScalarC) (r : ℕ) : Type 0 where
-  pub read : headOf k (part s at e) ≡ some (headAt k (part s at e), p - at)
-  pub step : walk d k (part s at e)
-      ≡ join (headAt k (part s at e)) (scalar (meantScalar x (part s p e))) (scalarFault (meantScalar x (part s p e))) (walk d k (part s r e))
-  pub behind : at ≤ p
-  pub room : p + sizeOf x ≤ e
-  pub forth : at < r
-  pub within : r ≤ e
-
--- the marker; r is where it ends
-pub record MarkerTurn (d : ℕ) (k : Frame) (s : List ℕ) (at e r : ℕ) : Type 0 where
-  pub read : headOf k (part s at e) ≡ some (headAt k (part s at e), r - 1 - at)
-  pub step : walk d k (part s at e) ≡ join (headAt k (part s at e)) marker 0 (walk d k (part s r e))
-  pub forth : at < r
-  pub within : r ≤ e
 
 -- a container of the frame f; its body reaches from q to r
 pub record TreeTurn (d : ℕ) (k : Frame) (s : List ℕ) (at e : ℕ) (f : Frame) (q r : ℕ) : Type 0 where
@@ -84,25 +53,6 @@ module _ (d : ℕ) (k : Frame) (s : List ℕ) (at e : ℕ) (nz : d ≡ 0 → ⊥
       let y : at + (r - at) ≡ r = omega arith in
       walk-leaf k d (part s at e) nz (headAt k (part s at e)) n (r - at) some-left (omega arith) c
       ∙ ap (λ (l : List ℕ). join (headAt k (part s at e)) n (fault n) (walk d k l)) (part-drop s at e (r - at) ∙ ap (λ (j : ℕ). part s j e) y)
-
-  pub leaf-turn : (p : ℕ) (x : ScalarC) (r : ℕ) → ChildAt k s at e (LeafC p x r) → LeafTurn d k s at e p x r
-  leaf-turn p x r c =
-      let m = c .told in
-      let z = size-some x in
-      let b : at ≤ p = m .2 in
-      let j : r ≡ p + sizeOf x = m .3 in
-      let w : r ≤ e = m .4 in
-      record {
-        read = m .1;
-        step = single-step (scalar (meantScalar x (part s p e))) r (omega arith) (m .0);
-        behind = b;
-        room = omega arith;
-        forth = omega arith;
-        within = w;
-      }
-
-  pub marker-turn : (r : ℕ) → ChildAt k s at e (MarkerC r) → MarkerTurn d k s at e r
-  marker-turn r c = let m = c .told in record { read = m .1; step = single-step marker r (m .2) (m .0); forth = m .2; within = m .3 }
 
   pub tree-turn : (f : Frame) (q r : ℕ) → ChildAt k s at e (OpenC f q r) → TreeTurn d k s at e f q r
   tree-turn f q r c =
@@ -152,7 +102,7 @@ pub record Refused (d : ℕ) (k : Frame) (s : List ℕ) (at e g : ℕ) : Type 0 
   pub fault : walk d k (part s at e) .1 ≡ g
   pub some : g ≡ 0 → ⊥
 
-pub head-turn : (k : Frame) (s : List ℕ) (at e : ℕ) (a b : Bool) (p : ℕ) (m n : Bool) → at ≤ e → e ≤ length s → F.Whole p m n ≡ headFront at a b (headOf k (part s at e))
+head-turn : (k : Frame) (s : List ℕ) (at e : ℕ) (a b : Bool) (p : ℕ) (m n : Bool) → at ≤ e → e ≤ length s → F.Whole p m n ≡ headFront at a b (headOf k (part s at e))
     → HeadSeen k s at e a b p m n
 head-turn k s at e a b p m n h i z =
     let g = go (headOf k (part s at e)) z in
@@ -197,50 +147,10 @@ value-unnoted f l =
     one none = refl
     one (some (s, n)) = refl
 
--- ---- what was met
-
--- a refusal: nothing, by 2; or something with a problem
-data MetBad (g : ℕ) (v : Value) : Type 0 where
-  nothing : v ≡ absent → g ≡ 2 → MetBad g v
-  wrong : (x : Node) (n : ℕ) → v ≡ leaf x n → g ≡ fault x → (g ≡ 0 → ⊥) → MetBad g v
-
-met-bad : (g : ℕ) (v : Value) → M.Bad g ≡ met v → MetBad g v
-met-bad g absent e = nothing refl cc
-met-bad g (body k n) e = let z : _≡_ {A = ℕ} 0 1 = cc in absurd (omega arith)
-met-bad g (leaf x n) e = go (fault x) refl e
-  where
-    go : (f : ℕ) → fault x ≡ f → M.Bad g ≡ leafMet (whole f n (numbered x)) → MetBad g (leaf x n)
-    go zero y e = let z : _≡_ {A = ℕ} 0 1 = cc in absurd (omega arith)
-    go (suc f) y e = let q : g ≡ suc f = cc in wrong x n refl (q ∙ sym y) (λ z. omega arith)
-
-record MetLeaf (n : ℕ) (b : Bool) (v : Value) : Type 0 where
-  node : Node
-  is : v ≡ leaf node n
-  sound : fault node ≡ 0
-  number : numbered node ≡ b
-
-met-leaf : (n : ℕ) (b : Bool) (v : Value) → M.Leaf n b ≡ met v → MetLeaf n b v
-met-leaf n b absent e = let z : _≡_ {A = ℕ} 0 1 = cc in absurd (omega arith)
-met-leaf n b (body k m) e = let z : _≡_ {A = ℕ} 0 1 = cc in absurd (omega arith)
-met-leaf n b (leaf x m) e = go (fault x) refl e
-  where
-    go : (f : ℕ) → fault x ≡ f → M.Leaf n b ≡ leafMet (whole f m (numbered x)) → MetLeaf n b (leaf x m)
-    go zero y e = let q : m ≡ n = cc in record { node = x; is = ap (leaf x) q; sound = y; number = cc }
-    go (suc f) y e = let z : _≡_ {A = ℕ} 0 1 = cc in absurd (omega arith)
-
-met-body : (k : Frame) (n : ℕ) (v : Value) → M.Open k n ≡ met v → body k n ≡ v
-met-body k n absent e = let z : _≡_ {A = ℕ} 0 1 = cc in absurd (omega arith)
-met-body k n (body j m) e = cc
-met-body k n (leaf x m) e = go (fault x) e
-  where
-    go : (f : ℕ) → M.Open k n ≡ leafMet (whole f m (numbered x)) → body k n ≡ leaf x m
-    go zero e = let z : _≡_ {A = ℕ} 0 1 = cc in absurd (omega arith)
-    go (suc f) e = let z : _≡_ {A = ℕ} 0 1 = cc in absurd (omega arith)
-
 -- ---- the turns
 
 module _ (d : ℕ) (k : Frame) (s : List ℕ) (at e : ℕ) (nz : d ≡ 0 → ⊥) (h : at < e) (i : e ≤ length s) where
-  pub headless-turn : (a b : Bool) → F.Bad ≡ headFront at a b (headOf k (part s at e)) → Refused d k s at e 2
+  headless-turn : (a b : Bool) → F.Bad ≡ headFront at a b (headOf k (part s at e)) → Refused d k s at e 2
   headless-turn a b z = record { fault = go (headOf k (part s at e)) refl z; some = λ z. omega arith }
     where
       go : (o : Option (Head × ℕ)) → headOf k (part s at e) ≡ o → F.Bad ≡ headFront at a b o → walk d k (part s at e) .1 ≡ 2
@@ -269,34 +179,104 @@ module _ (d : ℕ) (k : Frame) (s : List ℕ) (at e : ℕ) (nz : d ≡ 0 → ⊥
               omega arith,
             )
 
-    pub refused-turn : (g : ℕ) → M.Bad g ≡ met (valueOf (free k (part s at e)) (part s p e)) → Refused d k s at e g
-    refused-turn g z = go (met-bad g (valueOf (free k (part s at e)) (part s p e)) z)
-      where
-        go : MetBad g (valueOf (free k (part s at e)) (part s p e)) → Refused d k s at e g
-        go (nothing q x) = record {
-          fault = ap (λ (u : Walked). u .1) (bad-turn d k s at e nz h i (child-from k s at e p (w .behind) (w .place) NoChild (record { told = q }))) ∙ sym x;
-          some = λ z. omega arith;
-        }
-        go (wrong v j q x y) = record {
-          fault = ap (λ (u : Walked). u .1) (leaf-step v j q .0) ∙ join-fault (headAt k (part s at e)) v (fault v) (walk d k (part s (p + j) e)) (w .sound) (λ z. y (x ∙ z)) ∙ sym x;
-          some = y;
-        }
+    absent-turn : valueOf (free k (part s at e)) (part s p e) ≡ absent → Refused d k s at e 2
+    absent-turn q = record {
+      fault = ap (λ (u : Walked). u .1) (bad-turn d k s at e nz h i (child-from k s at e p (w .behind) (w .place) NoChild (record { told = q })));
+      some = λ z. omega arith;
+    }
 
-    pub single-turn : (j : ℕ) (c : Bool) → M.Leaf j c ≡ met (valueOf (free k (part s at e)) (part s p e)) → LeafSeen d k s at e (p + j) c
-    single-turn j c z =
-        let t = met-leaf j c (valueOf (free k (part s at e)) (part s p e)) z in
-        let u = leaf-step (t .node) j (t .is) in
+    wrong-turn : (v : Node) (j : ℕ) → valueOf (free k (part s at e)) (part s p e) ≡ leaf v j → (g : ℕ) → fault v ≡ g → (g ≡ 0 → ⊥) → Refused d k s at e g
+    wrong-turn v j q g x y = record {
+      fault = ap (λ (u : Walked). u .1) (leaf-step v j q .0) ∙ join-fault (headAt k (part s at e)) v (fault v) (walk d k (part s (p + j) e)) (w .sound) (λ z. y (sym x ∙ z)) ∙ x;
+      some = y;
+    }
+
+    single-turn : (v : Node) (j : ℕ) → valueOf (free k (part s at e)) (part s p e) ≡ leaf v j → fault v ≡ 0 → (c : Bool) → numbered v ≡ c → LeafSeen d k s at e (p + j) c
+    single-turn v j q z c y =
+        let u = leaf-step v j q in
         record {
-          node = t .node;
+          node = v;
           step = u .0;
-          sound = t .sound;
-          notes = sym (ap leafNoted (t .is)) ∙ value-unnoted (free k (part s at e)) (part s p e);
-          numbers = t .number;
+          sound = z;
+          notes = sym (ap leafNoted q) ∙ value-unnoted (free k (part s at e)) (part s p e);
+          numbers = y;
           forth = u .1;
           within = u .2;
         }
 
-    pub open-turn : (x : Frame) (j : ℕ) → M.Open x j ≡ met (valueOf (free k (part s at e)) (part s p e)) → TreeTurn d k s at e x (p + 5) (p + 5 + j)
-    open-turn x j z =
-        tree-turn d k s at e nz h i x (p + 5) (p + 5 + j)
-        (child-from k s at e p (w .behind) (w .place) (OpenC x (p + 5) (p + 5 + j)) (behind-open s p e (free k (part s at e)) (w .within) i x j (met-body x j _ z)))
+    -- no bytes are left
+    pub end-refused : p ≡ e → Refused d k s at e 2
+    end-refused q = let l = part-length s p e i in absent-turn (value-empty (free k (part s at e)) (part s p e) (omega arith))
+
+    -- ---- a scalar, by its number
+
+    module _ (below : kind (part s p e) < 10) (c : ℕ) (q : c ≡ scalarCode (scalarOf (part s p e))) where
+      its : valueOf (free k (part s at e)) (part s p e) ≡ past (scalarOf (part s p e)) absent (λ x j. leaf (scalar x) j)
+      its = value-scalar (free k (part s at e)) (part s p e) (λ z. omega arith) (λ z. omega arith) (λ z. omega arith) (λ z. omega arith)
+
+      pub size-refused : c < 2 → Refused d k s at e (if (eqb c 0) 2 4)
+      size-refused g = go (scalarOf (part s p e)) refl (scalar-long (part s p e)) q
+        where
+          by : (x : Scalar) (j : ℕ) → scalarOf (part s p e) ≡ some (x, j) → 1 < j → (f : ℕ) → scalarFault x ≡ f → Problem f → c ≡ coded f j → Refused d k s at e (if (eqb c 0) 2 4)
+          by x j u v f y no-problem r = absurd (omega arith)
+          by x j u v f y problem-2 r = rw r (wrong-turn (scalar x) j (its ∙ rw u) 2 y (λ z. omega arith))
+          by x j u v f y problem-4 r = rw r (wrong-turn (scalar x) j (its ∙ rw u) 4 y (λ z. omega arith))
+
+          go : (o : Option (Scalar × ℕ)) → scalarOf (part s p e) ≡ o → Long o → c ≡ scalarCode o → Refused d k s at e (if (eqb c 0) 2 4)
+          go none u v r = rw r (absent-turn (its ∙ rw u))
+          go (some (x, j)) u (long v) r = by x j u v (scalarFault x) refl (scalar-problem x) r
+
+      pub size-turn : 2 ≤ c → LeafSeen d k s at e (p + c) (numberIn (part s p e))
+      unfolding numbered
+      size-turn g =
+          let r = code-read scalarFault (scalarOf (part s p e)) c q g in
+          single-turn (scalar (r .it)) c (its ∙ ap (λ (o : Option (Scalar × ℕ)). past o absent (λ x j. leaf (scalar x) j)) (r .is)) (r .sound) _ (scalar-number (part s p e) (r .it) c (r .is))
+
+    -- ---- a container
+
+    module _ (above : 10 ≤ kind (part s p e)) (below : kind (part s p e) < 13) where
+      pub span-refused : 0 ≡ spanOf (part s p e) → Refused d k s at e 2
+      span-refused q = absent-turn (value-missing (free k (part s at e)) (part s p e) above below q)
+
+      pub span-turn : (c : ℕ) → c ≡ spanOf (part s p e) → (c ≡ 0 → ⊥) → TreeTurn d k s at e (frameOf (kind (part s p e))) (p + 5) (p + c)
+      span-turn c q z =
+          let f = free k (part s at e) in
+          let x = frameOf (kind (part s p e)) in
+          let m = span-is (part s p e) c q z .0 in
+          let y : p + 5 + (c - 5) ≡ p + c = omega arith in
+          subst (TreeTurn d k s at e x (p + 5)) y
+          (tree-turn d k s at e nz h i x (p + 5) (p + 5 + (c - 5))
+          (child-from k s at e p (w .behind) (w .place) (OpenC x (p + 5) (p + 5 + (c - 5))) (behind-open s p e f (w .within) i x (c - 5) (sym (value-body f (part s p e) above below c q z)))))
+
+    -- ---- neither
+
+    pub other-refused : 12 < kind (part s p e) → (kind (part s p e) ≡ 14 → ⊥) → Refused d k s at e 2
+    other-refused a b =
+        absent-turn
+        (value-scalar (free k (part s at e)) (part s p e) (λ z. omega arith) (λ z. omega arith) (λ z. omega arith) b
+        ∙ rw (scalar-other (part s p e) (omega arith) (λ z. omega arith) (λ z. omega arith)))
+
+    pub marker-refused : kind (part s p e) ≡ 14 → free k (part s at e) ≡ false → Refused d k s at e 2
+    marker-refused q f = absent-turn (value-marker (free k (part s at e)) (part s p e) q ∙ rw f)
+
+    pub marker-turn : kind (part s p e) ≡ 14 → free k (part s at e) ≡ true → LeafSeen d k s at e (p + 1) false
+    unfolding numbered
+    marker-turn q f = single-turn marker 1 (value-marker (free k (part s at e)) (part s p e) q ∙ rw f) refl false refl
+
+  -- ---- a name, and annotations behind it
+
+  pub name-refused : (a b : Bool) (q : ℕ) → q ≡ endOf nameFault at e (nameOf k (part s at e)) → q ≡ e → Refused d k s at e 2
+  name-refused a b q z y = go (end-stopped nameFault at e (nameOf k (part s at e)) (sym y ∙ z))
+    where
+      go : Stopped nameFault at e (nameOf k (part s at e)) → Refused d k s at e 2
+      go (missed m) = headless-turn a b (front-nameless k s at e a b m)
+      go (reached r) =
+          let l = part-length s e e i in
+          end-refused (head-turn k s at e a b e a (b || nameIn k (part s at e)) (omega arith) i (front-none (part s e e) e a (b || nameIn k (part s at e)) (notes-empty (part s e e) (omega arith)) ∙ front-head k s at e a b e r)) refl
+
+  module _ (a b : Bool) (q : ℕ) (r : Ended nameFault at q (nameOf k (part s at e))) where
+    pub notes-refused : F.Bad ≡ notesFront q a (b || nameIn k (part s at e)) (notesOf (part s q e)) → Refused d k s at e 2
+    notes-refused z = headless-turn a b (z ∙ front-head k s at e a b q r)
+
+    pub notes-turn : (p : ℕ) (m n : Bool) → F.Whole p m n ≡ notesFront q a (b || nameIn k (part s at e)) (notesOf (part s q e)) → HeadSeen k s at e a b p m n
+    notes-turn p m n z = head-turn k s at e a b p m n (omega arith) i (z ∙ front-head k s at e a b q r)

@@ -4,44 +4,51 @@ use mathlib.Core.Path.{_≡_}
 use mathlib.Core.List.{List}
 use mathlib.Core.Bool.{Bool, true, false, _||_}
 use mathlib.Core.Option.{Option}
-use lib.Dec.{eqb}
+use lib.ListN.{length}
+use lib.Dec.{eqb, leb}
 use Rattle.output.specs.Logic.{if}
 use Rattle.text_rules.specs.Text.{Sym}
-use Rattle.tape.specs.Tree.{Scalar, Head, Nodes, size}
-use Rattle.tape.specs.Tape.{past, Value, absent, leaf, body, symsFault, headFault, scalarFault, fault, Walked, bodyOf}
-use Rattle.tape.specs.Refusal.{annotated, noteds, symsNumbered, headNumbered, scalarNumbered, numbered, numbereds}
+use Rattle.tape.specs.Tree.{Scalar, Nodes, size}
+use Rattle.tape.specs.Tape.{past, lengthOf, symOf, nameOf, symsFault, scalarFault, Walked, bodyOf}
+use Rattle.tape.specs.Refusal.{annotated, noteds, symNumbered, symsNumbered, nameNumbered, numbereds}
 use Rattle.tape.specs.Verdict.{verdict}
 use Rattle.tape.specs.declared.Frame.{Frame}
 use Rattle.tape.specs.declared.Frame.the-variants.{List as ListF, Sexp, Struct}
-use Rattle.tape.specs.declared.check.Leaf.{Leaf}
-use Rattle.tape.specs.declared.check.Leaf.the-variants as L
-use Rattle.tape.specs.declared.check.Met.{Met}
-use Rattle.tape.specs.declared.check.Met.the-variants as M
 use Rattle.tape.specs.declared.check.Front.{Front}
 use Rattle.tape.specs.declared.check.Front.the-variants as F
 use Rattle.tape.specs.declared.check.Checked.{Checked}
 
--- what validation says of a node without a body: refused by its problem f, or its n bytes, and whether an identifier but 0 is in it
-abbrev pub whole : ℕ → ℕ → Bool → Leaf
-whole zero n b = L.Whole n b
-whole (suc f) n b = L.Bad (suc f)
+-- a node without a body as one number, by its problem f: its n bytes; 1 where it is refused by 4, 0 where it is refused by 2
+abbrev pub coded : ℕ → ℕ → ℕ
+coded zero n = n
+coded (suc f) n = if (eqb f 3) 1 0
 
--- of what a rule read, with its problem by f, and by g whether an identifier but 0 is in it; refused by 2 where there was nothing to read
-abbrev pub leafOf : {A : Type 0} → (A → ℕ) → (A → Bool) → Option (A × ℕ) → Leaf
-leafOf f g o = past o (L.Bad 2) (λ a n. whole (f a) n (g a))
+-- what a rule read, with its problem by f; 0 where there was nothing to read
+abbrev pub codeOf : {A : Type 0} → (A → ℕ) → Option (A × ℕ) → ℕ
+codeOf f o = past o 0 (λ a n. coded (f a) n)
 
-abbrev pub scalarLeaf : Option (Scalar × ℕ) → Leaf
-scalarLeaf o = leafOf scalarFault scalarNumbered o
+abbrev pub scalarCode : Option (Scalar × ℕ) → ℕ
+scalarCode o = codeOf scalarFault o
 
--- the same of a value
-abbrev pub leafMet : Leaf → Met
-leafMet (L.Bad f) = M.Bad f
-leafMet (L.Whole n b) = M.Leaf n b
+-- the bytes of a node with a length, or 0 where they do not fit
+unfoldable pub spanOf : List ℕ → ℕ
+spanOf l = if (leb (5 + lengthOf l) (length l)) (5 + lengthOf l) 0
 
-abbrev pub met : Value → Met
-met absent = M.Bad 2
-met (leaf v n) = leafMet (whole (fault v) n (numbered v))
-met (body k n) = M.Open k n
+-- whether an identifier but 0 is read as a symbol, as a name
+unfoldable pub numberIn : List ℕ → Bool
+numberIn l = past (symOf l) false (λ s n. symNumbered s)
+
+unfoldable pub nameIn : Frame → List ℕ → Bool
+nameIn k l = past (nameOf k l) false (λ a n. nameNumbered a)
+
+-- what has the problem f ends at p; at the end e where it is refused
+abbrev pub ends : ℕ → ℕ → ℕ → ℕ
+ends zero p e = p
+ends (suc f) p e = e
+
+-- of what a rule read from a place on, with its problem by f
+abbrev pub endOf : {A : Type 0} → (A → ℕ) → ℕ → ℕ → Option (A × ℕ) → ℕ
+endOf f at e o = past o e (λ a n. ends (f a) (at + n) e)
 
 -- the frame of a container, by its kind byte 10, 11 or 12
 unfoldable pub frameOf : ℕ → Frame
@@ -63,10 +70,6 @@ symsFront at b o = frontOf symsFault (λ ss. true) (λ ss. b || symsNumbered ss)
 -- of annotations, of which there may be none, behind others if m
 abbrev pub notesFront : ℕ → Bool → Bool → Option (List Sym × ℕ) → Front
 notesFront at m b o = frontOf symsFault (λ ss. m || annotated ss) (λ ss. b || symsNumbered ss) at o
-
--- of a head
-abbrev pub headFront : ℕ → Bool → Bool → Option (Head × ℕ) → Front
-headFront at m b o = frontOf headFault (λ h. m || annotated (h .1)) (λ h. b || headNumbered h) at o
 
 -- what is said of the nodes of a body that has no problem: how many there are, whether one is annotated, whether one is an identifier but 0
 pub record Counts (ns : Nodes) (r : Checked) : Type 0 where

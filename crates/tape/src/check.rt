@@ -1,37 +1,22 @@
 // Validation: the first problem of a tape, and what the writers ask of its nodes, in one walk.
 ghost use mathlib.Core.Path.{_≡_};
-ghost use mathlib.Core.Bool.{_||_, false};
+ghost use mathlib.Core.Bool.{_||_};
 ghost use Prim.Native.Nat.{_+_, _<_, _≤_};
 ghost use lib.Dec.{eqb};
 ghost use lib.ListN.{length, take, drop};
 ghost use Rattle.output.specs.Logic.{if};
 ghost use Rattle.text_rules.specs.Utf8.{valid};
 ghost use Rattle.tape.specs.Bytes.{part, first};
-ghost use Rattle.tape.specs.Tree.{null, bool, clob};
-ghost use Rattle.tape.specs.Tape.{kind, textOf, symOf, symsOf, nameOf, notesOf, headOf, byteOf, intOf, floatAs, floatOf, decimalOf, timestampOf, sizedOf, scalarOf, openOf, valueOf, free, textFault, symFault, nameFault, walk};
-ghost use Rattle.tape.specs.Refusal.{symNumbered, nameNumbered};
-ghost use Rattle.tape.specs.CheckSteps.{leafOf, scalarLeaf, leafMet, met, frameOf, symsFront, notesFront, headFront, Checks, Refuses, TapeChecks};
+ghost use Rattle.tape.specs.Tree.{null, bool};
+ghost use Rattle.tape.specs.Tape.{kind, textOf, symOf, symsOf, nameOf, notesOf, byteOf, intOf, floatAs, floatOf, decimalOf, timestampOf, scalarOf, textFault, symFault, nameFault, walk};
+ghost use Rattle.tape.specs.CheckSteps.{codeOf, scalarCode, spanOf, numberIn, nameIn, endOf, frameOf, symsFront, notesFront, Checks, Refuses, TapeChecks};
 use crate::Frame;
-use crate::Place;
-
-// A node without a body: refused, by what; or how many bytes it takes, and whether it is an identifier but 0.
-pub enum Leaf {
-    Bad(u8),
-    Whole(usize, bool),
-}
 
 // What stands before a value: refused, always by 2; or where it ends, and, of it and of the nodes before it, whether there are annotations and
 // whether there is an identifier but 0.
 pub enum Front {
     Bad,
     Whole(usize, bool, bool),
-}
-
-// A value: refused, by what; one without a body, as above; a container, with the length of its body.
-pub enum Met {
-    Bad(u8),
-    Leaf(usize, bool),
-    Open(Frame, usize),
 }
 
 // What is told of the nodes of a body: the first problem or 0; without one, how many stand side by side in it, whether there are annotations,
@@ -55,220 +40,248 @@ fn either(a: bool, b: bool) -> bool
     if a { true } else { b }
 }
 
-// ---- contents
+// ---- contents: how many bytes a node without a body takes; 0 where it is refused by 2, 1 where it is refused by 4
 
-// The n bytes of the text node at a place are UTF-8.
+// The n bytes of the text node at a place are UTF-8. Eight bytes at most are told by one word where they are ASCII.
 fn is_text(tape: &[u8], at: usize, n: usize) -> bool
     requires { ⌜ at + (5 + n) ≤ length (now tape) ⌝ }
     ensures { λ r. ⌜ r ≡ valid (take n (drop (at + 5) (now (tape .entry)))) ⌝ }
 {
+    if n == 0 {
+        return true;
+    }
     let from = at + 5;
-    let to = from + n;
-    text_rules::utf8::valid_utf8(&tape[from..to])
+    if n <= 8 {
+        if 8 <= tape.len() - from {
+            if text_rules::lanes::is_ascii(output::word_at(tape, from), n) {
+                return true;
+            }
+        }
+    }
+    text_rules::utf8::valid_part(tape, from, n)
 }
 
-fn null_seen(tape: &[u8], at: usize, end: usize) -> Leaf
+fn null_size(tape: &[u8], at: usize, end: usize) -> usize
     requires { ⌜ at ≤ end ⌝ }
     requires { ⌜ end ≤ length (now tape) ⌝ }
-    ensures { λ r. ⌜ r ≡ scalarLeaf (byteOf 12 null (part (now (tape .entry)) at end)) ⌝ }
+    ensures { λ r. ⌜ r ≡ scalarCode (byteOf 12 null (part (now (tape .entry)) at end)) ⌝ }
 {
     if end - at < 2 {
-        return Leaf::Bad(2);
+        return 0;
     }
     if 12 < tape[at + 1] {
-        return Leaf::Bad(2);
+        return 0;
     }
-    Leaf::Whole(2, false)
+    2
 }
 
-fn bool_seen(tape: &[u8], at: usize, end: usize) -> Leaf
+fn bool_size(tape: &[u8], at: usize, end: usize) -> usize
     requires { ⌜ at ≤ end ⌝ }
     requires { ⌜ end ≤ length (now tape) ⌝ }
-    ensures { λ r. ⌜ r ≡ scalarLeaf (byteOf 1 (λ b. bool (eqb b 1)) (part (now (tape .entry)) at end)) ⌝ }
+    ensures { λ r. ⌜ r ≡ scalarCode (byteOf 1 (λ b. bool (eqb b 1)) (part (now (tape .entry)) at end)) ⌝ }
 {
     if end - at < 2 {
-        return Leaf::Bad(2);
+        return 0;
     }
     if 1 < tape[at + 1] {
-        return Leaf::Bad(2);
+        return 0;
     }
-    Leaf::Whole(2, false)
+    2
 }
 
 // Only zeros, infinities and the one NaN have a text.
-fn bits_seen(b: u64) -> Leaf
-    ensures { λ r. ⌜ r ≡ scalarLeaf (floatAs b) ⌝ }
+fn bits_size(b: u64) -> usize
+    ensures { λ r. ⌜ r ≡ scalarCode (floatAs b) ⌝ }
 {
     if b == 0x7FF8_0000_0000_0000 {
-        return Leaf::Whole(9, false);
+        return 9;
     }
     let m = b % 0x8000_0000_0000_0000;
     if 0x7FF0_0000_0000_0000 < m {
-        return Leaf::Bad(2);
+        return 0;
     }
     if m == 0 {
-        return Leaf::Whole(9, false);
+        return 9;
     }
     if m == 0x7FF0_0000_0000_0000 {
-        return Leaf::Whole(9, false);
+        return 9;
     }
-    Leaf::Bad(4)
+    1
 }
 
-fn float_seen(tape: &[u8], at: usize, end: usize) -> Leaf
+fn float_size(tape: &[u8], at: usize, end: usize) -> usize
     requires { ⌜ at ≤ end ⌝ }
     requires { ⌜ end ≤ length (now tape) ⌝ }
-    ensures { λ r. ⌜ r ≡ scalarLeaf (floatOf (part (now (tape .entry)) at end)) ⌝ }
+    ensures { λ r. ⌜ r ≡ scalarCode (floatOf (part (now (tape .entry)) at end)) ⌝ }
 {
     if end - at < 9 {
-        return Leaf::Bad(2);
+        return 0;
     }
-    bits_seen(crate::u64_at(tape, at + 1))
+    bits_size(crate::u64_at(tape, at + 1))
 }
 
-fn int_seen(tape: &[u8], at: usize, end: usize) -> Leaf
+fn int_size(tape: &[u8], at: usize, end: usize) -> usize
     requires { ⌜ at ≤ end ⌝ }
     requires { ⌜ end ≤ length (now tape) ⌝ }
-    ensures { λ r. ⌜ r ≡ scalarLeaf (intOf (part (now (tape .entry)) at end)) ⌝ }
+    ensures { λ r. ⌜ r ≡ scalarCode (intOf (part (now (tape .entry)) at end)) ⌝ }
 {
     if end - at < 9 {
-        return Leaf::Bad(2);
+        return 0;
     }
-    Leaf::Whole(9, false)
+    9
 }
 
-fn decimal_seen(tape: &[u8], at: usize, end: usize) -> Leaf
+fn decimal_size(tape: &[u8], at: usize, end: usize) -> usize
     requires { ⌜ at ≤ end ⌝ }
     requires { ⌜ end ≤ length (now tape) ⌝ }
-    ensures { λ r. ⌜ r ≡ scalarLeaf (decimalOf (part (now (tape .entry)) at end)) ⌝ }
+    ensures { λ r. ⌜ r ≡ scalarCode (decimalOf (part (now (tape .entry)) at end)) ⌝ }
 {
     if end - at < 14 {
-        return Leaf::Bad(2);
+        return 0;
     }
     if 1 < tape[at + 1] {
-        return Leaf::Bad(2);
+        return 0;
     }
-    Leaf::Whole(14, false)
+    14
 }
 
 // The calendar.
-fn timestamp_seen(tape: &[u8], at: usize, end: usize) -> Leaf
+fn timestamp_size(tape: &[u8], at: usize, end: usize) -> usize
     requires { ⌜ at ≤ end ⌝ }
     requires { ⌜ end ≤ length (now tape) ⌝ }
-    ensures { λ r. ⌜ r ≡ scalarLeaf (timestampOf (part (now (tape .entry)) at end)) ⌝ }
+    ensures { λ r. ⌜ r ≡ scalarCode (timestampOf (part (now (tape .entry)) at end)) ⌝ }
 {
     if end - at < 16 {
-        return Leaf::Bad(2);
+        return 0;
     }
     if numbers::timestamp::is_well_formed(crate::timestamp_of(tape, at)) {
-        return Leaf::Whole(16, false);
+        return 16;
     }
-    Leaf::Bad(2)
+    0
 }
 
-// A length and so many bytes of UTF-8, behind the kind byte.
-fn text_seen(tape: &[u8], at: usize, end: usize) -> Leaf
+// A node with a length, and the bytes that the length says; of a container, too.
+fn span(tape: &[u8], at: usize, end: usize) -> usize
     requires { ⌜ at ≤ end ⌝ }
     requires { ⌜ end ≤ length (now tape) ⌝ }
-    ensures { λ r. ⌜ r ≡ leafOf textFault (λ s. false) (textOf (part (now (tape .entry)) at end)) ⌝ }
-{
-    let Place::At(n) = crate::length_at(tape, at, end) else {
-        return Leaf::Bad(2);
-    };
-    if is_text(tape, at, n) {
-        return Leaf::Whole(5 + n, false);
-    }
-    Leaf::Bad(2)
-}
-
-// An identifier behind its kind byte.
-fn id_seen(tape: &[u8], at: usize, end: usize) -> Leaf
-    requires { ⌜ at ≤ end ⌝ }
-    requires { ⌜ end ≤ length (now tape) ⌝ }
-    requires { ⌜ kind (part (now tape) at end) ≡ 7 ⌝ }
-    ensures { λ r. ⌜ r ≡ leafOf symFault symNumbered (symOf (part (now (tape .entry)) at end)) ⌝ }
+    ensures { λ r. ⌜ r ≡ spanOf (part (now (tape .entry)) at end) ⌝ }
 {
     if end - at < 5 {
-        return Leaf::Bad(2);
+        return 0;
     }
-    Leaf::Whole(5, crate::u32_at(tape, at + 1) != 0)
+    let n = crate::u32_at(tape, at + 1) as usize;
+    if end - at - 5 < n {
+        return 0;
+    }
+    5 + n
+}
+
+// A string, behind its kind byte.
+fn text_size(tape: &[u8], at: usize, end: usize) -> usize
+    requires { ⌜ at ≤ end ⌝ }
+    requires { ⌜ end ≤ length (now tape) ⌝ }
+    ensures { λ r. ⌜ r ≡ codeOf textFault (textOf (part (now (tape .entry)) at end)) ⌝ }
+{
+    let n = span(tape, at, end);
+    if n == 0 {
+        return 0;
+    }
+    if text_rules::utf8::valid_part(tape, at + 5, n - 5) {
+        return n;
+    }
+    0
+}
+
+// The text of a symbol, behind its kind byte.
+fn word_size(tape: &[u8], at: usize, end: usize) -> usize
+    requires { ⌜ at ≤ end ⌝ }
+    requires { ⌜ end ≤ length (now tape) ⌝ }
+    ensures { λ r. ⌜ r ≡ codeOf textFault (textOf (part (now (tape .entry)) at end)) ⌝ }
+{
+    let n = span(tape, at, end);
+    if n == 0 {
+        return 0;
+    }
+    if is_text(tape, at, n - 5) {
+        return n;
+    }
+    0
 }
 
 // A symbol's node.
-fn sym_seen(tape: &[u8], at: usize, end: usize) -> Leaf
+fn sym_size(tape: &[u8], at: usize, end: usize) -> usize
     requires { ⌜ at ≤ end ⌝ }
     requires { ⌜ end ≤ length (now tape) ⌝ }
-    ensures { λ r. ⌜ r ≡ leafOf symFault symNumbered (symOf (part (now (tape .entry)) at end)) ⌝ }
+    ensures { λ r. ⌜ r ≡ codeOf symFault (symOf (part (now (tape .entry)) at end)) ⌝ }
 {
-    if at == end {
-        return Leaf::Bad(2);
+    if end - at < 5 {
+        return 0;
     }
     let k = tape[at];
     if k == 6 {
-        return text_seen(tape, at, end);
+        return word_size(tape, at, end);
     }
     if k == 7 {
-        return id_seen(tape, at, end);
+        return 5;
     }
-    Leaf::Bad(2)
+    0
 }
 
-fn clob_seen(tape: &[u8], at: usize, end: usize) -> Leaf
-    requires { ⌜ at ≤ end ⌝ }
-    requires { ⌜ end ≤ length (now tape) ⌝ }
-    ensures { λ r. ⌜ r ≡ scalarLeaf (sizedOf clob (part (now (tape .entry)) at end)) ⌝ }
-{
-    let Place::At(n) = crate::length_at(tape, at, end) else {
-        return Leaf::Bad(2);
-    };
-    Leaf::Whole(5 + n, false)
-}
-
-fn scalar_seen(tape: &[u8], at: usize, end: usize) -> Leaf
+// Whether the node at a place is an identifier but 0.
+fn is_number(tape: &[u8], at: usize, end: usize) -> bool
     requires { ⌜ at < end ⌝ }
     requires { ⌜ end ≤ length (now tape) ⌝ }
-    ensures { λ r. ⌜ r ≡ scalarLeaf (scalarOf (part (now (tape .entry)) at end)) ⌝ }
+    ensures { λ r. ⌜ r ≡ numberIn (part (now (tape .entry)) at end) ⌝ }
+{
+    if tape[at] != 7 {
+        return false;
+    }
+    if end - at < 5 {
+        return false;
+    }
+    crate::u32_at(tape, at + 1) != 0
+}
+
+fn scalar_size(tape: &[u8], at: usize, end: usize) -> usize
+    requires { ⌜ at < end ⌝ }
+    requires { ⌜ end ≤ length (now tape) ⌝ }
+    requires { ⌜ kind (part (now tape) at end) < 10 ⌝ }
+    ensures { λ r. ⌜ r ≡ scalarCode (scalarOf (part (now (tape .entry)) at end)) ⌝ }
 {
     let k = tape[at];
     if k == 0 {
-        return null_seen(tape, at, end);
+        return null_size(tape, at, end);
     }
     if k == 1 {
-        return bool_seen(tape, at, end);
+        return bool_size(tape, at, end);
     }
     if k == 2 {
-        return int_seen(tape, at, end);
+        return int_size(tape, at, end);
     }
     if k == 3 {
-        return float_seen(tape, at, end);
+        return float_size(tape, at, end);
     }
     if k == 4 {
-        return decimal_seen(tape, at, end);
+        return decimal_size(tape, at, end);
     }
     if k == 5 {
-        return timestamp_seen(tape, at, end);
+        return timestamp_size(tape, at, end);
     }
-    if k == 7 {
-        return id_seen(tape, at, end);
+    if k == 8 {
+        return text_size(tape, at, end);
     }
     if k == 9 {
-        return clob_seen(tape, at, end);
+        return span(tape, at, end);
     }
-    if 9 < k {
-        return Leaf::Bad(2);
-    }
-    // the text of a symbol, 6, or of a string, 8
-    text_seen(tape, at, end)
+    // 6 or 7
+    sym_size(tape, at, end)
 }
 
-// A node without a body, as a value.
-fn leaf_met(s: Leaf) -> Met
-    ensures { λ r. ⌜ r ≡ leafMet s ⌝ }
+// By what a scalar is refused, by its size.
+fn size_fault(n: usize) -> u8
+    ensures { λ r. ⌜ r ≡ if (eqb n 0) 2 4 ⌝ }
 {
-    match s {
-        Leaf::Bad(f) => Met::Bad(f),
-        Leaf::Whole(n, b) => Met::Leaf(n, b),
-    }
+    if n == 0 { 2 } else { 4 }
 }
 
 // The frame of a container, by its kind byte 10, 11 or 12.
@@ -284,43 +297,6 @@ pub fn frame_of(k: u8) -> Frame
     Frame::Struct
 }
 
-fn open_met(tape: &[u8], at: usize, end: usize, frame: Frame) -> Met
-    requires { ⌜ at ≤ end ⌝ }
-    requires { ⌜ end ≤ length (now tape) ⌝ }
-    ensures { λ r. ⌜ r ≡ met (openOf frame (part (now (tape .entry)) at end)) ⌝ }
-{
-    let Place::At(n) = crate::length_at(tape, at, end) else {
-        return Met::Bad(2);
-    };
-    Met::Open(frame, n)
-}
-
-// The value at a place, of the child that starts at `from`.
-fn value_met(tape: &[u8], at: usize, end: usize, from: usize, frame: Frame) -> Met
-    requires { ⌜ from < end ⌝ }
-    requires { ⌜ at ≤ end ⌝ }
-    requires { ⌜ end ≤ length (now tape) ⌝ }
-    ensures { λ r. ⌜ r ≡ met (valueOf (free frame (part (now (tape .entry)) from end)) (part (now (tape .entry)) at end)) ⌝ }
-{
-    if at == end {
-        return Met::Bad(2);
-    }
-    let k = tape[at];
-    if k < 10 {
-        return leaf_met(scalar_seen(tape, at, end));
-    }
-    if k < 13 {
-        return open_met(tape, at, end, frame_of(k));
-    }
-    if k != 14 {
-        return Met::Bad(2);
-    }
-    if crate::is_free(tape, from, end, frame) {
-        return Met::Leaf(1, false);
-    }
-    Met::Bad(2)
-}
-
 // ---- heads
 
 // n symbols from a place on. `already`: there was an identifier but 0 before.
@@ -333,10 +309,11 @@ fn syms_seen(tape: &[u8], at: usize, end: usize, n: u8, already: bool) -> Front
     let mut left = n;
     let mut numbered = already;
     while 0 < left {
-        let Leaf::Whole(size, b) = sym_seen(tape, p, end) else {
+        let size = sym_size(tape, p, end);
+        if size == 0 {
             return Front::Bad;
-        };
-        numbered = either(numbered, b);
+        }
+        numbered = either(numbered, is_number(tape, p, end));
         p = p + size;
         left -= 1;
     }
@@ -368,30 +345,38 @@ fn notes_seen(tape: &[u8], at: usize, end: usize, noted: bool, numbered: bool) -
     syms_seen(tape, at + 2, end, n, numbered)
 }
 
-// A name, where the child at a place has one.
-fn name_seen(tape: &[u8], at: usize, end: usize, frame: Frame) -> Leaf
+// Behind the name of the child at a place, or at the place where it has none; at the end where the name is refused.
+fn behind_name(tape: &[u8], at: usize, end: usize, frame: Frame) -> usize
     requires { ⌜ at ≤ end ⌝ }
     requires { ⌜ end ≤ length (now tape) ⌝ }
-    ensures { λ r. ⌜ r ≡ leafOf nameFault nameNumbered (nameOf frame (part (now (tape .entry)) at end)) ⌝ }
+    ensures { λ r. ⌜ r ≡ endOf nameFault at end (nameOf frame (part (now (tape .entry)) at end)) ⌝ }
 {
     match frame {
-        Frame::Struct => sym_seen(tape, at, end),
-        Frame::Top => Leaf::Whole(0, false),
-        Frame::List => Leaf::Whole(0, false),
-        Frame::Sexp => Leaf::Whole(0, false),
+        Frame::Struct => {
+            let n = sym_size(tape, at, end);
+            if n == 0 {
+                return end;
+            }
+            at + n
+        }
+        Frame::Top => at,
+        Frame::List => at,
+        Frame::Sexp => at,
     }
 }
 
-// The head of the child at a place. `noted`, `numbered`: what was met before.
-fn head_seen(tape: &[u8], at: usize, end: usize, frame: Frame, noted: bool, numbered: bool) -> Front
-    requires { ⌜ at ≤ end ⌝ }
+// Whether the name of the child at a place is an identifier but 0.
+fn name_number(tape: &[u8], at: usize, end: usize, frame: Frame) -> bool
+    requires { ⌜ at < end ⌝ }
     requires { ⌜ end ≤ length (now tape) ⌝ }
-    ensures { λ r. ⌜ r ≡ headFront at noted numbered (headOf frame (part (now (tape .entry)) at end)) ⌝ }
+    ensures { λ r. ⌜ r ≡ nameIn frame (part (now (tape .entry)) at end) ⌝ }
 {
-    let Leaf::Whole(n, b) = name_seen(tape, at, end, frame) else {
-        return Front::Bad;
-    };
-    notes_seen(tape, at + n, end, noted, either(numbered, b))
+    match frame {
+        Frame::Struct => is_number(tape, at, end),
+        Frame::Top => false,
+        Frame::List => false,
+        Frame::Sexp => false,
+    }
 }
 
 // ---- bodies
@@ -422,30 +407,56 @@ fn check_nodes(tape: &[u8], from: usize, end: usize, frame: Frame, depth: usize)
     let mut noted = false;
     let mut numbered = false;
     while at < end {
-        let Front::Whole(p, notes, numbers) = head_seen(tape, at, end, frame, noted, numbered)
-        else {
+        let q = behind_name(tape, at, end, frame);
+        if q == end {
             return refused(2);
-        };
-        let v = value_met(tape, p, end, at, frame);
-        match v {
-            Met::Bad(f) => {
-                return refused(f);
+        }
+        numbered = either(numbered, name_number(tape, at, end, frame));
+        let mut p = q;
+        if tape[q] == 13 {
+            let Front::Whole(r, m, b) = notes_seen(tape, q, end, noted, numbered) else {
+                return refused(2);
+            };
+            if r == end {
+                return refused(2);
             }
-            Met::Leaf(n, number) => {
-                noted = notes;
-                numbered = either(numbers, number);
-                count += 1;
-                at = p + n;
+            p = r;
+            noted = m;
+            numbered = b;
+        }
+        let k = tape[p];
+        if k < 10 {
+            let n = scalar_size(tape, p, end);
+            if n < 2 {
+                return refused(size_fault(n));
             }
-            Met::Open(k, n) => {
-                let r = check_nodes(tape, p + 5, p + 5 + n, k, depth - 1);
+            numbered = either(numbered, is_number(tape, p, end));
+            count += 1;
+            at = p + n;
+        } else {
+            if k < 13 {
+                let n = span(tape, p, end);
+                if n == 0 {
+                    return refused(2);
+                }
+                let r = check_nodes(tape, p + 5, p + n, frame_of(k), depth - 1);
                 if r.fault != 0 {
                     return refused(r.fault);
                 }
-                noted = either(notes, r.noted);
-                numbered = either(numbers, r.numbered);
+                noted = either(noted, r.noted);
+                numbered = either(numbered, r.numbered);
                 count += 1;
-                at = p + 5 + n;
+                at = p + n;
+            } else {
+                if k != 14 {
+                    return refused(2);
+                }
+                if crate::is_free(tape, at, end, frame) {
+                    count += 1;
+                    at = p + 1;
+                } else {
+                    return refused(2);
+                }
             }
         }
     }

@@ -1,47 +1,45 @@
 -- `tape::check::is_text` meets its contract. Assumes nothing.
-use mathlib.Core.Path.{_≡_, ap, _∙_}
-use native.Mathlib.Omega.{arith}
+use mathlib.Core.Path.{_≡_, sym, ap, _∙_}
 use denote.Ref.{now}
-use Prim.Native.Nat.{ℕ, _+_, _-_}
+use Prim.Native.Nat.{_+_}
 use lib.ListN.{take, drop}
-use Rattle.text_rules.specs.Utf8.{valid}
+use lib.Seq.{take-take}
+use Rattle.output.specs.Wrote.{leBytes}
+use Rattle.output.proofs.Words.{take-le}
+use Rattle.text_rules.specs.Utf8.{after, valid}
 use borrow.Author.Needs.{needs}
 use Rattle.tape.proofs.check.is_text.Statement.{statement}
 use Rattle.tape.proofs.check.is_text.Tie as tie
 
+returns : tie.Need-returns
+unfolding valid after
+returns c = rw (c .if1 .taken)
+
 add-from : tie.Need-add-from
 add-from c = search needs
 
-add-to : tie.Need-add-to
-add-to c = search needs
+sub-if3 : tie.Need-sub-if3
+sub-if3 c = search needs
 
-sub-valid-utf8 : tie.Need-sub-valid-utf8
-sub-valid-utf8 c = search needs
+word-at-requires : tie.Need-word-at-requires
+word-at-requires c κs = search needs
 
-part-valid-utf8-start : tie.Need-part-valid-utf8-start
-part-valid-utf8-start c = search needs
+is-ascii-requires : tie.Need-is-ascii-requires
+is-ascii-requires c κs = search needs
 
-part-valid-utf8-end : tie.Need-part-valid-utf8-end
-part-valid-utf8-end c = search needs
+returns-2 : tie.Need-returns-2
+returns-2 c =
+    let a = c .before .before .before .before .before .before .before .args in
+    let t = drop (a .at + 5) (now (a .tape)) in
+    let x = c .before .before .word-at .result in
+    let low : take (a .n) t ≡ leBytes (a .n) x = sym (take-take (a .n) 8 t (c .before .before .before .before .if2 .taken)) ∙ ap (take (a .n)) (sym (c .before .before .word-at .ensures)) ∙ take-le (a .n) 8 x (c .before .before .before .before .if2 .taken) in
+    sym (ap valid low ∙ c .before .is-ascii .ensures (c .if4 .taken))
 
-valid-utf8-requires : tie.Need-valid-utf8-requires
-valid-utf8-requires c κs = search needs
+valid-part-requires : tie.Need-valid-part-requires
+valid-part-requires c κs = search needs
 
-returns : tie.Need-returns
-returns c =
-    let s = c .before .before .before in
-    let a = s .args in
-    let n : a .at + 5 + a .n - (a .at + 5) ≡ a .n = omega arith in
-    c .valid-utf8 .ensures ∙ ap (λ (i : ℕ). valid (take i (drop (a .at + 5) (now (a .tape))))) n
+returns-3 : tie.Need-returns-3
+returns-3 c = search needs
 
 pub is-text-spec : {M : Type 1} → statement M
-is-text-spec =
-    tie.close
-    (tie.spec
-    add-from
-    add-to
-    sub-valid-utf8
-    part-valid-utf8-start
-    part-valid-utf8-end
-    valid-utf8-requires
-    returns)
+is-text-spec = tie.close (tie.spec returns add-from sub-if3 word-at-requires is-ascii-requires returns-2 valid-part-requires returns-3)
