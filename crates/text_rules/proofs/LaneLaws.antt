@@ -9,7 +9,7 @@ use lib.Bits.{bitAnd, bitOr, bitXor, and-block, or-block, xor-block, and-lt, or-
 use lib.Dec.{eqb}
 use borrow.Author.Tests.{eqb-true, eqb-false, eq-eqb, ne-eqb}
 use Rattle.output.specs.Wrote.{leBytes}
-use Rattle.text_rules.specs.Lanes.{lanes, rep, Lane, low, every}
+use Rattle.text_rules.specs.Lanes.{lanes, rep, Lane, low}
 
 byte-lt : (x : ℕ) → x % 256 < 256
 byte-lt x = omega arith
@@ -98,6 +98,11 @@ unfolding rep
 other-add c x l h = lane-add (λ b k. omega (arith, xor-lt 7 (low b) c (low-lt b) l)) (lane-xor (lane-low x h) (lane-rep x c (omega arith))) (lane-rep x 0x7F (omega arith))
 
 -- ---- the marks of the n lowest bytes, all at once
+
+-- every byte passes the test
+unfoldable pub every : (ℕ → Bool) → List ℕ → Bool
+every p [] = true
+every p (b ∷ s) = p b && every p s
 
 -- two numbers of two digits each
 pub two-digits : (p q r s : ℕ) → q < 256 → s < 256 → eqb (p * 256 + q) (r * 256 + s) ≡ eqb q s && eqb p r

@@ -1,5 +1,5 @@
 -- What the tests of a word's bytes say: each is one test over the 256 bytes, and then every byte of a text passes it. Assumes nothing.
-use mathlib.Core.Path.{_≡_, refl, sym, ap, ap₂, _∙_}
+use mathlib.Core.Path.{_≡_, refl, sym, ap, _∙_}
 use mathlib.Core.Bool.{Bool, true, false, _&&_, _||_, not}
 use mathlib.Core.List.{List, [], _∷_, _++_, append-nil}
 use mathlib.Core.Option.{none}
@@ -23,9 +23,9 @@ use Rattle.text_rules.specs.Escapes.{hasLetter, textEscape, textBody}
 use Rattle.text_rules.specs.Words.{isStart, isPart, behind, isKeyword, resemblesSymbolId, resemblesVersionMarker, isIdentifier}
 use Rattle.text_rules.specs.WordSteps.{isName, isBare, allPart}
 use Rattle.text_rules.specs.Text.{symbolText}
-use Rattle.text_rules.specs.Lanes.{Lane, rep, equalMark, letterMark, digitMark, rawMark, every}
+use Rattle.text_rules.specs.Lanes.{Lane, rep, low, equalMark, letterMark}
 use Rattle.text_rules.proofs.Table.{same as agree}
-use Rattle.text_rules.proofs.LaneLaws.{two-digits, lane-self, unmarked}
+use Rattle.text_rules.proofs.LaneLaws.{every, two-digits, lane-self, unmarked}
 use Rattle.text_rules.proofs.SymbolsText.{symbol-marked}
 use Rattle.text_rules.proofs.Utf8Chars.{ascii as one-byte}
 use Rattle.text_rules.proofs.WordsLaws.{same-long, same-is}
@@ -88,6 +88,10 @@ last-word s i x l g h w e =
 abbrev pub isRaw : ℕ → Bool
 isRaw b = leb 0x20 b && not (hasLetter b || eqb b (byte "'"))
 
+-- its mark: hex 20 at least, and no quote mark or backslash
+abbrev pub rawMark : ℕ → ℕ
+rawMark b = bitAnd (bitAnd (bitAnd (low b + 0x60) (bitXor (low b) 0x22 + 0x7F)) (bitXor (low b) 0x27 + 0x7F)) (bitXor (low b) 0x5C + 0x7F)
+
 pub raw-test : (b : ℕ) → b < 256 → eqb (bitAnd (0xFF - bitOr (rawMark b) b) 128) 0 ≡ isRaw b
 unfolding hasLetter
 raw-test = agree (λ b. eqb (bitAnd (0xFF - bitOr (rawMark b) b) 128) 0) isRaw 256 refl
@@ -101,6 +105,10 @@ raw-body (b ∷ s) h =
     rw (not-true (hasLetter b || eqb b (byte "'")) (q .1), raw-body s (p .1))
 
 -- ---- bytes of identifiers
+
+-- the mark of a digit
+abbrev pub digitMark : ℕ → ℕ
+digitMark b = bitAnd (low b + 0x50) (0xFF - (low b + 0x46))
 
 pub part-test : (b : ℕ) → b < 256 → eqb (bitAnd (bitOr (0xFF - bitOr (bitOr (letterMark b) (digitMark b)) (equalMark 0x24 b)) b) 128) 0 ≡ isPart b
 unfolding isPart isStart isDigit

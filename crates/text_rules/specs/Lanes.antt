@@ -1,8 +1,6 @@
 -- Words as bytes side by side: what a word operation does to each byte. Assumes nothing: these are definitions.
 use Prim.Native.Nat.{ℕ, zero, suc, _+_, _-_, _*_, _/_, _%_, _<_}
 use mathlib.Core.Path.{_≡_}
-use mathlib.Core.Bool.{Bool, true, _&&_}
-use mathlib.Core.List.{List, [], _∷_}
 use lib.Bits.{bitAnd, bitOr, bitXor}
 
 -- f of each of the w lowest bytes of x, in that byte's place
@@ -31,16 +29,3 @@ equalMark c b = 0xFF - (bitXor (low b) c + 0x7F)
 -- an ASCII letter or `_`: with hex 20 set a letter is hex 61 to 7A
 abbrev pub letterMark : ℕ → ℕ
 letterMark b = bitOr (bitAnd (bitOr (low b) 0x20 + 0x1F) (0xFF - (bitOr (low b) 0x20 + 0x05))) (equalMark 0x5F b)
-
--- a digit
-abbrev pub digitMark : ℕ → ℕ
-digitMark b = bitAnd (low b + 0x50) (0xFF - (low b + 0x46))
-
--- a byte that text has raw: hex 20 at least, and no quote mark or backslash
-abbrev pub rawMark : ℕ → ℕ
-rawMark b = bitAnd (bitAnd (bitAnd (low b + 0x60) (bitXor (low b) 0x22 + 0x7F)) (bitXor (low b) 0x27 + 0x7F)) (bitXor (low b) 0x5C + 0x7F)
-
--- every byte passes the test
-unfoldable pub every : (ℕ → Bool) → List ℕ → Bool
-every p [] = true
-every p (b ∷ s) = p b && every p s

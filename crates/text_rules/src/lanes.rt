@@ -4,7 +4,7 @@ ghost use Prim.Native.Nat.{_%_, _≤_};
 ghost use mathlib.Core.Path.{_≡_};
 ghost use mathlib.Core.Bool.{true};
 ghost use Rattle.output.specs.Wrote.{leBytes};
-ghost use Rattle.text_rules.specs.Lanes.{rep, Lane, letterMark, digitMark, equalMark};
+ghost use Rattle.text_rules.specs.Lanes.{rep, Lane, letterMark};
 ghost use Rattle.text_rules.specs.Utf8.{valid};
 ghost use Rattle.text_rules.specs.Words.{isPart, isKeyword};
 ghost use Rattle.text_rules.specs.WordSteps.{isName, allPart};
