@@ -1,11 +1,11 @@
 -- What stands at a place where a scalar or a name is known to stand, by its kind byte and the numbers on the tape. Assumes nothing.
-use Prim.Native.Nat.{ℕ, _+_, _-_, _<_, _≤_}
+use Prim.Native.Nat.{ℕ, _+_, _<_, _≤_}
 use mathlib.Core.Path.{_≡_, refl, sym, ap, _∙_}
 use mathlib.Core.List.{List}
 use mathlib.Core.Bool.{Bool, true, false}
 use mathlib.Core.Option.{Option, none, some}
 use native.Mathlib.Omega.{arith}
-use native.Mathlib.Decide.{decLe, decLt}
+use native.Mathlib.Decide.{decLe}
 use borrow.Author.Tests.{eqb-true, eqb-false}
 use lib.Dec.{eqb}
 use lib.ListN.{length, getD, take, drop}
@@ -13,7 +13,7 @@ use Rattle.text_rules.specs.Text.{Sym}
 use Rattle.numbers.specs.declared.timestamp.Timestamp.{Timestamp}
 use Rattle.tape.specs.Bytes.{part, leNumber, signed}
 use Rattle.tape.specs.Tree.{Scalar, int, decimal, timestamp, symbol, string}
-use Rattle.tape.specs.Tape.{past, kind, lengthOf, textOf, symOf, nameOf, decimalOf, timestampAs, symbolOf, sizedOf, scalarOf}
+use Rattle.tape.specs.Tape.{past, kind, lengthOf, symOf, nameOf, decimalOf, timestampAs, symbolOf, sizedOf, scalarOf}
 use Rattle.tape.specs.declared.Frame.the-variants.{Struct}
 use Rattle.tape.specs.declared.Place.the-variants.{Bad as Nowhere, At}
 use Rattle.tape.proofs.Parts.{part-length, part-first, part-byte, part-number}

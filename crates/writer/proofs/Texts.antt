@@ -1,6 +1,6 @@
 -- The text of names and of text nodes. Assumes nothing.
-use Prim.Native.Nat.{ℕ, zero, suc, _+_, _-_, _<_, _≤_}
-use mathlib.Core.Path.{_≡_, refl, sym, ap, _∙_}
+use Prim.Native.Nat.{ℕ, _+_, _-_, _≤_}
+use mathlib.Core.Path.{_≡_, sym, ap, _∙_}
 use mathlib.Core.List.{List}
 use mathlib.Core.Option.{Option, none, some}
 use native.Mathlib.Omega.{arith}
@@ -10,12 +10,9 @@ use Rattle.output.specs.Wrote.{leBytes}
 use Rattle.output.proofs.Words.{take-le}
 use Rattle.text_rules.specs.Text.{Sym, symbolText}
 use Rattle.tape.specs.Bytes.{part}
-use Rattle.tape.specs.Tree.{Head, encodeSym}
-use Rattle.tape.specs.Tape.{past, symOf, nameOf, notesOf, headOf}
+use Rattle.tape.specs.Tree.{Head}
+use Rattle.tape.specs.Tape.{past, nameOf, notesOf, headOf}
 use Rattle.tape.specs.declared.Frame.{Frame}
-use Rattle.tape.specs.declared.Frame.the-variants.{Struct}
-use Rattle.tape.proofs.Parts.{part-length}
-use Rattle.tape.proofs.Reading.{Sound, something, sym-sound}
 use Rattle.tape.proofs.CodeFacts.{part-text}
 use Rattle.writer.specs.Steps.{nameIn, Plain}
 
@@ -42,23 +39,6 @@ module _ (s : List ℕ) (from n x : ℕ) (h : leBytes 8 x ≡ take 8 (drop from 
       ap symbolText t ∙ p .bare ∙ sym (word-bytes (p .most))
 
 -- ---- names
-
--- the name of a field is the symbol that its bytes start with
-pub name-is : (l : List ℕ) (o : Option (Sym × ℕ)) → o ≡ symOf l → nameIn Struct l ≡ past o none (λ s n. some s)
-unfolding nameOf
-name-is l o e = ap (λ (o : Option (Sym × ℕ)). past (past {B = Option (Option Sym × ℕ)} o none (λ s n. some (some s, n))) none (λ a n. a)) (sym e) ∙ go o
-  where
-    go : (o : Option (Sym × ℕ)) → past (past {B = Option (Option Sym × ℕ)} o none (λ s n. some (some s, n))) none (λ a n. a) ≡ past o none (λ s n. some s)
-    go none = refl
-    go (some a) = refl
-
--- the symbol ends within the body
-pub name-room : (s : List ℕ) (at e : ℕ) (a : Sym) (k : ℕ) → at ≤ e → e ≤ length s → some (a, k) ≡ symOf (part s at e) → at + k ≤ e
-name-room s at e a k h i m = let g = go (symOf (part s at e)) (sym-sound (part s at e)) m in let n = part-length s at e i in omega arith
-  where
-    go : (o : Option (Sym × ℕ)) → Sound encodeSym (part s at e) o → some (a, k) ≡ o → k ≤ length (part s at e)
-    go none w e = let z : _≡_ {A = ℕ} 0 1 = cc in absurd (omega arith)
-    go (some (b, n)) (something h f) e = let z : k ≡ n = ap (λ (o : Option (Sym × ℕ)). past o 0 (λ v m. m)) e in omega arith
 
 -- the name of a child is the name in its head
 pub name-head : (k : Frame) (l : List ℕ) (h : Head) (m : ℕ) → headOf k l ≡ some (h, m) → nameIn k l ≡ h .0

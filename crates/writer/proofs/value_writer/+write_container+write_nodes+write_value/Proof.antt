@@ -1,6 +1,6 @@
 -- `value_writer::write_nodes`, `value_writer::write_value` and `value_writer::write_container` meet their contracts. The walk's invariant: the text of the
 -- nodes before `at` is written, that of the nodes from `at` on is left, and nothing is wrong with these. Assumes nothing.
-use mathlib.Core.Path.{_≡_, refl, sym, ap, _∙_}
+use mathlib.Core.Path.{_≡_, ap}
 use native.Mathlib.Omega.{arith}
 use denote.Ref.{now}
 use Prim.Native.Nat.{ℕ, _+_, _*_, _-_, _<_, _≤_}
@@ -12,7 +12,7 @@ use Rattle.tape.proofs.Parts.{part-length}
 use Rattle.writer.specs.Steps.{ending, items}
 use Rattle.writer.proofs.Layouts.{deeper-most}
 use Rattle.writer.proofs.Turning.{head-here, turn-here}
-use Rattle.writer.proofs.Items.{Container, items-turn, value-place, scalar-text, scalar-size, scalar-some, marker-text, marker-length, header-room, container}
+use Rattle.writer.proofs.Items.{items-turn, value-place, scalar-text, scalar-size, scalar-some, marker-text, marker-length, header-room, container}
 use borrow.Author.Needs.{needs}
 use borrow.Fn.Kinds.{In}
 use borrow.Fn.PlainCycle.{Measures, is, falls, and}
