@@ -6,7 +6,7 @@ use native.Mathlib.Nat.{add-zero, add-suc, suc-add}
 use native.Mathlib.Decide.{decLe}
 use native.Mathlib.Numerals.{add-one}
 use native.Mathlib.Omega.{arith}
-use lib.ListN.{length, take, drop, getD, set, length-append, length-drop, length-set, take-append-drop}
+use lib.ListN.{length, take, drop, getD, set, length-append, length-drop, take-append-drop}
 use lib.Seq.{sets, length-sets, set-out, set-set, set-comm, take-length, length-take-le, take-all, take-add, drop-drop, drop-cons}
 use Rattle.output.specs.Wrote.{Wrote, limit, leBytes}
 
@@ -92,26 +92,42 @@ sets-twice s t l i u h =
     ∙ ap (λ (k : List ℕ). sets k (i + length t) u) (ap (λ (v : List ℕ). sets (sets l i v) i t) (sym (append-nil s)) ∙ sets-over s t [] l i h ∙ ap (sets l i) (append-nil t))
     ∙ sets-append l i t u
 
--- the first k bytes of a text and then its last k, which overlap, are the text
-pub sets-lap : (s l : List ℕ) (i k : ℕ) → k ≤ length s → length s ≤ k + k → sets (sets l i (take k s)) (i + (length s - k)) (take k (drop (length s - k) s)) ≡ sets l i s
-sets-lap s l i k h g =
-    let m : ℕ = length s - k in
-    let w : ℕ = k - m in
+-- the next k bytes of a text, behind the i that are stored
+pub sets-next : (s l : List ℕ) (p i k : ℕ) → i ≤ length s → sets (sets l p (take i s)) (p + i) (take k (drop i s)) ≡ sets l p (take (i + k) s)
+sets-next s l p i k h =
+    ap (λ (j : ℕ). sets (sets l p (take i s)) (p + j) (take k (drop i s))) (sym (length-take-le i s h))
+    ∙ sets-append l p (take i s) (take k (drop i s))
+    ∙ ap (sets l p) (sym (take-add i k s))
+
+-- the first i bytes of a text and then all from m on, which overlap, are the text
+pub sets-again : (s l : List ℕ) (p i m : ℕ) → m ≤ i → i ≤ length s → sets (sets l p (take i s)) (p + m) (drop m s) ≡ sets l p s
+sets-again s l p i m h g =
+    let w : ℕ = i - m in
     let x : List ℕ = take m s in
     let y : List ℕ = drop m s in
-    let ly : length y ≡ k = length-drop m s ∙ omega arith in
     let lx : length x ≡ m = length-take-le m s (omega arith) in
-    let e : take k s ≡ x ++ take w y = ap (λ (j : ℕ). take j s) (let q : k ≡ m + w = omega arith in q) ∙ take-add m w s in
-    let ty : take k y ≡ y = take-all k y (omega arith) in
+    let e : take i s ≡ x ++ take w y = ap (λ (j : ℕ). take j s) (let q : i ≡ m + w = omega arith in q) ∙ take-add m w s in
     let yy : y ≡ take w y ++ drop w y = sym (take-append-drop w y) in
-    ap (λ (z : List ℕ). sets (sets l i (take k s)) (i + m) z) (ty ∙ yy)
-    ∙ ap (λ (z : List ℕ). sets (sets l i z) (i + m) (take w y ++ drop w y)) e
-    ∙ ap (λ (z : List ℕ). sets z (i + m) (take w y ++ drop w y)) (sym (sets-append l i x (take w y)) ∙ ap (λ (j : ℕ). sets (sets l i x) (i + j) (take w y)) lx)
-    ∙ sets-twice (take w y) (take w y) (sets l i x) (i + m) (drop w y) refl
-    ∙ ap (λ (z : List ℕ). sets (sets l i x) (i + m) z) (sym yy)
-    ∙ ap (λ (j : ℕ). sets (sets l i x) (i + j) y) (sym lx)
-    ∙ sets-append l i x y
-    ∙ ap (sets l i) (take-append-drop m s)
+    ap (λ (z : List ℕ). sets (sets l p (take i s)) (p + m) z) yy
+    ∙ ap (λ (z : List ℕ). sets (sets l p z) (p + m) (take w y ++ drop w y)) e
+    ∙ ap (λ (z : List ℕ). sets z (p + m) (take w y ++ drop w y)) (sym (sets-append l p x (take w y)) ∙ ap (λ (j : ℕ). sets (sets l p x) (p + j) (take w y)) lx)
+    ∙ sets-twice (take w y) (take w y) (sets l p x) (p + m) (drop w y) refl
+    ∙ ap (λ (z : List ℕ). sets (sets l p x) (p + m) z) (sym yy)
+    ∙ ap (λ (j : ℕ). sets (sets l p x) (p + j) y) (sym lx)
+    ∙ sets-append l p x y
+    ∙ ap (sets l p) (take-append-drop m s)
+
+-- the first i bytes of a text and then its last k, which overlap, are the text
+pub sets-last : (s l : List ℕ) (p i k : ℕ) → k ≤ length s → i ≤ length s → length s ≤ i + k → sets (sets l p (take i s)) (p + (length s - k)) (take k (drop (length s - k) s)) ≡ sets l p s
+sets-last s l p i k h g j =
+    let m : ℕ = length s - k in
+    let n = length-drop m s in
+    ap (λ (z : List ℕ). sets (sets l p (take i s)) (p + m) z) (take-all k (drop m s) (omega arith))
+    ∙ sets-again s l p i m (omega arith) g
+
+-- the first k bytes of a text and then its last k, which overlap, are the text
+pub sets-lap : (s l : List ℕ) (i k : ℕ) → k ≤ length s → length s ≤ k + k → sets (sets l i (take k s)) (i + (length s - k)) (take k (drop (length s - k) s)) ≡ sets l i s
+sets-lap s l i k h g = sets-last s l i k k h h g
 
 -- of a text only what there is room for is stored
 pub sets-room : (l s : List ℕ) (i n : ℕ) → n ≡ min (length s) (length l - i) → sets l i (take n s) ≡ sets l i s
@@ -124,7 +140,7 @@ sets-room l s i n h = go (decLe (length s) n)
         let o = length-sets l i (take n s) in
         sym (sets-out (sets l i (take n s)) (i + length (take n s)) (drop n s) (omega arith)) ∙ sets-append l i (take n s) (drop n s) ∙ ap (sets l i) (take-append-drop n s)
 
--- two and four bytes of a text
+-- two, four and eight bytes of a text
 pub take-2 : (s : List ℕ) (i : ℕ) → i + 2 ≤ length s → take 2 (drop i s) ≡ getD s i 0 ∷ getD s (i + 1) 0 ∷ []
 take-2 s i h = ap (take 2) (drop-cons s i 0 (omega arith)) ∙ ap (λ (t : List ℕ). getD s i 0 ∷ take 1 t) (drop-cons s (suc i) 0 (omega arith)) ∙ rw (add-one i)
 
@@ -136,6 +152,17 @@ take-4 s i h =
     ∙ ap (λ (t : List ℕ). getD s i 0 ∷ getD s (i + 1) 0 ∷ take 2 t) (drop-drop 2 i s)
     ∙ ap (λ (t : List ℕ). getD s i 0 ∷ getD s (i + 1) 0 ∷ t) (take-2 s (i + 2) (omega arith))
     ∙ rw e
+
+pub take-8 : (s : List ℕ) (i : ℕ) → i + 8 ≤ length s → take 8 (drop i s) ≡ getD s i 0 ∷ getD s (i + 1) 0 ∷ getD s (i + 2) 0 ∷ getD s (i + 3) 0 ∷ getD s (i + 4) 0 ∷ getD s (i + 5) 0 ∷ getD s (i + 6) 0 ∷ getD s (i + 7) 0 ∷ []
+take-8 s i h =
+    let e : i + 4 + 1 ≡ i + 5 = omega arith in
+    let f : i + 4 + 2 ≡ i + 6 = omega arith in
+    let g : i + 4 + 3 ≡ i + 7 = omega arith in
+    take-add 4 4 (drop i s)
+    ∙ ap (λ (t : List ℕ). t ++ take 4 (drop 4 (drop i s))) (take-4 s i (omega arith))
+    ∙ ap (λ (t : List ℕ). getD s i 0 ∷ getD s (i + 1) 0 ∷ getD s (i + 2) 0 ∷ getD s (i + 3) 0 ∷ take 4 t) (drop-drop 4 i s)
+    ∙ ap (λ (t : List ℕ). getD s i 0 ∷ getD s (i + 1) 0 ∷ getD s (i + 2) 0 ∷ getD s (i + 3) 0 ∷ t) (take-4 s (i + 4) (omega arith))
+    ∙ rw (e, f, g)
 
 -- ---- a loop that writes: what it wrote so far, and what is left of the whole
 

@@ -20,6 +20,20 @@ pub fn put(buf: &mut [u8], pos: usize, x: u8) -> usize
     if pos < LIMIT { pos + 1 } else { LIMIT }
 }
 
+// Two bytes.
+pub fn put_two(buf: &mut [u8], pos: usize, x: u8, y: u8) -> usize
+    requires { ⌜ pos ≤ limit ⌝ }
+    ensures { λ r. ⌜ Wrote (now (buf .entry)) (now (buf .exit)) pos r (x ∷ y ∷ []) ⌝ }
+{
+    if pos + 2 <= buf.len() {
+        buf[pos] = x;
+        buf[pos + 1] = y;
+        return pos + 2;
+    }
+    let p = put(buf, pos, x);
+    put(buf, p, y)
+}
+
 // Two bytes of s from a place on, for which there is room.
 fn copy_2(buf: &mut [u8], pos: usize, s: &[u8], from: usize)
     requires { ⌜ pos + 2 ≤ length (now buf) ⌝ }
@@ -56,26 +70,93 @@ fn copy_4(buf: &mut [u8], pos: usize, s: &[u8], from: usize)
     buf[pos + 3] = (n / 16777216 % 256) as u8;
 }
 
-// Eight bytes.
+fn wide64(x: u8) -> u64
+    ensures { λ r. ⌜ (r ≡ x) × (r < 256) ⌝ }
+{
+    x as u64
+}
+
+// Eight bytes of s from a place on, as one number, the lowest first: the compiler loads them at once.
+pub fn word_at(s: &[u8], from: usize) -> u64
+    requires { ⌜ from + 8 ≤ length (now s) ⌝ }
+    ensures { λ r. ⌜ leBytes 8 r ≡ take 8 (drop from (now (s .entry))) ⌝ }
+{
+    wide64(s[from])
+        + 256 * wide64(s[from + 1])
+        + 65536 * wide64(s[from + 2])
+        + 16777216 * wide64(s[from + 3])
+        + 4294967296 * wide64(s[from + 4])
+        + 1099511627776 * wide64(s[from + 5])
+        + 281474976710656 * wide64(s[from + 6])
+        + 72057594037927936 * wide64(s[from + 7])
+}
+
+// The two, four and eight lowest bytes of w, for which there is room: one store.
+pub fn store_2(buf: &mut [u8], pos: usize, w: u64)
+    requires { ⌜ pos + 2 ≤ length (now buf) ⌝ }
+    ensures { λ _. ⌜ now (buf .exit) ≡ sets (now (buf .entry)) pos (leBytes 2 w) ⌝ }
+{
+    buf[pos] = (w % 256) as u8;
+    buf[pos + 1] = (w / 256 % 256) as u8;
+}
+
+pub fn store_4(buf: &mut [u8], pos: usize, w: u64)
+    requires { ⌜ pos + 4 ≤ length (now buf) ⌝ }
+    ensures { λ _. ⌜ now (buf .exit) ≡ sets (now (buf .entry)) pos (leBytes 4 w) ⌝ }
+{
+    buf[pos] = (w % 256) as u8;
+    buf[pos + 1] = (w / 256 % 256) as u8;
+    buf[pos + 2] = (w / 65536 % 256) as u8;
+    buf[pos + 3] = (w / 16777216 % 256) as u8;
+}
+
+pub fn store_8(buf: &mut [u8], pos: usize, w: u64)
+    requires { ⌜ pos + 8 ≤ length (now buf) ⌝ }
+    ensures { λ _. ⌜ now (buf .exit) ≡ sets (now (buf .entry)) pos (leBytes 8 w) ⌝ }
+{
+    buf[pos] = (w % 256) as u8;
+    buf[pos + 1] = (w / 256 % 256) as u8;
+    buf[pos + 2] = (w / 65536 % 256) as u8;
+    buf[pos + 3] = (w / 16777216 % 256) as u8;
+    buf[pos + 4] = (w / 4294967296 % 256) as u8;
+    buf[pos + 5] = (w / 1099511627776 % 256) as u8;
+    buf[pos + 6] = (w / 281474976710656 % 256) as u8;
+    buf[pos + 7] = (w / 72057594037927936 % 256) as u8;
+}
+
+// Eight and sixteen bytes of s from a place on.
 fn copy_8(buf: &mut [u8], pos: usize, s: &[u8], from: usize)
     requires { ⌜ pos + 8 ≤ length (now buf) ⌝ }
     requires { ⌜ from + 8 ≤ length (now s) ⌝ }
     ensures { λ _. ⌜ now (buf .exit) ≡ sets (now (buf .entry)) pos (take 8 (drop from (now (s .entry)))) ⌝ }
 {
-    copy_4(buf, pos, s, from);
-    copy_4(buf, pos + 4, s, from + 4);
+    store_8(buf, pos, word_at(s, from));
 }
 
-// The bytes of s, for which there is room: a plain loop, which the compiler makes a vector loop.
+fn copy_16(buf: &mut [u8], pos: usize, s: &[u8], from: usize)
+    requires { ⌜ pos + 16 ≤ length (now buf) ⌝ }
+    requires { ⌜ from + 16 ≤ length (now s) ⌝ }
+    ensures { λ _. ⌜ now (buf .exit) ≡ sets (now (buf .entry)) pos (take 16 (drop from (now (s .entry)))) ⌝ }
+{
+    let a = word_at(s, from);
+    let b = word_at(s, from + 8);
+    store_8(buf, pos, a);
+    store_8(buf, pos + 8, b);
+}
+
+// The bytes of s, 16 at least, for which there is room: sixteen at a time, and the last sixteen again.
 fn copy_long(buf: &mut [u8], pos: usize, s: &[u8])
     requires { ⌜ pos + length (now s) ≤ length (now buf) ⌝ }
+    requires { ⌜ 16 ≤ length (now s) ⌝ }
     ensures { λ _. ⌜ now (buf .exit) ≡ sets (now (buf .entry)) pos (now (s .entry)) ⌝ }
 {
+    let last = s.len() - 16;
     let mut i = 0;
-    while i < s.len() {
-        buf[pos + i] = s[i];
-        i += 1;
+    while i < last {
+        copy_16(buf, pos + i, s, i);
+        i += 16;
     }
+    copy_16(buf, pos + last, s, last);
 }
 
 // The bytes of s, for which there is room. Short texts, as most are, are two stores that overlap.
@@ -183,8 +264,29 @@ pub fn put_repeated(buf: &mut [u8], pos: usize, x: u8, n: usize) -> usize
     repeat_clipped(buf, pos, x, n)
 }
 
-// The lowest bytes of n, as many as the width says, the lowest first.
-pub fn put_le(buf: &mut [u8], pos: usize, n: u64, width: usize) -> usize
+// The n lowest bytes of w, eight at most, for which there is room: two stores that overlap.
+fn store_low(buf: &mut [u8], pos: usize, w: u64, n: usize)
+    requires { ⌜ n ≤ 8 ⌝ }
+    requires { ⌜ pos + n ≤ length (now buf) ⌝ }
+    ensures { λ _. ⌜ now (buf .exit) ≡ sets (now (buf .entry)) pos (leBytes n w) ⌝ }
+{
+    if 4 <= n {
+        store_4(buf, pos, w);
+        store_4(buf, pos + (n - 4), w >> (8 * (n - 4)));
+        return;
+    }
+    if 2 <= n {
+        store_2(buf, pos, w);
+        store_2(buf, pos + (n - 2), w >> (8 * (n - 2)));
+        return;
+    }
+    if n == 1 {
+        buf[pos] = (w % 256) as u8;
+    }
+}
+
+// The lowest bytes of n as far as there is room.
+fn le_clipped(buf: &mut [u8], pos: usize, n: u64, width: usize) -> usize
     requires { ⌜ pos ≤ limit ⌝ }
     ensures { λ r. ⌜ Wrote (now (buf .entry)) (now (buf .exit)) pos r (leBytes width n) ⌝ }
 {
@@ -200,6 +302,20 @@ pub fn put_le(buf: &mut [u8], pos: usize, n: u64, width: usize) -> usize
         k -= 1;
     }
     p
+}
+
+// The lowest bytes of n, as many as the width says, the lowest first.
+pub fn put_le(buf: &mut [u8], pos: usize, n: u64, width: usize) -> usize
+    requires { ⌜ pos ≤ limit ⌝ }
+    ensures { λ r. ⌜ Wrote (now (buf .entry)) (now (buf .exit)) pos r (leBytes width n) ⌝ }
+{
+    if width <= 8 {
+        if pos + width <= buf.len() {
+            store_low(buf, pos, n, width);
+            return pos + width;
+        }
+    }
+    le_clipped(buf, pos, n, width)
 }
 
 // Every byte zero.

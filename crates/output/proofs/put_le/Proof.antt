@@ -1,76 +1,45 @@
 -- `output::put_le` meets its contract. Assumes nothing.
-use Prim.Native.Nat.{ℕ, suc, _+_, _-_, _≤_, min}
-use mathlib.Core.Path.{_≡_, sym, ap, _∙_}
 use native.Mathlib.Omega.{arith}
-use Rattle.output.specs.Wrote.{limit, leBytes}
-use Rattle.output.proofs.Laws.{sets-out, length-le, Progress, start, more, finish, wrote-length}
+use Rattle.output.proofs.Laws.{length-le}
 use borrow.Author.Needs.{needs}
 use Rattle.output.proofs.put_le.Statement.{statement}
 use Rattle.output.proofs.put_le.Tie as tie
 
-abbrev Inv-loop : tie.InvT-loop
-Inv-loop buf₀ pos n width p₀ m₀ k₀ buf p m k = Progress buf₀ buf pos p (leBytes width n) (leBytes k m)
+add-if2 : tie.Need-add-if2
+add-if2 c = search needs
 
-abbrev μ-loop : tie.MeasureT-loop
-μ-loop buf₀ pos n width p₀ m₀ k₀ buf p m k = k
+store-low-requires : tie.Need-store-low-requires
+store-low-requires c κs = search needs
 
-ahead-requires : tie.Need-ahead-requires Inv-loop μ-loop
-ahead-requires c κs = search needs
+add-result : tie.Need-add-result
+add-result c = search needs
 
-returns : tie.Need-returns Inv-loop μ-loop
+same-length : tie.Need-same-length
+same-length c = search needs
+
+returns : tie.Need-returns
 returns c =
-    let a = c .before .before .before .args in
-    record {
-      bytes = sym (sets-out (a .buf .now) (a .pos) (leBytes (a .width) (a .n)) (c .before .if1 .taken));
-      count = c .ahead .ensures ∙ ap (λ (k : ℕ). min (a .pos + k) limit) (sym (length-le (a .width) (a .n)));
-      room = search needs;
-    }
+    let a = c .before .before .before .before .before .before .before .args in
+    record { bytes = c .before .before .store-low .ensures; count = rw (length-le (a .width) (a .n)) (omega arith); room = search needs }
 
-loop-holds : tie.Need-loop-holds Inv-loop μ-loop
-loop-holds c = start _ _ _ (search needs) (search needs)
+le-clipped-requires : tie.Need-le-clipped-requires
+le-clipped-requires c κs = search needs
 
-cast-put : tie.Need-cast-put Inv-loop μ-loop
-cast-put c = search needs
+same-length-2 : tie.Need-same-length-2
+same-length-2 c = search needs
 
-put-requires : tie.Need-put-requires Inv-loop μ-loop
-put-requires c κs = search needs
-
-sub-k : tie.Need-sub-k Inv-loop μ-loop
-sub-k c = search needs
-
-loop-less : tie.Need-loop-less Inv-loop μ-loop
-loop-less c = search needs
-
-loop-again : tie.Need-loop-again Inv-loop μ-loop
-unfolding leBytes
-loop-again c =
-    let l = c .before .before .before .before .before .loop in
-    let e : l .k ≡ suc (l .k - 1) = omega arith in
-    more (l .inv) (c .before .before .put .ensures) (ap (λ (k : ℕ). leBytes k (l .m)) e)
-
-same-length : tie.Need-same-length Inv-loop μ-loop
-same-length c = wrote-length (c .before .loop .inv .wrote)
-
-returns-2 : tie.Need-returns-2 Inv-loop μ-loop
-unfolding leBytes
-returns-2 c =
-    let l = c .before .loop in
-    let e : l .k ≡ 0 = omega arith in
-    finish (l .inv) (ap (λ (k : ℕ). leBytes k (l .m)) e)
+returns-2 : tie.Need-returns-2
+returns-2 c = search needs
 
 pub put-le-spec : {M : Type 1} → statement M
 put-le-spec =
     tie.close
     (tie.spec
-    Inv-loop
-    μ-loop
-    ahead-requires
-    returns
-    loop-holds
-    cast-put
-    put-requires
-    sub-k
-    loop-less
-    loop-again
+    add-if2
+    store-low-requires
+    add-result
     same-length
+    returns
+    le-clipped-requires
+    same-length-2
     returns-2)
