@@ -86,7 +86,7 @@ sets-over (x ∷ s) (y ∷ s′) t l i h =
 -- ---- stores that overlap, and stores that are cut off
 
 -- what is stored twice is as it was stored last
-sets-twice : (s t l : List ℕ) (i : ℕ) (u : List ℕ) → length s ≡ length t → sets (sets l i s) i (t ++ u) ≡ sets l i (t ++ u)
+pub sets-twice : (s t l : List ℕ) (i : ℕ) (u : List ℕ) → length s ≡ length t → sets (sets l i s) i (t ++ u) ≡ sets l i (t ++ u)
 sets-twice s t l i u h =
     sym (sets-append (sets l i s) i t u)
     ∙ ap (λ (k : List ℕ). sets k (i + length t) u) (ap (λ (v : List ℕ). sets (sets l i v) i t) (sym (append-nil s)) ∙ sets-over s t [] l i h ∙ ap (sets l i) (append-nil t))

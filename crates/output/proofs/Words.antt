@@ -47,7 +47,7 @@ drop-le (suc k) (suc w) n =
     drop-le k w (n / 256) ∙ ap (λ (m : ℕ). leBytes (w - k) m) (div-pow n k) ∙ ap (λ (j : ℕ). leBytes j (n / 256 ^ suc k)) (sym e)
 
 -- a shift by bytes
-pow-bytes : (k : ℕ) → 2 ^ (8 * k) ≡ 256 ^ k
+pub pow-bytes : (k : ℕ) → 2 ^ (8 * k) ≡ 256 ^ k
 pow-bytes zero = refl
 pow-bytes (suc k) =
     let e : 8 * suc k ≡ 8 + 8 * k = omega arith in

@@ -265,7 +265,7 @@ pub fn put_repeated(buf: &mut [u8], pos: usize, x: u8, n: usize) -> usize
 }
 
 // The n lowest bytes of w, eight at most, for which there is room: two stores that overlap.
-fn store_low(buf: &mut [u8], pos: usize, w: u64, n: usize)
+pub fn store_low(buf: &mut [u8], pos: usize, w: u64, n: usize)
     requires { ⌜ n ≤ 8 ⌝ }
     requires { ⌜ pos + n ≤ length (now buf) ⌝ }
     ensures { λ _. ⌜ now (buf .exit) ≡ sets (now (buf .entry)) pos (leBytes n w) ⌝ }

@@ -4,6 +4,7 @@ pub mod DigitLaws
 pub mod DigitCode
 pub mod DigitReading
 pub mod Table
+pub mod DigitWords
 pub mod EscapesLaws
 pub mod ClobLaws
 pub mod Utf8Ones

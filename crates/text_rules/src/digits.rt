@@ -1,68 +1,56 @@
 // Whole numbers in base ten.
 ghost use mathlib.Core.Path.{_≡_};
+ghost use mathlib.Core.List.{_++_};
 ghost use Prim.Native.Nat.{_+_, _-_, _/_, _%_, _^_, _≤_, _<_};
 ghost use lib.ListN.{length, drop};
 ghost use lib.Seq.{sets};
 ghost use Rattle.output.specs.Logic.{byte};
-ghost use Rattle.output.specs.Wrote.{Wrote, limit};
+ghost use Rattle.output.specs.Wrote.{Wrote, limit, leBytes};
 ghost use Rattle.text_rules.specs.Digits.{digit, pad, count, digits, zeroPadded, isDigit};
-ghost use Rattle.text_rules.specs.DigitSteps.{Led, Ran};
+ghost use Rattle.text_rules.specs.DigitSteps.{Led, Ahead, Ran, Lanes, Split, Zeros, wordOf};
 
-// Ten to the power k.
+// Ten to the power k: the compiler makes a table of the arms.
 pub fn pow10(k: usize) -> u64
     requires { ⌜ k < 20 ⌝ }
     ensures { λ r. ⌜ (r ≡ 10 ^ k) × (0 < r) ⌝ }
 {
-    let mut r: u64 = 1;
-    let mut i: usize = 0;
-    while i < k {
-        r = r * 10;
-        i += 1;
+    match k {
+        0 => 1,
+        1 => 10,
+        2 => 100,
+        3 => 1000,
+        4 => 10000,
+        5 => 100000,
+        6 => 1000000,
+        7 => 10000000,
+        8 => 100000000,
+        9 => 1000000000,
+        10 => 10000000000,
+        11 => 100000000000,
+        12 => 1000000000000,
+        13 => 10000000000000,
+        14 => 100000000000000,
+        15 => 1000000000000000,
+        16 => 10000000000000000,
+        17 => 100000000000000000,
+        18 => 1000000000000000000,
+        _ => 10000000000000000000,
     }
-    r
 }
 
-// How many digits n has, of a number of eight digits at most: one for 0.
-fn short_count(n: u64) -> usize
-    requires { ⌜ n < 100000000 ⌝ }
-    ensures { λ r. ⌜ (r ≡ count 19 n) × (r ≤ 8) ⌝ }
-{
-    if n < 10 {
-        return 1;
-    }
-    if n < 100 {
-        return 2;
-    }
-    if n < 1000 {
-        return 3;
-    }
-    if n < 10000 {
-        return 4;
-    }
-    if n < 100000 {
-        return 5;
-    }
-    if n < 1000000 {
-        return 6;
-    }
-    if n < 10000000 {
-        return 7;
-    }
-    8
-}
-
-// How many digits n has: one for 0.
+// How many digits n has: one for 0. The number of its bits tells it but for one comparison, as 1233 / 4096 is about the logarithm of 2.
 pub fn digit_count(n: u64) -> usize
     ensures { λ r. ⌜ (r ≡ count 19 n) × (1 ≤ r) × (r ≤ 20) ⌝ }
 {
-    if n < 100000000 {
-        return short_count(n);
+    let b = 64 - u64::leading_zeros(n | 1) as usize;
+    let t = b * 1233 / 4096;
+    if n < pow10(t) {
+        if t == 0 {
+            return 1;
+        }
+        return t;
     }
-    let h = n / 100000000;
-    if h < 100000000 {
-        return 8 + short_count(h);
-    }
-    16 + short_count(h / 100000000)
+    t + 1
 }
 
 fn wide(x: u64) -> u32
@@ -80,9 +68,64 @@ fn digit_of(x: u32) -> u8
     48 + x as u8
 }
 
+// ---- eight digits in one word, a byte each, the first lowest
+
+// The digit 0 eight times.
+const ZEROS: u64 = 0x3030303030303030;
+
+// The eight digits, as numbers, of four numbers below 100 in lanes of sixteen bits: all four by ten with one product, as
+// x * 103 / 1024 is x / 10.
+fn lanes(h: u64) -> u64
+    requires { ⌜ Lanes h ⌝ }
+    ensures { λ r. ⌜ Split h r ⌝ }
+{
+    let u = h * 103 / 1024;
+    let tens = u % 64
+        + u / 65536 % 64 * 65536
+        + u / 4294967296 % 64 * 4294967296
+        + u / 281474976710656 * 281474976710656;
+    tens + (h - 10 * tens) * 256
+}
+
+// The eight digits of x, as numbers: both halves by a hundred with one product, as y * 10486 / 1048576 is y / 100.
+fn word8(x: u64) -> u64
+    requires { ⌜ x < 100000000 ⌝ }
+    ensures { λ r. ⌜ (r ≡ wordOf x) × (r < 720575940379279360) ⌝ }
+{
+    let hi = x / 10000;
+    let lo = x % 10000;
+    let m = hi + 4294967296 * lo;
+    let v = m * 10486 / 1048576;
+    let top = v / 4294967296 * 4294967296 + v % 4096;
+    lanes((m - 100 * top) * 65536 + top)
+}
+
+// How many of eight digits, as numbers, are zeros in front of the others; the last one counts as another. Without branches.
+fn zeros8(d: u64) -> usize
+    ensures { λ r. ⌜ Zeros d r ⌝ }
+{
+    (u64::trailing_zeros(d | 0x0100000000000000) / 8) as usize
+}
+
+// The eight digits of x.
+pub fn eight_digits(x: u64) -> u64
+    requires { ⌜ x < 100000000 ⌝ }
+    ensures { λ r. ⌜ leBytes 8 r ≡ pad 8 x ⌝ }
+{
+    word8(x) + ZEROS
+}
+
+// The digits of four numbers below 100, two each, at the price of one.
+pub fn four_pairs(a: u64, b: u64, c: u64, d: u64) -> u64
+    requires { ⌜ (a < 100) × (b < 100) × (c < 100) × (d < 100) ⌝ }
+    ensures { λ r. ⌜ leBytes 8 r ≡ pad 2 a ++ pad 2 b ++ pad 2 c ++ pad 2 d ⌝ }
+{
+    lanes(a + 65536 * b + 4294967296 * c + 281474976710656 * d) + ZEROS
+}
+
 // ---- where there is room
 
-// Exactly one, two, three and four digits.
+// Exactly one and two digits.
 fn one(buf: &mut [u8], p: usize, x: u32)
     requires { ⌜ (x < 10) × (p + 1 ≤ length (now buf)) ⌝ }
     ensures { λ _. ⌜ now (buf .exit) ≡ sets (now (buf .entry)) p (pad 1 x) ⌝ }
@@ -101,63 +144,55 @@ fn two(buf: &mut [u8], p: usize, x: u32)
     buf[p + 1] = e;
 }
 
-fn three(buf: &mut [u8], p: usize, x: u32)
-    requires { ⌜ (x < 1000) × (p + 3 ≤ length (now buf)) ⌝ }
-    ensures { λ _. ⌜ now (buf .exit) ≡ sets (now (buf .entry)) p (pad 3 x) ⌝ }
-{
-    one(buf, p, x / 100);
-    two(buf, p + 1, x % 100);
-}
-
-fn four(buf: &mut [u8], p: usize, x: u32)
-    requires { ⌜ (x < 10000) × (p + 4 ≤ length (now buf)) ⌝ }
-    ensures { λ _. ⌜ now (buf .exit) ≡ sets (now (buf .entry)) p (pad 4 x) ⌝ }
-{
-    two(buf, p, x / 100);
-    two(buf, p + 2, x % 100);
-}
-
 // Exactly eight digits.
-fn eight(buf: &mut [u8], p: usize, x: u32)
+fn eight(buf: &mut [u8], p: usize, x: u64)
     requires { ⌜ (x < 100000000) × (p + 8 ≤ length (now buf)) ⌝ }
     ensures { λ _. ⌜ now (buf .exit) ≡ sets (now (buf .entry)) p (pad 8 x) ⌝ }
 {
-    four(buf, p, x / 10000);
-    four(buf, p + 4, x % 10000);
+    output::store_8(buf, p, eight_digits(x));
 }
 
-// One to four digits, and the position behind them.
-fn lead_four(buf: &mut [u8], p: usize, x: u32) -> usize
-    requires { ⌜ (x < 10000) × (p + 4 ≤ length (now buf)) ⌝ }
-    ensures { λ r. ⌜ Led (now (buf .entry)) (now (buf .exit)) p r x × (r ≤ p + 4) ⌝ }
+// The last c of a word's eight bytes: two stores that overlap.
+fn store_last(buf: &mut [u8], p: usize, w: u64, c: usize)
+    requires { ⌜ (c ≤ 8) × (p + c ≤ length (now buf)) ⌝ }
+    ensures { λ _. ⌜ now (buf .exit) ≡ sets (now (buf .entry)) p (drop (8 - c) (leBytes 8 w)) ⌝ }
 {
-    if x < 10 {
-        one(buf, p, x);
-        return p + 1;
+    if 4 <= c {
+        output::store_4(buf, p, w >> (64 - 8 * c));
+        output::store_4(buf, p + (c - 4), w / 4294967296);
+        return;
     }
-    if x < 100 {
-        two(buf, p, x);
-        return p + 2;
+    if 2 <= c {
+        output::store_2(buf, p, w >> (64 - 8 * c));
+        output::store_2(buf, p + (c - 2), w / 281474976710656);
+        return;
     }
-    if x < 1000 {
-        three(buf, p, x);
-        return p + 3;
+    if c == 1 {
+        buf[p] = (w / 72057594037927936) as u8;
     }
-    four(buf, p, x);
-    p + 4
 }
 
-// One to eight digits, and the position behind them.
-fn lead_eight(buf: &mut [u8], p: usize, x: u32) -> usize
+// One to eight digits, no byte more, and the position behind them.
+fn lead_exact(buf: &mut [u8], p: usize, x: u64) -> usize
     requires { ⌜ (x < 100000000) × (p + 8 ≤ length (now buf)) ⌝ }
-    ensures { λ r. ⌜ Led (now (buf .entry)) (now (buf .exit)) p r x × (r ≤ p + 8) ⌝ }
+    ensures { λ r. ⌜ Led (now (buf .entry)) (now (buf .exit)) p r x ⌝ }
 {
-    if x < 10000 {
-        return lead_four(buf, p, x);
-    }
-    let q = lead_four(buf, p, x / 10000);
-    four(buf, q, x % 10000);
-    q + 4
+    let d = word8(x);
+    let c = 8 - zeros8(d);
+    store_last(buf, p, d + ZEROS, c);
+    p + c
+}
+
+// One to eight digits and the position behind them, in one store of eight bytes: what it has too much is for the next eight
+// digits to overwrite.
+fn lead_store(buf: &mut [u8], p: usize, x: u64) -> usize
+    requires { ⌜ (x < 100000000) × (p + 8 ≤ length (now buf)) ⌝ }
+    ensures { λ r. ⌜ Ahead (now (buf .entry)) (now (buf .exit)) p r x ⌝ }
+{
+    let d = word8(x);
+    let k = zeros8(d);
+    output::store_8(buf, p, (d + ZEROS) >> (8 * k));
+    p + (8 - k)
 }
 
 // Plain decimal in blocks of eight digits.
@@ -165,24 +200,40 @@ fn put_blocks(buf: &mut [u8], pos: usize, n: u64) -> usize
     requires { ⌜ pos + 20 ≤ length (now buf) ⌝ }
     ensures { λ r. ⌜ Led (now (buf .entry)) (now (buf .exit)) pos r n ⌝ }
 {
+    if n < 100 {
+        if n < 10 {
+            one(buf, pos, wide(n));
+            return pos + 1;
+        }
+        two(buf, pos, wide(n));
+        return pos + 2;
+    }
     if n < 100000000 {
-        return lead_eight(buf, pos, wide(n));
+        return lead_exact(buf, pos, n);
     }
     let h = n / 100000000;
-    let l = wide(n % 100000000);
+    let l = n % 100000000;
     if h < 100000000 {
-        let p = lead_eight(buf, pos, wide(h));
+        let p = lead_store(buf, pos, h);
         eight(buf, p, l);
         return p + 8;
     }
-    let p = lead_four(buf, pos, wide(h / 100000000));
-    eight(buf, p, wide(h % 100000000));
+    let p = lead_store(buf, pos, h / 100000000);
+    eight(buf, p, h % 100000000);
     eight(buf, p + 8, l);
     p + 16
 }
 
+// The w lowest digits of n, eight at most.
+fn fill_short(buf: &mut [u8], pos: usize, n: u64, w: usize)
+    requires { ⌜ (w ≤ 8) × (pos + w ≤ length (now buf)) ⌝ }
+    ensures { λ _. ⌜ now (buf .exit) ≡ sets (now (buf .entry)) pos (pad w n) ⌝ }
+{
+    store_last(buf, pos, eight_digits(n % 100000000), w);
+}
+
 // The w lowest digits of n, the last two first.
-fn fill_padded(buf: &mut [u8], pos: usize, n: u64, w: usize)
+fn fill_long(buf: &mut [u8], pos: usize, n: u64, w: usize)
     requires { ⌜ pos + w ≤ length (now buf) ⌝ }
     ensures { λ _. ⌜ now (buf .exit) ≡ sets (now (buf .entry)) pos (pad w n) ⌝ }
 {
@@ -197,6 +248,23 @@ fn fill_padded(buf: &mut [u8], pos: usize, n: u64, w: usize)
         return;
     }
     one(buf, pos, wide(m % 10));
+}
+
+// The w lowest digits of n.
+fn fill_padded(buf: &mut [u8], pos: usize, n: u64, w: usize)
+    requires { ⌜ pos + w ≤ length (now buf) ⌝ }
+    ensures { λ _. ⌜ now (buf .exit) ≡ sets (now (buf .entry)) pos (pad w n) ⌝ }
+{
+    if w <= 8 {
+        fill_short(buf, pos, n, w);
+        return;
+    }
+    if w <= 16 {
+        fill_short(buf, pos, n / 100000000, w - 8);
+        eight(buf, pos + (w - 8), n % 100000000);
+        return;
+    }
+    fill_long(buf, pos, n, w);
 }
 
 // ---- for every buffer
@@ -225,13 +293,25 @@ fn pad_clipped(buf: &mut [u8], pos: usize, n: u64, w: usize) -> usize
     p
 }
 
+// The two lowest digits of n.
+pub fn put_pair(buf: &mut [u8], pos: usize, n: u64) -> usize
+    requires { ⌜ pos ≤ limit ⌝ }
+    ensures { λ r. ⌜ Wrote (now (buf .entry)) (now (buf .exit)) pos r (pad 2 n) ⌝ }
+{
+    if pos + 2 <= buf.len() {
+        two(buf, pos, wide(n % 100));
+        return pos + 2;
+    }
+    pad_clipped(buf, pos, n, 2)
+}
+
 // The w lowest digits of n, with leading zeros.
 pub fn put_padded(buf: &mut [u8], pos: usize, n: u64, w: usize) -> usize
     requires { ⌜ pos ≤ limit ⌝ }
     ensures { λ r. ⌜ Wrote (now (buf .entry)) (now (buf .exit)) pos r (pad w n) ⌝ }
 {
-    if pos <= buf.len() {
-        if w <= buf.len() - pos {
+    if w <= 20 {
+        if pos + w <= buf.len() {
             fill_padded(buf, pos, n, w);
             return pos + w;
         }
@@ -244,10 +324,8 @@ pub fn put_digits(buf: &mut [u8], pos: usize, n: u64) -> usize
     requires { ⌜ pos ≤ limit ⌝ }
     ensures { λ r. ⌜ Wrote (now (buf .entry)) (now (buf .exit)) pos r (digits n) ⌝ }
 {
-    if pos <= buf.len() {
-        if 20 <= buf.len() - pos {
-            return put_blocks(buf, pos, n);
-        }
+    if pos + 20 <= buf.len() {
+        return put_blocks(buf, pos, n);
     }
     let w = digit_count(n);
     pad_clipped(buf, pos, n, w)

@@ -5,9 +5,12 @@ use Rattle.text_rules.proofs.DigitLaws.{length-digits, count-le}
 use borrow.Author.Needs.{needs}
 use Rattle.text_rules.proofs.digits.put_digits.Statement.{statement}
 use Rattle.text_rules.proofs.digits.put_digits.Tie as tie
+use Rattle.text_rules.proofs.digits.digit_count.Reads as digit-count-reads
+use Rattle.text_rules.proofs.digits.pad_clipped.Reads as pad-clipped-reads
+use Rattle.text_rules.proofs.digits.put_blocks.Reads as put-blocks-reads
 
-sub-if2 : tie.Need-sub-if2
-sub-if2 c = search needs
+add-if1 : tie.Need-add-if1
+add-if1 c = search needs
 
 put-blocks-requires : tie.Need-put-blocks-requires
 put-blocks-requires c κs = search needs
@@ -17,7 +20,7 @@ same-length c = search needs
 
 returns : tie.Need-returns
 returns c =
-    let n = c .before .before .before .before .before .before .before .args .n in
+    let n = c .before .before .before .before .before .before .args .n in
     record {
       bytes = c .before .before .put-blocks .ensures .bytes;
       count = omega (arith, c .before .before .put-blocks .ensures .end, length-digits n, count-le n (omega arith));
@@ -41,7 +44,7 @@ pub put-digits-spec : {M : Type 1} → statement M
 put-digits-spec =
     tie.close
     (tie.spec
-    sub-if2
+    add-if1
     put-blocks-requires
     same-length
     returns

@@ -4,9 +4,11 @@ use Rattle.text_rules.proofs.DigitLaws.{length-pad}
 use borrow.Author.Needs.{needs}
 use Rattle.text_rules.proofs.digits.put_padded.Statement.{statement}
 use Rattle.text_rules.proofs.digits.put_padded.Tie as tie
+use Rattle.text_rules.proofs.digits.fill_padded.Reads as fill-padded-reads
+use Rattle.text_rules.proofs.digits.pad_clipped.Reads as pad-clipped-reads
 
-sub-if2 : tie.Need-sub-if2
-sub-if2 c = search needs
+add-if2 : tie.Need-add-if2
+add-if2 c = search needs
 
 fill-padded-requires : tie.Need-fill-padded-requires
 fill-padded-requires c κs = search needs
@@ -19,9 +21,10 @@ same-length c = search needs
 
 returns : tie.Need-returns
 returns c =
+    let a = c .before .before .before .before .before .before .before .args in
     record {
       bytes = c .before .before .fill-padded .ensures;
-      count = omega (arith, length-pad (c .before .before .before .before .before .before .before .args .w) (c .before .before .before .before .before .before .before .args .n));
+      count = omega (arith, length-pad (a .w) (a .n));
       room = search needs;
     }
 
@@ -38,7 +41,7 @@ pub put-padded-spec : {M : Type 1} → statement M
 put-padded-spec =
     tie.close
     (tie.spec
-    sub-if2
+    add-if2
     fill-padded-requires
     add-result
     same-length
