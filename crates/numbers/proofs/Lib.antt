@@ -1,9 +1,12 @@
 pub mod Signed
+pub mod Stores
+pub mod Pointed
 pub mod DecimalLaws
 pub mod NumeralLaws
 pub mod DecimalBack
 pub mod DecimalExamples
 pub mod TimestampSigned
+pub mod TimestampStores
 pub mod TimestampPlaces
 pub mod Calendar
 pub mod TimestampBack

@@ -2,11 +2,14 @@
 use Prim.Native.Nat.{ℕ, _<_}
 use mathlib.Core.Path.{_≡_}
 use mathlib.Core.Bool.{Bool, true, false}
-use mathlib.Core.List.{List}
+use mathlib.Core.List.{List, _∷_, _++_}
 use mathlib.Core.Option.{Option, none, some}
 use lib.ListN.{length, drop}
 use lib.IntN.{ℤ, pos, negsuc}
+use Rattle.output.specs.Logic.{byte}
+use Rattle.text_rules.specs.Digits.{pad}
 use Rattle.text_rules.specs.Texts.{starts}
+use Rattle.numbers.specs.Timestamp.{dateHourAndMinute}
 use Rattle.numbers.specs.declared.timestamp.Timestamp.{Timestamp}
 use Rattle.numbers.specs.declared.timestamp.TimestampRead.{TimestampRead}
 use Rattle.numbers.specs.declared.timestamp.TimestampRead.the-variants as t
@@ -31,3 +34,7 @@ clockRead c.Bad = none
 abbrev pub negative : ℤ → Bool
 negative (pos m) = false
 negative (negsuc m) = true
+
+-- `YYYY-MM-DDThh:mm:ss`
+abbrev pub toSecond : Timestamp → List ℕ
+toSecond x = dateHourAndMinute (x .year) (x .month) (x .day) (x .hour) (x .minute) ++ (byte ":" ∷ pad 2 (x .second))

@@ -1,19 +1,59 @@
 // The text of a decimal: `format_text` and `write_scientific` of types/decimal/mod.rs.
 use crate::int;
 ghost use mathlib.Core.Path.{_≡_};
-ghost use Prim.Native.Nat.{_≤_, _<_};
+ghost use Prim.Native.Nat.{_+_, _≤_, _<_};
 ghost use mathlib.Core.List.{_∷_, _++_};
-ghost use lib.ListN.{replicate};
+ghost use lib.ListN.{length, replicate};
+ghost use lib.Seq.{sets};
 ghost use Rattle.output.specs.Logic.{byte};
 ghost use Rattle.output.specs.Wrote.{Wrote, limit};
 ghost use Rattle.text_rules.specs.Digits.{count, digits};
 ghost use Rattle.numbers.specs.Decimal.{pointed, scientific, above, below, sign, decimalText};
 
-// The digits of n, w of them, with a point after k: the number that the first k are, and as many digits as are left.
+// The digits of n, eight at most, with a point after k of them: all digits one place on, then the first k in their own place and the point.
+fn pointed_short(buf: &mut [u8], pos: usize, n: u64, w: usize, k: usize)
+    requires { ⌜ (w ≡ count 19 n) × (w ≤ 8) × (1 ≤ k) × (k ≤ w) × (pos + 9 ≤ length (now buf)) ⌝ }
+    ensures { λ _. ⌜ now (buf .exit) ≡ sets (now (buf .entry)) pos (pointed (digits n) k) ⌝ }
+{
+    let v = text_rules::digits::eight_digits(n) >> (64 - 8 * w);
+    output::store_low(buf, pos + 1, v, w);
+    output::store_low(buf, pos, v, k);
+    buf[pos + k] = b'.';
+}
+
+// The digits of n, nine to sixteen, with a point after k of those that stand before the last eight.
+fn pointed_long(buf: &mut [u8], pos: usize, n: u64, w: usize, k: usize)
+    requires { ⌜ (w ≡ count 19 n) × (8 < w) × (w ≤ 16) × (1 ≤ k) × (k + 8 ≤ w) × (pos + 17 ≤ length (now buf)) ⌝ }
+    ensures { λ _. ⌜ now (buf .exit) ≡ sets (now (buf .entry)) pos (pointed (digits n) k) ⌝ }
+{
+    let v = text_rules::digits::eight_digits(n / 100000000) >> (128 - 8 * w);
+    output::store_8(buf, pos + 1, v);
+    output::store_8(
+        buf,
+        pos + (w - 7),
+        text_rules::digits::eight_digits(n % 100000000),
+    );
+    output::store_low(buf, pos, v, k);
+    buf[pos + k] = b'.';
+}
+
+// The digits of n, w of them, with a point after k. For every buffer: the number that the first k are, and as many digits as are left.
 fn put_pointed(buf: &mut [u8], pos: usize, n: u64, w: usize, k: usize) -> usize
     requires { ⌜ (pos ≤ limit) × (w ≡ count 19 n) × (w ≤ 20) × (1 ≤ k) × (k ≤ w) ⌝ }
     ensures { λ r. ⌜ Wrote (now (buf .entry)) (now (buf .exit)) pos r (pointed (digits n) k) ⌝ }
 {
+    if pos + 17 <= buf.len() {
+        if w <= 8 {
+            pointed_short(buf, pos, n, w, k);
+            return pos + w + 1;
+        }
+        if w <= 16 {
+            if k + 8 <= w {
+                pointed_long(buf, pos, n, w, k);
+                return pos + w + 1;
+            }
+        }
+    }
     let left = w - k;
     let p = text_rules::digits::put_digits(buf, pos, n / text_rules::digits::pow10(left));
     let q = output::put(buf, p, b'.');

@@ -4,15 +4,18 @@ use text_rules::digits::Joined;
 use text_rules::texts::stands;
 ghost use mathlib.Core.Path.{_≡_};
 ghost use Prim.Native.Nat.{ℕ, suc, _+_, _*_, _/_, _%_, _≤_, _<_};
-ghost use mathlib.Core.List.{List};
+ghost use mathlib.Core.Bool.{true};
+ghost use mathlib.Core.List.{List, _∷_, _++_};
 ghost use lib.IntN.{pos, natAbs};
 ghost use lib.ListN.{length, drop};
-ghost use Rattle.output.specs.Wrote.{Wrote, limit};
+ghost use lib.Seq.{sets};
+ghost use Rattle.output.specs.Logic.{byte};
+ghost use Rattle.output.specs.Wrote.{Wrote, limit, leBytes};
 ghost use Rattle.text_rules.specs.Digits.{run, past};
 ghost use Rattle.text_rules.specs.Reading.{Reads};
 ghost use Rattle.numbers.specs.Timestamp.{isLeap, daysIn, field, dateWell, timeWell, fractionWell, offsetWell, wellFormed, yearAndMonth, date, hourAndMinute, dateHourAndMinute, fractionalSeconds, offsetText, timestampText};
 ghost use Rattle.numbers.specs.TimestampRead.{fixed, startsDigit, clock, dated, timed, zoned, checked, minutes, west, offsetOf, fractionOf, secondOf, timeOf, behindMonth, behindYear, timestamp};
-ghost use Rattle.numbers.specs.TimestampSteps.{negative, timestampRead, numberRead, clockRead};
+ghost use Rattle.numbers.specs.TimestampSteps.{negative, timestampRead, numberRead, clockRead, toSecond};
 
 // A point in time to a precision: 0 year, 1 month, 2 day, 3 minute, 4 second. Fields finer than the precision are 0. The offset
 // is in minutes, 32767 where it is unknown. The fraction of a second has so many digits.
@@ -194,11 +197,26 @@ fn format_date(buf: &mut [u8], pos: usize, year: u16, month: u8, day: u8) -> usi
     digits::put_padded(buf, q, day as u64, 2)
 }
 
+// `hh:mm`, for which there is room.
+fn clock_here(buf: &mut [u8], pos: usize, hour: u16, minute: u16)
+    requires { ⌜ pos + 5 ≤ length (now buf) ⌝ }
+    ensures { λ _. ⌜ now (buf .exit) ≡ sets (now (buf .entry)) pos (hourAndMinute hour minute) ⌝ }
+{
+    let w = digits::four_pairs(hour as u64 % 100, minute as u64 % 100, 0, 0);
+    output::store_2(buf, pos, w);
+    buf[pos + 2] = b':';
+    output::store_2(buf, pos + 3, w / 65536);
+}
+
 // Writes `hh:mm`.
 fn format_hour_and_minute(buf: &mut [u8], pos: usize, hour: u16, minute: u16) -> usize
     requires { ⌜ pos ≤ limit ⌝ }
     ensures { λ r. ⌜ Wrote (now (buf .entry)) (now (buf .exit)) pos r (hourAndMinute hour minute) ⌝ }
 {
+    if pos + 5 <= buf.len() {
+        clock_here(buf, pos, hour, minute);
+        return pos + 5;
+    }
     let p = digits::put_padded(buf, pos, hour as u64, 2);
     let q = output::put(buf, p, b':');
     digits::put_padded(buf, q, minute as u64, 2)
@@ -242,6 +260,72 @@ fn format_offset(buf: &mut [u8], pos: usize, offset: i16) -> usize
     format_hour_and_minute(buf, p, m / 60, m % 60)
 }
 
+// Whether every field has the digits that its place has.
+fn is_short(t: Timestamp) -> bool
+    ensures { λ r. ⌜ (r ≡ true → (t .year < 10000) × (t .month < 100) × (t .day < 100) × (t .hour < 100) × (t .minute < 100) × (t .second < 100)) ⌝ }
+{
+    if t.year < 10000 {
+        return (t.month | t.day | t.hour | t.minute | t.second) < 64;
+    }
+    false
+}
+
+// `YYYY-MM-DD` of the digits in d, and `hh:mm:ss` of those in c, for which there is room.
+fn date_here(buf: &mut [u8], pos: usize, d: u64)
+    requires { ⌜ pos + 10 ≤ length (now buf) ⌝ }
+    ensures { λ _. ⌜ now (buf .exit) ≡ sets (now (buf .entry)) pos (leBytes 4 d ++ (byte "-" ∷ leBytes 2 (d / 4294967296)) ++ (byte "-" ∷ leBytes 2 (d / 281474976710656))) ⌝ }
+{
+    output::store_4(buf, pos, d);
+    buf[pos + 4] = b'-';
+    output::store_2(buf, pos + 5, d / 4294967296);
+    buf[pos + 7] = b'-';
+    output::store_2(buf, pos + 8, d / 281474976710656);
+}
+
+fn time_here(buf: &mut [u8], pos: usize, c: u64)
+    requires { ⌜ pos + 8 ≤ length (now buf) ⌝ }
+    ensures { λ _. ⌜ now (buf .exit) ≡ sets (now (buf .entry)) pos (leBytes 2 c ++ (byte ":" ∷ leBytes 2 (c / 65536)) ++ (byte ":" ∷ leBytes 2 (c / 4294967296))) ⌝ }
+{
+    output::store_2(buf, pos, c);
+    buf[pos + 2] = b':';
+    output::store_2(buf, pos + 3, c / 65536);
+    buf[pos + 5] = b':';
+    output::store_2(buf, pos + 6, c / 4294967296);
+}
+
+// `YYYY-MM-DDThh:mm:ss`, for which there is room.
+fn second_here(buf: &mut [u8], pos: usize, t: Timestamp)
+    requires { ⌜ (pos + 19 ≤ length (now buf)) × (t .year < 10000) × (t .month < 100) × (t .day < 100) × (t .hour < 100) × (t .minute < 100) × (t .second < 100) ⌝ }
+    ensures { λ _. ⌜ now (buf .exit) ≡ sets (now (buf .entry)) pos (toSecond t) ⌝ }
+{
+    let d = digits::four_pairs(
+        (t.year / 100) as u64,
+        (t.year % 100) as u64,
+        t.month as u64,
+        t.day as u64,
+    );
+    let c = digits::four_pairs(t.hour as u64, t.minute as u64, t.second as u64, 0);
+    date_here(buf, pos, d);
+    buf[pos + 10] = b'T';
+    time_here(buf, pos + 11, c);
+}
+
+// Writes `YYYY-MM-DDThh:mm:ss`.
+fn format_to_second(buf: &mut [u8], pos: usize, t: Timestamp) -> usize
+    requires { ⌜ pos ≤ limit ⌝ }
+    ensures { λ r. ⌜ Wrote (now (buf .entry)) (now (buf .exit)) pos r (toSecond t) ⌝ }
+{
+    if is_short(t) {
+        if pos + 19 <= buf.len() {
+            second_here(buf, pos, t);
+            return pos + 19;
+        }
+    }
+    let p = format_date_hour_and_minute(buf, pos, t);
+    let q = output::put(buf, p, b':');
+    digits::put_pair(buf, q, t.second as u64)
+}
+
 // Writes a timestamp.
 pub fn format(buf: &mut [u8], pos: usize, t: Timestamp) -> usize
     requires { ⌜ pos ≤ limit ⌝ }
@@ -259,12 +343,11 @@ pub fn format(buf: &mut [u8], pos: usize, t: Timestamp) -> usize
         let p = format_date(buf, pos, t.year, t.month, t.day);
         return output::put(buf, p, b'T');
     }
-    let p = format_date_hour_and_minute(buf, pos, t);
     if t.precision == 3 {
+        let p = format_date_hour_and_minute(buf, pos, t);
         return format_offset(buf, p, t.offset);
     }
-    let q = output::put(buf, p, b':');
-    let s = digits::put_padded(buf, q, t.second as u64, 2);
+    let s = format_to_second(buf, pos, t);
     let e = format_fractional_seconds(buf, s, t.digits, t.fraction);
     format_offset(buf, e, t.offset)
 }

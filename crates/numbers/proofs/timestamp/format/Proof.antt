@@ -63,17 +63,10 @@ returns-4 : tie.Need-returns-4
 unfolding timestampText
 returns-4 c =
     let z = toZ-ofZ w16 (c .before .before .before .before .before .before .before .before .before .before .before .before .before .before .before .before .before .before .args .t .offset) (record { sfits = c .before .before .before .struct-told .given .1 .1 .1 .1 .1 .1 .1 .0 .1 }) in
-    rw (ne-eqb _ _ (c .before .before .before .before .before .before .before .before .before .before .before .before .before .before .before .if1 .left), ne-eqb _ _ (c .before .before .before .before .before .before .before .before .before .before .before .before .before .if2 .left), ne-eqb _ _ (c .before .before .before .before .before .before .before .before .before .before .before .if3 .left), eq-eqb _ _ (c .before .before .before .before .before .if4 .taken))
-    (wrote-then (c .before .before .before .before .before .before .before .before .before .format-date-hour-and-minute .ensures) (rw z at (c .before .before .format-offset .ensures)))
+    rw (ne-eqb _ _ (c .before .before .before .before .before .before .before .before .before .before .before .before .before .before .before .if1 .left), ne-eqb _ _ (c .before .before .before .before .before .before .before .before .before .before .before .before .before .if2 .left), ne-eqb _ _ (c .before .before .before .before .before .before .before .before .before .before .before .if3 .left), eq-eqb _ _ (c .before .before .before .before .before .before .before .before .before .if4 .taken)) (wrote-then (c .before .before .before .before .before .before .before .format-date-hour-and-minute .ensures) (rw z at (c .before .before .format-offset .ensures)))
 
-put-requires-4 : tie.Need-put-requires-4
-put-requires-4 c κs = search needs
-
-cast-put-padded-2 : tie.Need-cast-put-padded-2
-cast-put-padded-2 c = search needs
-
-put-padded-requires-2 : tie.Need-put-padded-requires-2
-put-padded-requires-2 c κs = search needs
+format-to-second-requires : tie.Need-format-to-second-requires
+format-to-second-requires c κs = search needs
 
 format-fractional-seconds-requires : tie.Need-format-fractional-seconds-requires
 format-fractional-seconds-requires c κs = search needs
@@ -87,13 +80,8 @@ same-length-5 c = search needs
 returns-5 : tie.Need-returns-5
 unfolding timestampText
 returns-5 c =
-    let z = toZ-ofZ w16 (c .before .before .before .before .before .before .before .before .before .before .before .before .before .before .before .before .before .before .before .before .before .before .before .before .before .before .before .before .before .before .before .args .t .offset) (record { sfits = c .before .before .before .struct-told2 .given .1 .1 .1 .1 .1 .1 .1 .0 .1 }) in
-    rw (ne-eqb _ _ (c .before .before .before .before .before .before .before .before .before .before .before .before .before .before .before .before .before .before .before .before .before .before .before .before .before .before .before .before .if1 .left), ne-eqb _ _ (c .before .before .before .before .before .before .before .before .before .before .before .before .before .before .before .before .before .before .before .before .before .before .before .before .before .before .if2 .left), ne-eqb _ _ (c .before .before .before .before .before .before .before .before .before .before .before .before .before .before .before .before .before .before .before .before .before .before .before .before .if3 .left), ne-eqb _ _ (c .before .before .before .before .before .before .before .before .before .before .before .before .before .before .before .before .before .before .if4 .left))
-    (wrote-then
-    (wrote-then
-    (wrote-then (c .before .before .before .before .before .before .before .before .before .before .before .before .before .before .before .before .before .before .before .before .before .before .format-date-hour-and-minute .ensures) (wrote-then (c .before .before .before .before .before .before .before .before .before .before .before .before .before .before .before .before .put4 .ensures) (c .before .before .before .before .before .before .before .before .before .before .before .put-padded2 .ensures)))
-    (c .before .before .before .before .before .before .before .format-fractional-seconds .ensures))
-    (rw z at (c .before .before .format-offset2 .ensures)))
+    let z = toZ-ofZ w16 (c .before .before .before .before .before .before .before .before .before .before .before .before .before .before .before .before .before .before .before .before .before .before .args .t .offset) (record { sfits = c .before .before .before .struct-told2 .given .1 .1 .1 .1 .1 .1 .1 .0 .1 }) in
+    rw (ne-eqb _ _ (c .before .before .before .before .before .before .before .before .before .before .before .before .before .before .before .before .before .before .before .if1 .left), ne-eqb _ _ (c .before .before .before .before .before .before .before .before .before .before .before .before .before .before .before .before .before .if2 .left), ne-eqb _ _ (c .before .before .before .before .before .before .before .before .before .before .before .before .before .before .before .if3 .left), ne-eqb _ _ (c .before .before .before .before .before .before .before .before .before .before .before .before .before .if4 .left)) (wrote-then (wrote-then (c .before .before .before .before .before .before .before .before .before .before .before .format-to-second .ensures) (c .before .before .before .before .before .before .before .format-fractional-seconds .ensures)) (rw z at (c .before .before .format-offset2 .ensures)))
 
 pub format-spec : {M : Type 1} → statement M
 format-spec =
@@ -116,9 +104,7 @@ format-spec =
     format-offset-requires
     same-length-4
     returns-4
-    put-requires-4
-    cast-put-padded-2
-    put-padded-requires-2
+    format-to-second-requires
     format-fractional-seconds-requires
     format-offset-requires-2
     same-length-5
