@@ -56,6 +56,15 @@ le-two s at =
 pub le-both : (v w : ℕ) (s : List ℕ) (at : ℕ) → leNumber (v + w) (drop at s) ≡ leNumber v (drop at s) + 256 ^ v * leNumber w (drop (at + v) s)
 le-both v w s at = le-add v w (drop at s) ∙ ap (λ (l : List ℕ). leNumber v (drop at s) + 256 ^ v * leNumber w l) (drop-drop v at s)
 
+pub le-four : (s : List ℕ) (at : ℕ) → leNumber 4 (drop at s) ≡ getD s at 0 + 256 * getD s (at + 1) 0 + 65536 * getD s (at + 2) 0 + 16777216 * getD s (at + 3) 0
+le-four s at =
+    let b = le-both 2 2 s at in
+    let l = le-two s at in
+    let h = le-two s (at + 2) in
+    let e : at + 2 + 1 ≡ at + 3 = omega arith in
+    let h′ : leNumber 2 (drop (at + 2) s) ≡ getD s (at + 2) 0 + 256 * getD s (at + 3) 0 = rw e at h in
+    omega arith
+
 -- the signed number of inverted bits, inverted again; m is the greatest number of the width
 pub signed-inverted : (w : Width) (m b : ℕ) → b ≤ m → toZ w (m - (m - b)) ≡ signed (widthOf w) b
 signed-inverted w m b h = let e : m - (m - b) ≡ b = omega arith in ap (toZ w) e ∙ sym (signed-is w b)

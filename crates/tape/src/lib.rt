@@ -92,7 +92,8 @@ pub fn u32_at(tape: &[u8], at: usize) -> u64
     requires { ⌜ at + 4 ≤ length (now tape) ⌝ }
     ensures { λ r. ⌜ (r ≡ leNumber 4 (drop at (now (tape .entry)))) × (r < 4294967296) ⌝ }
 {
-    u16_at(tape, at) + 65536 * u16_at(tape, at + 2)
+    let t = &tape[at..];
+    wide(t[0]) + 256 * wide(t[1]) + 65536 * wide(t[2]) + 16777216 * wide(t[3])
 }
 
 // Eight bytes, the lowest first.
