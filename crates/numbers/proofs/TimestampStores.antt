@@ -36,9 +36,12 @@ time-word : (w h i s : ℕ) → leBytes 8 w ≡ pad 2 h ++ pad 2 i ++ pad 2 s ++
 unfolding hourAndMinute
 time-word w h i s e = rw (pair-1 w h i s 0 e, pair-2 w h i s 0 e, pair-3 w h i s 0 e)
 
-length-date : (y m o : ℕ) → length (date y m o) ≡ 10
+pub length-date : (y m o : ℕ) → length (date y m o) ≡ 10
 unfolding date yearAndMonth pad
 length-date y m o = refl
+
+pub date-stores : (l a : List ℕ) (p y m o v : ℕ) → leBytes 8 v ≡ pad 2 (y / 100 % 100) ++ pad 2 (y % 100) ++ pad 2 (m % 100) ++ pad 2 (o % 100) → a ≡ sets l p (leBytes 4 v ++ (byte "-" ∷ leBytes 2 (v / 4294967296)) ++ (byte "-" ∷ leBytes 2 (v / 281474976710656))) → a ≡ sets l p (date y m o)
+date-stores l a p y m o v h e = e ∙ ap (sets l p) (date-word v y m o (h ∙ rw (pad-mod 2 (y / 100), pad-mod 2 m, pad-mod 2 o)))
 
 pub second-stores : (l a b : List ℕ) (p y m o h i s v w : ℕ) → leBytes 8 v ≡ pad 2 (y / 100) ++ pad 2 (y % 100) ++ pad 2 m ++ pad 2 o → leBytes 8 w ≡ pad 2 h ++ pad 2 i ++ pad 2 s ++ pad 2 0
     → a ≡ sets l p (leBytes 4 v ++ (byte "-" ∷ leBytes 2 (v / 4294967296)) ++ (byte "-" ∷ leBytes 2 (v / 281474976710656)))

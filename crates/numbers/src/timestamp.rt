@@ -184,7 +184,19 @@ fn format_year_and_month(buf: &mut [u8], pos: usize, year: u16, month: u8) -> us
 {
     let p = digits::put_padded(buf, pos, year as u64, 4);
     let q = output::put(buf, p, b'-');
-    digits::put_padded(buf, q, month as u64, 2)
+    digits::put_pair(buf, q, month as u64)
+}
+
+// `YYYY-MM-DD` of the digits in d, for which there is room.
+fn date_here(buf: &mut [u8], pos: usize, d: u64)
+    requires { ⌜ pos + 10 ≤ length (now buf) ⌝ }
+    ensures { λ _. ⌜ now (buf .exit) ≡ sets (now (buf .entry)) pos (leBytes 4 d ++ (byte "-" ∷ leBytes 2 (d / 4294967296)) ++ (byte "-" ∷ leBytes 2 (d / 281474976710656))) ⌝ }
+{
+    output::store_4(buf, pos, d);
+    buf[pos + 4] = b'-';
+    output::store_2(buf, pos + 5, d / 4294967296);
+    buf[pos + 7] = b'-';
+    output::store_2(buf, pos + 8, d / 281474976710656);
 }
 
 // Writes `YYYY-MM-DD`.
@@ -192,9 +204,22 @@ fn format_date(buf: &mut [u8], pos: usize, year: u16, month: u8, day: u8) -> usi
     requires { ⌜ pos ≤ limit ⌝ }
     ensures { λ r. ⌜ Wrote (now (buf .entry)) (now (buf .exit)) pos r (date year month day) ⌝ }
 {
+    if pos + 10 <= buf.len() {
+        date_here(
+            buf,
+            pos,
+            digits::four_pairs(
+                (year / 100) as u64 % 100,
+                (year % 100) as u64,
+                month as u64 % 100,
+                day as u64 % 100,
+            ),
+        );
+        return pos + 10;
+    }
     let p = format_year_and_month(buf, pos, year, month);
     let q = output::put(buf, p, b'-');
-    digits::put_padded(buf, q, day as u64, 2)
+    digits::put_pair(buf, q, day as u64)
 }
 
 // `hh:mm`, for which there is room.
@@ -217,9 +242,9 @@ fn format_hour_and_minute(buf: &mut [u8], pos: usize, hour: u16, minute: u16) ->
         clock_here(buf, pos, hour, minute);
         return pos + 5;
     }
-    let p = digits::put_padded(buf, pos, hour as u64, 2);
+    let p = digits::put_pair(buf, pos, hour as u64);
     let q = output::put(buf, p, b':');
-    digits::put_padded(buf, q, minute as u64, 2)
+    digits::put_pair(buf, q, minute as u64)
 }
 
 // Writes `YYYY-MM-DDThh:mm`.
@@ -270,18 +295,7 @@ fn is_short(t: Timestamp) -> bool
     false
 }
 
-// `YYYY-MM-DD` of the digits in d, and `hh:mm:ss` of those in c, for which there is room.
-fn date_here(buf: &mut [u8], pos: usize, d: u64)
-    requires { ⌜ pos + 10 ≤ length (now buf) ⌝ }
-    ensures { λ _. ⌜ now (buf .exit) ≡ sets (now (buf .entry)) pos (leBytes 4 d ++ (byte "-" ∷ leBytes 2 (d / 4294967296)) ++ (byte "-" ∷ leBytes 2 (d / 281474976710656))) ⌝ }
-{
-    output::store_4(buf, pos, d);
-    buf[pos + 4] = b'-';
-    output::store_2(buf, pos + 5, d / 4294967296);
-    buf[pos + 7] = b'-';
-    output::store_2(buf, pos + 8, d / 281474976710656);
-}
-
+// `hh:mm:ss` of the digits in c, for which there is room.
 fn time_here(buf: &mut [u8], pos: usize, c: u64)
     requires { ⌜ pos + 8 ≤ length (now buf) ⌝ }
     ensures { λ _. ⌜ now (buf .exit) ≡ sets (now (buf .entry)) pos (leBytes 2 c ++ (byte ":" ∷ leBytes 2 (c / 65536)) ++ (byte ":" ∷ leBytes 2 (c / 4294967296))) ⌝ }

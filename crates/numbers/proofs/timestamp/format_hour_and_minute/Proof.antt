@@ -25,21 +25,21 @@ returns c =
     let x = c .before .before .before .before .before .before .args in
     wrote-here 5 (c .before .before .clock-here .ensures) (length-clock (x .hour) (x .minute)) (omega arith) (search needs)
 
-put-padded-requires : tie.Need-put-padded-requires
-put-padded-requires c κs = search needs
+put-pair-requires : tie.Need-put-pair-requires
+put-pair-requires c κs = search needs
 
 put-requires : tie.Need-put-requires
 put-requires c κs = search needs
 
-put-padded-requires-2 : tie.Need-put-padded-requires-2
-put-padded-requires-2 c κs = search needs
+put-pair-requires-2 : tie.Need-put-pair-requires-2
+put-pair-requires-2 c κs = search needs
 
 same-length-2 : tie.Need-same-length-2
 same-length-2 c = search needs
 
 returns-2 : tie.Need-returns-2
 unfolding hourAndMinute
-returns-2 c = wrote-then (c .before .before .before .before .before .before .before .before .before .before .put-padded .ensures) (wrote-then (c .before .before .before .before .before .before .put .ensures) (c .before .before .put-padded2 .ensures))
+returns-2 c = wrote-then (c .before .before .before .before .before .before .before .before .before .before .put-pair .ensures) (wrote-then (c .before .before .before .before .before .before .put .ensures) (c .before .before .put-pair2 .ensures))
 
 pub format-hour-and-minute-spec : {M : Type 1} → statement M
 format-hour-and-minute-spec =
@@ -50,8 +50,8 @@ format-hour-and-minute-spec =
     add-result
     same-length
     returns
-    put-padded-requires
+    put-pair-requires
     put-requires
-    put-padded-requires-2
+    put-pair-requires-2
     same-length-2
     returns-2)

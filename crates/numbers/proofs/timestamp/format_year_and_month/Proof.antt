@@ -11,22 +11,16 @@ put-padded-requires c κs = search needs
 put-requires : tie.Need-put-requires
 put-requires c κs = search needs
 
-put-padded-requires-2 : tie.Need-put-padded-requires-2
-put-padded-requires-2 c κs = search needs
+put-pair-requires : tie.Need-put-pair-requires
+put-pair-requires c κs = search needs
 
 same-length : tie.Need-same-length
 same-length c = search needs
 
 returns : tie.Need-returns
 unfolding yearAndMonth
-returns c = wrote-then (c .before .before .before .before .before .before .before .before .before .before .put-padded .ensures) (wrote-then (c .before .before .before .before .before .before .put .ensures) (c .before .before .put-padded2 .ensures))
+returns c = wrote-then (c .before .before .before .before .before .before .before .before .before .before .put-padded .ensures) (wrote-then (c .before .before .before .before .before .before .put .ensures) (c .before .before .put-pair .ensures))
 
 pub format-year-and-month-spec : {M : Type 1} → statement M
 format-year-and-month-spec =
-    tie.close
-    (tie.spec
-    put-padded-requires
-    put-requires
-    put-padded-requires-2
-    same-length
-    returns)
+    tie.close (tie.spec put-padded-requires put-requires put-pair-requires same-length returns)
