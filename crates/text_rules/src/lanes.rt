@@ -11,7 +11,7 @@ ghost use Rattle.text_rules.specs.WordSteps.{isName, allPart};
 ghost use Rattle.text_rules.specs.Escapes.{textBody};
 ghost use Rattle.text_rules.specs.Text.{symbolText};
 
-// Hex 80 in each of the n lowest bytes.
+// Hex 80 in each of the n lowest bytes: the compiler makes a table of the arms.
 fn high_bits(n: usize) -> u64
     requires { ⌜ (1 ≤ n) × (n ≤ 8) ⌝ }
     ensures { λ r. ⌜ r ≡ rep n 0x80 ⌝ }
@@ -24,7 +24,8 @@ fn high_bits(n: usize) -> u64
         5 => 0x8080808080,
         6 => 0x808080808080,
         7 => 0x80808080808080,
-        _ => 0x8080808080808080,
+        8 => 0x8080808080808080,
+        _ => 0,
     }
 }
 

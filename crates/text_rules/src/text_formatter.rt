@@ -83,10 +83,11 @@ pub fn format_bool(buf: &mut [u8], pos: usize, b: bool) -> usize
     requires { ⌜ pos ≤ limit ⌝ }
     ensures { λ r. ⌜ Wrote (now (buf .entry)) (now (buf .exit)) pos r (boolText b) ⌝ }
 {
+    // `true` and `false`, the first letter lowest
     if b {
-        return output::put_bytes(buf, pos, b"true");
+        return output::put_le(buf, pos, 0x65757274, 4);
     }
-    output::put_bytes(buf, pos, b"false")
+    output::put_le(buf, pos, 0x65736C6166, 5)
 }
 
 // A float by its bits, which are no NaN's. Only infinities and zeros have a text.

@@ -34,22 +34,24 @@ returns-7 : tie.Need-returns-7
 unfolding rep
 returns-7 c = rw (c .match .keys7)
 
--- a number of 1 to 8 that is none of the first seven
+returns-8 : tie.Need-returns-8
+unfolding rep
+returns-8 c = rw (c .match .keys8)
+
+-- there is no other number from 1 to 8
 past-four : (n : ℕ) → 1 ≤ n → (n ≡ 1 → ⊥) → (n ≡ 2 → ⊥) → (n ≡ 3 → ⊥) → (n ≡ 4 → ⊥) → 5 ≤ n
 past-four n l a b c d = omega arith
 
-past-seven : (n : ℕ) → 5 ≤ n → n ≤ 8 → (n ≡ 5 → ⊥) → (n ≡ 6 → ⊥) → (n ≡ 7 → ⊥) → n ≡ 8
-past-seven n l h a b c = omega arith
+none-left : (n : ℕ) → 5 ≤ n → n ≤ 8 → (n ≡ 5 → ⊥) → (n ≡ 6 → ⊥) → (n ≡ 7 → ⊥) → (n ≡ 8 → ⊥) → ⊥
+none-left n l h a b c d = omega arith
 
-returns-8 : tie.Need-returns-8
-unfolding rep
-returns-8 c =
+returns-9 : tie.Need-returns-9
+returns-9 c =
     let n = c .before .args .n in
     let r = c .match .rest in
-    let e : n ≡ 8 = past-seven n (past-four n (c .before .pre .0) (r .0 .0 .0 .0 .0 .0 .1) (r .0 .0 .0 .0 .0 .1) (r .0 .0 .0 .0 .1) (r .0 .0 .0 .1)) (c .before .pre .1) (r .0 .0 .1) (r .0 .1) (r .1) in
-    rw e
+    absurd (none-left n (past-four n (c .before .pre .0) (r .0 .0 .0 .0 .0 .0 .0 .1) (r .0 .0 .0 .0 .0 .0 .1) (r .0 .0 .0 .0 .0 .1) (r .0 .0 .0 .0 .1)) (c .before .pre .1) (r .0 .0 .0 .1) (r .0 .0 .1) (r .0 .1) (r .1))
 
 pub high-bits-spec : {M : Type 1} → statement M
 high-bits-spec =
     tie.close
-    (tie.spec returns returns-2 returns-3 returns-4 returns-5 returns-6 returns-7 returns-8)
+    (tie.spec returns returns-2 returns-3 returns-4 returns-5 returns-6 returns-7 returns-8 returns-9)

@@ -4,7 +4,9 @@ use Prim.Native.Nat.{_+_}
 use native.Mathlib.Omega.{arith}
 use mir.Syntax.{w32, w64}
 use mir.ValLaws.{toZ-ofZ}
+use denote.Ref.{now}
 use Rattle.tape.specs.Steps.{sizeOf}
+use Rattle.tape.proofs.CodeFacts.{part-text}
 use Rattle.writer.specs.Text.{symText, scalarText}
 use borrow.Author.Needs.{needs}
 use Rattle.writer.proofs.value_writer.write_scalar.Statement.{statement}
@@ -49,11 +51,21 @@ format-requires c κs = search needs
 enum-known-s-7 : tie.Need-enum-known-s-7
 enum-known-s-7 c = search needs
 
-write-symbol-text-requires : tie.Need-write-symbol-text-requires
-write-symbol-text-requires c κs =
-    let a = c .before .before .before .before .before .before .args in
-    let e : sizeOf (a .s) ≡ 5 + c .before .before .s7 .given .0 .0 = ap sizeOf (c .before .before .s7 .given .1) in
-    (c .before .before .before .before .before .before .pre .0, (omega arith, c .before .before .before .before .before .before .pre .1 .1))
+add-format-symbol-at : tie.Need-add-format-symbol-at
+add-format-symbol-at c =
+    let s = c .before .before .before .before .before .before in
+    let e : sizeOf (s .args .s) ≡ 5 + c .before .before .s7 .given .0 .0 = ap sizeOf (c .before .before .s7 .given .1) in
+    let h = s .pre .1 .0 in
+    let k = s .pre .1 .1 in
+    record { fits = omega arith }
+
+format-symbol-at-requires : tie.Need-format-symbol-at-requires
+format-symbol-at-requires c κs =
+    let s = c .before .before .before .before .before .before in
+    let e : sizeOf (s .args .s) ≡ 5 + c .before .before .s7 .given .0 .0 = ap sizeOf (c .before .before .s7 .given .1) in
+    let h = s .pre .1 .0 in
+    let k = s .pre .1 .1 in
+    (s .pre .0, omega arith)
 
 enum-known-s-8 : tie.Need-enum-known-s-8
 enum-known-s-8 c = search needs
@@ -130,7 +142,13 @@ same-length-7 c = search needs
 
 returns-7 : tie.Need-returns-7
 unfolding scalarText symText
-returns-7 c = rw (c .before .before .before .before .before .s7 .given .1) (c .before .before .write-symbol-text .ensures)
+returns-7 c =
+    let s = c .before .before .before .before .before .before .before .before .before in
+    let a = s .args in
+    let g = c .before .before .before .before .before .s7 .given in
+    let e : sizeOf (a .s) ≡ 5 + g .0 .0 = ap sizeOf (g .1) in
+    let h = s .pre .1 .0 in
+    rw (g .1, part-text (now (a .tape)) (a .at) (a .end) (g .0 .0) (omega arith)) (c .before .before .format-symbol-at .ensures)
 
 same-length-8 : tie.Need-same-length-8
 same-length-8 c = search needs
@@ -170,7 +188,8 @@ write-scalar-spec =
     enum-known-s-6
     format-requires
     enum-known-s-7
-    write-symbol-text-requires
+    add-format-symbol-at
+    format-symbol-at-requires
     enum-known-s-8
     format-symbol-id-requires
     enum-known-s-9
