@@ -14,6 +14,10 @@ drop-take (suc n) zero l = let e : 0 ≡ 0 - suc n = omega arith in ap (λ (i : 
 drop-take (suc n) (suc m) [] = sym (take-nil (suc m - suc n))
 drop-take (suc n) (suc m) (x ∷ l) = let e : m - n ≡ suc m - suc n = omega arith in drop-take n m l ∙ ap (λ (i : ℕ). take i (drop n l)) e
 
+-- what stands eight bytes before the end, as the trailer makes it, stands before it
+pub trailed : {e n : ℕ} → e + 8 ≤ n → e ≤ n
+trailed h = omega arith
+
 module _ (s : List ℕ) (a e : ℕ) where
   pub part-length : e ≤ length s → length (part s a e) ≡ e - a
   part-length h = let t = length-take (e - a) (drop a s) in let d = length-drop a s in omega arith

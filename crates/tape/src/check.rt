@@ -44,7 +44,7 @@ fn either(a: bool, b: bool) -> bool
 
 // The n bytes of the text node at a place are UTF-8. Eight bytes at most are told by one word where they are ASCII.
 fn is_text(tape: &[u8], at: usize, n: usize) -> bool
-    requires { ⌜ at + (5 + n) ≤ length (now tape) ⌝ }
+    requires { ⌜ at + (5 + n) + 8 ≤ length (now tape) ⌝ }
     ensures { λ r. ⌜ r ≡ valid (take n (drop (at + 5) (now (tape .entry)))) ⌝ }
 {
     if n == 0 {
@@ -52,10 +52,8 @@ fn is_text(tape: &[u8], at: usize, n: usize) -> bool
     }
     let from = at + 5;
     if n <= 8 {
-        if 8 <= tape.len() - from {
-            if text_rules::lanes::is_ascii(output::word_at(tape, from), n) {
-                return true;
-            }
+        if text_rules::lanes::is_ascii(output::word_at(tape, from), n) {
+            return true;
         }
     }
     text_rules::utf8::valid_part(tape, from, n)
@@ -195,7 +193,7 @@ fn text_size(tape: &[u8], at: usize, end: usize) -> usize
 // The text of a symbol, behind its kind byte.
 fn word_size(tape: &[u8], at: usize, end: usize) -> usize
     requires { ⌜ at ≤ end ⌝ }
-    requires { ⌜ end ≤ length (now tape) ⌝ }
+    requires { ⌜ end + 8 ≤ length (now tape) ⌝ }
     ensures { λ r. ⌜ r ≡ codeOf textFault (textOf (part (now (tape .entry)) at end)) ⌝ }
 {
     let n = span(tape, at, end);
@@ -211,7 +209,7 @@ fn word_size(tape: &[u8], at: usize, end: usize) -> usize
 // A symbol's node.
 fn sym_size(tape: &[u8], at: usize, end: usize) -> usize
     requires { ⌜ at ≤ end ⌝ }
-    requires { ⌜ end ≤ length (now tape) ⌝ }
+    requires { ⌜ end + 8 ≤ length (now tape) ⌝ }
     ensures { λ r. ⌜ r ≡ codeOf symFault (symOf (part (now (tape .entry)) at end)) ⌝ }
 {
     if end - at < 5 {
@@ -244,7 +242,7 @@ fn is_number(tape: &[u8], at: usize, end: usize) -> bool
 
 fn scalar_size(tape: &[u8], at: usize, end: usize) -> usize
     requires { ⌜ at < end ⌝ }
-    requires { ⌜ end ≤ length (now tape) ⌝ }
+    requires { ⌜ end + 8 ≤ length (now tape) ⌝ }
     requires { ⌜ kind (part (now tape) at end) < 10 ⌝ }
     ensures { λ r. ⌜ r ≡ scalarCode (scalarOf (part (now (tape .entry)) at end)) ⌝ }
 {
@@ -302,7 +300,7 @@ pub fn frame_of(k: u8) -> Frame
 // n symbols from a place on. `already`: there was an identifier but 0 before.
 fn syms_seen(tape: &[u8], at: usize, end: usize, n: u8, already: bool) -> Front
     requires { ⌜ at ≤ end ⌝ }
-    requires { ⌜ end ≤ length (now tape) ⌝ }
+    requires { ⌜ end + 8 ≤ length (now tape) ⌝ }
     ensures { λ r. ⌜ r ≡ symsFront at already (symsOf n (part (now (tape .entry)) at end)) ⌝ }
 {
     let mut p = at;
@@ -323,7 +321,7 @@ fn syms_seen(tape: &[u8], at: usize, end: usize, n: u8, already: bool) -> Front
 // The annotations at a place, behind a name. `noted`, `numbered`: what was met before.
 fn notes_seen(tape: &[u8], at: usize, end: usize, noted: bool, numbered: bool) -> Front
     requires { ⌜ at ≤ end ⌝ }
-    requires { ⌜ end ≤ length (now tape) ⌝ }
+    requires { ⌜ end + 8 ≤ length (now tape) ⌝ }
     ensures { λ r. ⌜ r ≡ notesFront at noted numbered (notesOf (part (now (tape .entry)) at end)) ⌝ }
 {
     if at == end {
@@ -348,7 +346,7 @@ fn notes_seen(tape: &[u8], at: usize, end: usize, noted: bool, numbered: bool) -
 // Behind the name of the child at a place, or at the place where it has none; at the end where the name is refused.
 fn behind_name(tape: &[u8], at: usize, end: usize, frame: Frame) -> usize
     requires { ⌜ at ≤ end ⌝ }
-    requires { ⌜ end ≤ length (now tape) ⌝ }
+    requires { ⌜ end + 8 ≤ length (now tape) ⌝ }
     ensures { λ r. ⌜ r ≡ endOf nameFault at end (nameOf frame (part (now (tape .entry)) at end)) ⌝ }
 {
     match frame {
@@ -396,7 +394,7 @@ fn refused(fault: u8) -> Checked
 // The first problem among the nodes of a body, or 0 and what stands in it. A body is opened while `depth` more may be.
 fn check_nodes(tape: &[u8], from: usize, end: usize, frame: Frame, depth: usize) -> Checked
     requires { ⌜ from ≤ end ⌝ }
-    requires { ⌜ end ≤ length (now tape) ⌝ }
+    requires { ⌜ end + 8 ≤ length (now tape) ⌝ }
     ensures { λ r. ⌜ Checks (walk depth frame (part (now (tape .entry)) from end)) r ⌝ }
 {
     if depth == 0 {

@@ -22,6 +22,7 @@ use Rattle.tape.proofs.CodeReading.{notes-none}
 use Rattle.tape.proofs.CodeFacts.{Ended, end-read, read-within, front-none}
 use Rattle.tape.proofs.Turns.{HeadSeen, LeafSeen, TreeTurn, name-refused, notes-refused, notes-turn, end-refused, size-refused, size-turn, span-refused, span-turn, other-refused, marker-refused, marker-turn}
 use Rattle.tape.proofs.CodeWalk.{Passed, passed-none, refuse, refuse-node, refuse-deep, pass, passed-all}
+use Rattle.tape.proofs.Parts.{trailed}
 use borrow.Author.Needs.{needs}
 use borrow.Fn.Kinds.{In}
 use borrow.Fn.PlainCycle.{Measures, is, falls, and}
@@ -126,8 +127,11 @@ module _ (t : ℕ) (c : lts.After-either (callees t) (at t) own.Post Inv μ-loop
   left : place < end
   left = c .before .before .before .before .loop-test .taken
 
+  trails : end + 8 ≤ length tape
+  trails = c .before .before .before .before .before .before .before .before .pre .1 .1
+
   fits : end ≤ length tape
-  fits = c .before .before .before .before .before .before .before .before .pre .1 .1
+  fits = trailed trails
 
   name : Ended nameFault place behind (nameOf frame (part tape place end))
   name = end-read nameFault place end _ _ (c .before .before .before .behind-name .ensures) (c .before .before .if2 .left)
@@ -246,11 +250,11 @@ module _ (t : ℕ) where
       let s = c .before .before .before .before .before .before .before in
       let a = s .args in
       let l = c .before .before .before .before .loop in
-      let u = name-refused (a .depth) (a .frame) (now (a .tape)) (l .at) (a .end) (c .before .before .before .before .before .if1 .left) (c .before .before .before .loop-test .taken) (s .pre .1 .1) (l .noted) (l .numbered) _ (c .before .before .behind-name .ensures) (c .before .if2 .taken) in
+      let u = name-refused (a .depth) (a .frame) (now (a .tape)) (l .at) (a .end) (c .before .before .before .before .before .if1 .left) (c .before .before .before .loop-test .taken) (trailed (s .pre .1 .1)) (l .noted) (l .numbered) _ (c .before .before .behind-name .ensures) (c .before .if2 .taken) in
       refuse (l .inv .2) _ 2 (u .fault) (u .some) (c .refused2 .ensures .fault)
 
   name-number-requires : lts.Need-name-number-requires (callees t) (at t) own.Post Inv μ-loop
-  name-number-requires c κs = (c .before .before .loop-test .taken, c .before .before .before .before .before .before .pre .1 .1)
+  name-number-requires c κs = (c .before .before .loop-test .taken, trailed (c .before .before .before .before .before .before .pre .1 .1))
 
   either-requires : lts.Need-either-requires (callees t) (at t) own.Post Inv μ-loop
   either-requires c κs = search needs
@@ -259,7 +263,7 @@ module _ (t : ℕ) where
   shared-slice-read-if3 c = let m = more t (c .before) in let f = fits t (c .before) in omega arith
 
   notes-seen-requires : lts.Need-notes-seen-requires (callees t) (at t) own.Post Inv μ-loop
-  notes-seen-requires c κs = let m = more t (c .before .before) in (omega arith, fits t (c .before .before))
+  notes-seen-requires c κs = let m = more t (c .before .before) in (omega arith, trails t (c .before .before))
 
   enum-known-r : lts.Need-enum-known-r (callees t) (at t) own.Post Inv μ-loop
   enum-known-r c = search needs
@@ -290,7 +294,7 @@ module _ (t : ℕ) where
   shared-slice-read-k c = let m = headed t (c .before) .more in let f = fits t (c .before .before .before) in omega arith
 
   scalar-size-requires : lts.Need-scalar-size-requires (callees t) (at t) own.Post Inv μ-loop
-  scalar-size-requires c κs = let f = kind-is t (c .before .before) in let k = c .if5 .taken in (headed t (c .before .before) .more, (fits t (c .before .before .before .before), omega arith))
+  scalar-size-requires c κs = let f = kind-is t (c .before .before) in let k = c .if5 .taken in (headed t (c .before .before) .more, (trails t (c .before .before .before .before), omega arith))
 
   size-fault-requires : lts.Need-size-fault-requires (callees t) (at t) own.Post Inv μ-loop
   size-fault-requires c κs = search needs
@@ -520,7 +524,7 @@ module _ (t : ℕ) where
       let s = c .before .before .before .before in
       let a = s .args in
       let l = c .before .loop in
-      let n = part-length (now (a .tape)) (l .at) (a .end) (s .pre .1 .1) in
+      let n = part-length (now (a .tape)) (l .at) (a .end) (trailed (s .pre .1 .1)) in
       let z = c .loop-test .left in
       passed-all (l .inv .2) (walk-end (a .frame) (a .depth) _ (c .before .before .if1 .left) (omega arith)) _ refl refl refl refl
 

@@ -7,6 +7,7 @@ use Rattle.tape.specs.Tree.{encodeSym}
 use Rattle.tape.specs.Tape.{symOf, nameOf, symFault}
 use Rattle.tape.proofs.Reading.{sym-sound}
 use Rattle.tape.proofs.CodeFacts.{read-within, sym-read, name-bad, name-good}
+use Rattle.tape.proofs.Parts.{trailed}
 use borrow.Author.Needs.{needs}
 use Rattle.tape.proofs.check.behind_name.Statement.{statement}
 use Rattle.tape.proofs.check.behind_name.Tie as tie
@@ -29,7 +30,7 @@ add-result c =
     let s = c .before .before .before .before .before in
     let a = s .args in
     let l = part (now (a .tape)) (a .at) (a .end) in
-    let w = read-within symFault encodeSym (now (a .tape)) (a .at) (a .end) (symOf l) _ (s .pre .0) (s .pre .1) (sym-sound l) (sym-read l _ (c .before .sym-size .ensures) (c .if1 .left)) in
+    let w = read-within symFault encodeSym (now (a .tape)) (a .at) (a .end) (symOf l) _ (s .pre .0) (trailed (s .pre .1)) (sym-sound l) (sym-read l _ (c .before .sym-size .ensures) (c .if1 .left)) in
     record { fits = omega arith }
 
 enum-told-2 : tie.Need-enum-told-2

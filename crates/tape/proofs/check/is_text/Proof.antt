@@ -18,9 +18,6 @@ returns c = rw (c .if1 .taken)
 add-from : tie.Need-add-from
 add-from c = search needs
 
-sub-if3 : tie.Need-sub-if3
-sub-if3 c = search needs
-
 word-at-requires : tie.Need-word-at-requires
 word-at-requires c κs = search needs
 
@@ -29,11 +26,11 @@ is-ascii-requires c κs = search needs
 
 returns-2 : tie.Need-returns-2
 returns-2 c =
-    let a = c .before .before .before .before .before .before .before .args in
+    let a = c .before .before .before .before .before .before .args in
     let t = drop (a .at + 5) (now (a .tape)) in
     let x = c .before .before .word-at .result in
-    let low : take (a .n) t ≡ leBytes (a .n) x = sym (take-take (a .n) 8 t (c .before .before .before .before .if2 .taken)) ∙ ap (take (a .n)) (sym (c .before .before .word-at .ensures)) ∙ take-le (a .n) 8 x (c .before .before .before .before .if2 .taken) in
-    sym (ap valid low ∙ c .before .is-ascii .ensures (c .if4 .taken))
+    let low : take (a .n) t ≡ leBytes (a .n) x = sym (take-take (a .n) 8 t (c .before .before .before .if2 .taken)) ∙ ap (take (a .n)) (sym (c .before .before .word-at .ensures)) ∙ take-le (a .n) 8 x (c .before .before .before .if2 .taken) in
+    sym (ap valid low ∙ c .before .is-ascii .ensures (c .if3 .taken))
 
 valid-part-requires : tie.Need-valid-part-requires
 valid-part-requires c κs = search needs
@@ -42,4 +39,4 @@ returns-3 : tie.Need-returns-3
 returns-3 c = search needs
 
 pub is-text-spec : {M : Type 1} → statement M
-is-text-spec = tie.close (tie.spec returns add-from sub-if3 word-at-requires is-ascii-requires returns-2 valid-part-requires returns-3)
+is-text-spec = tie.close (tie.spec returns add-from word-at-requires is-ascii-requires returns-2 valid-part-requires returns-3)

@@ -7,6 +7,7 @@ use Rattle.tape.specs.CheckSteps.{notesFront}
 use Rattle.tape.proofs.Parts.{part-length, part-first, part-byte, part-drop}
 use Rattle.tape.proofs.CodeReading.{notes-empty, notes-none, notes-short, notes-few, notes-many}
 use Rattle.tape.proofs.CodeFacts.{front-none, front-notes}
+use Rattle.tape.proofs.Parts.{trailed}
 use borrow.Author.Needs.{needs}
 use Rattle.tape.proofs.check.notes_seen.Statement.{statement}
 use Rattle.tape.proofs.check.notes_seen.Tie as tie
@@ -16,7 +17,7 @@ returns c =
     let s = c .before .before in
     let a = s .args in
     let l = part (now (a .tape)) (a .at) (a .end) in
-    let n = part-length (now (a .tape)) (a .at) (a .end) (s .pre .1) in
+    let n = part-length (now (a .tape)) (a .at) (a .end) (trailed (s .pre .1)) in
     front-none l (a .at) (a .noted) (a .numbered) (notes-empty l (omega arith))
 
 shared-slice-read-if2 : tie.Need-shared-slice-read-if2
@@ -38,7 +39,7 @@ returns-3 c =
     let s = c .before .before .before .before .before in
     let a = s .args in
     let l = part (now (a .tape)) (a .at) (a .end) in
-    let n = part-length (now (a .tape)) (a .at) (a .end) (s .pre .1) in
+    let n = part-length (now (a .tape)) (a .at) (a .end) (trailed (s .pre .1)) in
     let f = part-first (now (a .tape)) (a .at) (a .end) (omega arith) in
     sym (ap (notesFront (a .at) (a .noted) (a .numbered)) (notes-short l (f ∙ c .before .if2 .left) (omega arith)))
 

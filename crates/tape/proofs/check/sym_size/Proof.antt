@@ -8,6 +8,7 @@ use Rattle.tape.specs.CheckSteps.{codeOf}
 use Rattle.tape.proofs.Parts.{part-length, part-first}
 use Rattle.tape.proofs.CodeReading.{sym-id, sym-none, sym-short}
 use Rattle.tape.proofs.CodeFacts.{code-text}
+use Rattle.tape.proofs.Parts.{trailed}
 use borrow.Author.Needs.{needs}
 use Rattle.tape.proofs.check.sym_size.Statement.{statement}
 use Rattle.tape.proofs.check.sym_size.Tie as tie
@@ -20,7 +21,7 @@ returns c =
     let s = c .before .before in
     let a = s .args in
     let l = part (now (a .tape)) (a .at) (a .end) in
-    let n = part-length (now (a .tape)) (a .at) (a .end) (s .pre .1) in
+    let n = part-length (now (a .tape)) (a .at) (a .end) (trailed (s .pre .1)) in
     sym (ap (codeOf symFault) (sym-short l (omega arith)))
 
 shared-slice-read-k : tie.Need-shared-slice-read-k
@@ -42,7 +43,7 @@ returns-3 c =
     let s = c .before .before .before .before .before in
     let a = s .args in
     let l = part (now (a .tape)) (a .at) (a .end) in
-    let n = part-length (now (a .tape)) (a .at) (a .end) (s .pre .1) in
+    let n = part-length (now (a .tape)) (a .at) (a .end) (trailed (s .pre .1)) in
     let f = part-first (now (a .tape)) (a .at) (a .end) (omega arith) in
     sym (ap (codeOf symFault) (sym-id l (f ∙ c .if3 .taken) (omega arith)))
 

@@ -9,6 +9,7 @@ use Rattle.tape.specs.Tape.{symOf, symsOf, symFault}
 use Rattle.tape.specs.CheckSteps.{symsFront}
 use Rattle.tape.proofs.Reading.{sym-sound}
 use Rattle.tape.proofs.CodeFacts.{read-within, sym-read, front-end, front-stop, front-step}
+use Rattle.tape.proofs.Parts.{trailed}
 use borrow.Author.Needs.{needs}
 use Rattle.tape.proofs.check.syms_seen.Statement.{statement}
 use Rattle.tape.proofs.check.syms_seen.Tie as tie
@@ -37,9 +38,9 @@ is-number-requires c κs =
     let s = c .before .before .before .before .before in
     let a = s .args in
     let l = c .before .before .before .loop in
-    let w = read-within symFault encodeSym (now (a .tape)) (l .p) (a .end) (symOf (part (now (a .tape)) (l .p) (a .end))) _ (l .inv .0) (s .pre .1) (sym-sound _) (sym-read _ _ (c .before .sym-size .ensures) (c .if1 .left)) in
+    let w = read-within symFault encodeSym (now (a .tape)) (l .p) (a .end) (symOf (part (now (a .tape)) (l .p) (a .end))) _ (l .inv .0) (trailed (s .pre .1)) (sym-sound _) (sym-read _ _ (c .before .sym-size .ensures) (c .if1 .left)) in
     let z = c .if1 .left in
-    (omega arith, s .pre .1)
+    (omega arith, trailed (s .pre .1))
 
 either-requires : tie.Need-either-requires Inv-loop μ-loop
 either-requires c κs = search needs
@@ -49,7 +50,7 @@ add-p c =
     let s = c .before .before .before .before .before .before .before in
     let a = s .args in
     let l = c .before .before .before .before .before .loop in
-    let w = read-within symFault encodeSym (now (a .tape)) (l .p) (a .end) (symOf (part (now (a .tape)) (l .p) (a .end))) _ (l .inv .0) (s .pre .1) (sym-sound _) (sym-read _ _ (c .before .before .before .sym-size .ensures) (c .before .before .if1 .left)) in
+    let w = read-within symFault encodeSym (now (a .tape)) (l .p) (a .end) (symOf (part (now (a .tape)) (l .p) (a .end))) _ (l .inv .0) (trailed (s .pre .1)) (sym-sound _) (sym-read _ _ (c .before .before .before .sym-size .ensures) (c .before .before .if1 .left)) in
     record { fits = omega arith }
 
 sub-left : tie.Need-sub-left Inv-loop μ-loop
@@ -63,7 +64,7 @@ loop-again c =
     let s = c .before .before .before .before .before .before .before in
     let a = s .args in
     let l = c .before .before .before .before .before .loop in (
-      read-within symFault encodeSym (now (a .tape)) (l .p) (a .end) (symOf (part (now (a .tape)) (l .p) (a .end))) _ (l .inv .0) (s .pre .1) (sym-sound _) (sym-read _ _ (c .before .before .before .sym-size .ensures) (c .before .before .if1 .left)),
+      read-within symFault encodeSym (now (a .tape)) (l .p) (a .end) (symOf (part (now (a .tape)) (l .p) (a .end))) _ (l .inv .0) (trailed (s .pre .1)) (sym-sound _) (sym-read _ _ (c .before .before .before .sym-size .ensures) (c .before .before .if1 .left)),
       rw (c .either .ensures, c .before .is-number .ensures) (sym (front-step (now (a .tape)) (l .p) (a .end) (l .numbered) (l .left) _ (c .before .before .before .before .loop-test .taken) (c .before .before .before .sym-size .ensures) (c .before .before .if1 .left)) ∙ l .inv .1),
     )
 

@@ -11,6 +11,7 @@ use Rattle.tape.specs.Tape.{textFault}
 use Rattle.tape.specs.CheckSteps.{codeOf}
 use Rattle.tape.proofs.Parts.{part-length}
 use Rattle.tape.proofs.CodeFacts.{part-text, span-none, span-is, span-text}
+use Rattle.tape.proofs.Parts.{trailed}
 use borrow.Author.Needs.{needs}
 use Rattle.tape.proofs.check.word_size.Statement.{statement}
 use Rattle.tape.proofs.check.word_size.Tie as tie
@@ -30,7 +31,7 @@ sub-is-text c =
     let s = c .before .before .before in
     let a = s .args in
     let l = part (now (a .tape)) (a .at) (a .end) in
-    let n = part-length (now (a .tape)) (a .at) (a .end) (s .pre .1) in
+    let n = part-length (now (a .tape)) (a .at) (a .end) (trailed (s .pre .1)) in
     let m = span-is l _ (c .before .span .ensures) (c .if1 .left) in
     let five = m .0 in
     let most = m .1 in
@@ -41,7 +42,7 @@ is-text-requires c κs =
     let s = c .before .before .before in
     let a = s .args in
     let l = part (now (a .tape)) (a .at) (a .end) in
-    let n = part-length (now (a .tape)) (a .at) (a .end) (s .pre .1) in
+    let n = part-length (now (a .tape)) (a .at) (a .end) (trailed (s .pre .1)) in
     let m = span-is l _ (c .before .span .ensures) (c .if1 .left) in
     let five = m .0 in
     let most = m .1 in
@@ -53,7 +54,7 @@ returns-2 c =
     let s = c .before .before .before .before .before in
     let a = s .args in
     let l = part (now (a .tape)) (a .at) (a .end) in
-    let n = part-length (now (a .tape)) (a .at) (a .end) (s .pre .1) in
+    let n = part-length (now (a .tape)) (a .at) (a .end) (trailed (s .pre .1)) in
     let m = span-is l _ (c .before .before .before .span .ensures) (c .before .before .if1 .left) in
     let five = m .0 in
     let most = m .1 in
@@ -67,7 +68,7 @@ returns-3 c =
     let s = c .before .before .before .before .before in
     let a = s .args in
     let l = part (now (a .tape)) (a .at) (a .end) in
-    let n = part-length (now (a .tape)) (a .at) (a .end) (s .pre .1) in
+    let n = part-length (now (a .tape)) (a .at) (a .end) (trailed (s .pre .1)) in
     let m = span-is l _ (c .before .before .before .span .ensures) (c .before .before .if1 .left) in
     let five = m .0 in
     let most = m .1 in
