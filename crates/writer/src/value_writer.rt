@@ -106,14 +106,12 @@ fn write_colon(buf: &mut [u8], pos: usize) -> usize
 
 // Whether the n bytes of the tape from a place on, in a word of it, are a symbol that stands bare.
 fn plain_at(tape: &[u8], from: usize, n: usize) -> bool
-    requires { ⌜ from + n ≤ length (now tape) ⌝ }
+    requires { ⌜ from + 8 ≤ length (now tape) ⌝ }
     ensures { λ r. ⌜ (r ≡ true → Plain (now (tape .entry)) from n) ⌝ }
 {
     if 1 <= n {
         if n <= 8 {
-            if from + 8 <= tape.len() {
-                return text_rules::lanes::is_plain(output::word_at(tape, from), n);
-            }
+            return text_rules::lanes::is_plain(output::word_at(tape, from), n);
         }
     }
     false
@@ -123,7 +121,7 @@ fn plain_at(tape: &[u8], from: usize, n: usize) -> bool
 fn write_name(buf: &mut [u8], pos: usize, tape: &[u8], at: usize, end: usize) -> Step
     requires { ⌜ pos ≤ limit ⌝ }
     requires { ⌜ at ≤ end ⌝ }
-    requires { ⌜ end ≤ length (now tape) ⌝ }
+    requires { ⌜ end + 8 ≤ length (now tape) ⌝ }
     requires { ⌜ nameOf Struct (part (now tape) at end) ≡ some (nameIn Struct (part (now tape) at end), taken (nameOf Struct (part (now tape) at end))) ⌝ }
     ensures text { λ r. ⌜ Wrote (now (buf .entry)) (now (buf .exit)) pos (r .pos) (nameText (nameIn Struct (part (now (tape .entry)) at end))) ⌝ }
     ensures place { λ r. ⌜ r .at ≡ at + taken (nameOf Struct (part (now (tape .entry)) at end)) ⌝ }
@@ -163,7 +161,7 @@ fn encode_field_name(
 ) -> Step
     requires { ⌜ pos ≤ limit ⌝ }
     requires { ⌜ at ≤ end ⌝ }
-    requires { ⌜ end ≤ length (now tape) ⌝ }
+    requires { ⌜ end + 8 ≤ length (now tape) ⌝ }
     requires { ⌜ nameOf frame (part (now tape) at end) ≡ some (nameIn frame (part (now tape) at end), taken (nameOf frame (part (now tape) at end))) ⌝ }
     ensures text { λ r. ⌜ Wrote (now (buf .entry)) (now (buf .exit)) pos (r .pos) (nameText (nameIn frame (part (now (tape .entry)) at end))) ⌝ }
     ensures place { λ r. ⌜ r .at ≡ at + taken (nameOf frame (part (now (tape .entry)) at end)) ⌝ }
@@ -238,7 +236,7 @@ fn write_front(
 ) -> Step
     requires { ⌜ pos ≤ limit ⌝ }
     requires { ⌜ at ≤ end ⌝ }
-    requires { ⌜ end ≤ length (now tape) ⌝ }
+    requires { ⌜ end + 8 ≤ length (now tape) ⌝ }
     requires { ⌜ headOf frame (part (now tape) at end) ≡ some (headAt frame (part (now tape) at end), taken (headOf frame (part (now tape) at end))) ⌝ }
     requires { ⌜ at + taken (headOf frame (part (now tape) at end)) < end ⌝ }
     ensures text { λ r. ⌜ Wrote (now (buf .entry)) (now (buf .exit)) pos (r .pos) (front layout width (headAt frame (part (now (tape .entry)) at end))) ⌝ }
@@ -288,7 +286,7 @@ fn write_ending(buf: &mut [u8], pos: usize, layout: u32, s: Separator, last: boo
 fn write_symbol(buf: &mut [u8], pos: usize, tape: &[u8], at: usize, end: usize) -> Step
     requires { ⌜ pos ≤ limit ⌝ }
     requires { ⌜ at ≤ end ⌝ }
-    requires { ⌜ end ≤ length (now tape) ⌝ }
+    requires { ⌜ end + 8 ≤ length (now tape) ⌝ }
     requires { ⌜ 0 < taken (scalarOf (part (now tape) at end)) ⌝ }
     requires { ⌜ getD (now tape) at 0 ≡ 6 ⌝ }
     ensures text { λ r. ⌜ Wrote (now (buf .entry)) (now (buf .exit)) pos (r .pos) (past (scalarOf (part (now (tape .entry)) at end)) [] (λ s n. scalarText s)) ⌝ }
@@ -314,7 +312,7 @@ fn write_symbol(buf: &mut [u8], pos: usize, tape: &[u8], at: usize, end: usize) 
 fn write_leaf(buf: &mut [u8], pos: usize, tape: &[u8], at: usize, end: usize) -> Step
     requires { ⌜ pos ≤ limit ⌝ }
     requires { ⌜ at ≤ end ⌝ }
-    requires { ⌜ end ≤ length (now tape) ⌝ }
+    requires { ⌜ end + 8 ≤ length (now tape) ⌝ }
     requires { ⌜ 0 < taken (scalarOf (part (now tape) at end)) ⌝ }
     ensures text { λ r. ⌜ Wrote (now (buf .entry)) (now (buf .exit)) pos (r .pos) (past (scalarOf (part (now (tape .entry)) at end)) [] (λ s n. scalarText s)) ⌝ }
     ensures place { λ r. ⌜ r .at ≡ at + taken (scalarOf (part (now (tape .entry)) at end)) ⌝ }
@@ -392,7 +390,7 @@ fn write_container(
     pos: usize,
 ) -> Step
     requires { ⌜ at ≤ end ⌝ }
-    requires { ⌜ end ≤ length (now tape) ⌝ }
+    requires { ⌜ end + 8 ≤ length (now tape) ⌝ }
     requires { ⌜ pos ≤ limit ⌝ }
     requires { ⌜ 2 * depth + width ≤ 128 ⌝ }
     requires { ⌜ problemAt depth (part (now tape) at end) ≡ 0 ⌝ }
@@ -422,7 +420,7 @@ fn write_value(
     pos: usize,
 ) -> Step
     requires { ⌜ at ≤ end ⌝ }
-    requires { ⌜ end ≤ length (now tape) ⌝ }
+    requires { ⌜ end + 8 ≤ length (now tape) ⌝ }
     requires { ⌜ pos ≤ limit ⌝ }
     requires { ⌜ 2 * depth + width ≤ 128 ⌝ }
     requires { ⌜ problemAt depth (part (now tape) at end) ≡ 0 ⌝ }
@@ -453,7 +451,7 @@ pub fn write_nodes(
     pos: usize,
 ) -> usize
     requires { ⌜ from ≤ end ⌝ }
-    requires { ⌜ end ≤ length (now tape) ⌝ }
+    requires { ⌜ end + 8 ≤ length (now tape) ⌝ }
     requires { ⌜ pos ≤ limit ⌝ }
     requires { ⌜ 2 * depth + width ≤ 130 ⌝ }
     requires { ⌜ walk depth frame (part (now tape) from end) .1 ≡ 0 ⌝ }

@@ -13,6 +13,7 @@ use Rattle.writer.specs.Steps.{ending, items}
 use Rattle.writer.proofs.Layouts.{deeper-most}
 use Rattle.writer.proofs.Turning.{head-here, turn-here}
 use Rattle.writer.proofs.Items.{items-turn, value-place, scalar-text, scalar-size, scalar-some, marker-text, marker-length, header-room, container}
+use Rattle.tape.proofs.Parts.{trailed}
 use borrow.Author.Needs.{needs}
 use borrow.Fn.Kinds.{In}
 use borrow.Fn.PlainCycle.{Measures, is, falls, and}
@@ -104,9 +105,9 @@ module _ (t : ℕ) where
       let l = c .before .before .loop in
       let nz = c .before .before .before .before .if1 .left in
       let lt = c .before .loop-test .taken in
-      let u = turn-here (a .depth) (a .frame) (now (a .tape)) (l .at) (a .end) nz lt (s .pre .1 .1 .0) (l .inv .1) in
-      let v = value-place (a .layout) (a .width) (a .depth - 1) (now (a .tape)) _ (a .end) (s .pre .1 .1 .0) (u .value) in
-      (wrote-bound (l .inv .2 .wrote), (l .inv .0, (s .pre .1 .1 .0, (head-here (a .depth) (a .frame) (now (a .tape)) (l .at) (a .end) nz lt (s .pre .1 .1 .0) (l .inv .1), v))))
+      let u = turn-here (a .depth) (a .frame) (now (a .tape)) (l .at) (a .end) nz lt (trailed (s .pre .1 .1 .0)) (l .inv .1) in
+      let v = value-place (a .layout) (a .width) (a .depth - 1) (now (a .tape)) _ (a .end) (trailed (s .pre .1 .1 .0)) (u .value) in
+      (wrote-bound (l .inv .2 .wrote), (l .inv .0, (s .pre .1 .1 .0, (head-here (a .depth) (a .frame) (now (a .tape)) (l .at) (a .end) nz lt (trailed (s .pre .1 .1 .0)) (l .inv .1), v))))
 
   nodes-sub-write-value : nodes-lts.Need-sub-write-value (nodes-calls t) (nodes-at t) nodes.Post Inv μ-loop
   nodes-sub-write-value c = search needs
@@ -118,7 +119,7 @@ module _ (t : ℕ) where
       let l = c .before .before .before .before .before .before .loop in
       let nz = c .before .before .before .before .before .before .before .before .if1 .left in
       let lt = c .before .before .before .before .before .loop-test .taken in
-      let u = turn-here (a .depth) (a .frame) (now (a .tape)) (l .at) (a .end) nz lt (s .pre .1 .1 .0) (l .inv .1) in
+      let u = turn-here (a .depth) (a .frame) (now (a .tape)) (l .at) (a .end) nz lt (trailed (s .pre .1 .1 .0)) (l .inv .1) in
       let f = c .before .before .before .write-front .ensures in
       let z = s .pre .0 in
       let m = s .pre .1 .1 .1 .1 .0 in
@@ -134,7 +135,7 @@ module _ (t : ℕ) where
       let l = c .before .before .before .before .before .before .before .before .before .before .before .before .before .before .loop in
       let nz = c .before .before .before .before .before .before .before .before .before .before .before .before .before .before .before .before .if1 .left in
       let lt = c .before .before .before .before .before .before .before .before .before .before .before .before .before .loop-test .taken in
-      let u = turn-here (a .depth) (a .frame) (now (a .tape)) (l .at) (a .end) nz lt (s .pre .1 .1 .0) (l .inv .1) in
+      let u = turn-here (a .depth) (a .frame) (now (a .tape)) (l .at) (a .end) nz lt (trailed (s .pre .1 .1 .0)) (l .inv .1) in
       let f = c .before .before .before .before .before .before .before .before .before .before .before .write-front .ensures .1 in
       let v = rw f at (c .before .before .before .before .before .before .before .write-value .ensures .1) in
       let g = u .forth in
@@ -149,13 +150,13 @@ module _ (t : ℕ) where
       let l = c .before .before .before .before .before .before .before .before .before .before .before .before .before .before .loop in
       let nz = c .before .before .before .before .before .before .before .before .before .before .before .before .before .before .before .before .if1 .left in
       let lt = c .before .before .before .before .before .before .before .before .before .before .before .before .before .loop-test .taken in
-      let u = turn-here (a .depth) (a .frame) (now (a .tape)) (l .at) (a .end) nz lt (s .pre .1 .1 .0) (l .inv .1) in
+      let u = turn-here (a .depth) (a .frame) (now (a .tape)) (l .at) (a .end) nz lt (trailed (s .pre .1 .1 .0)) (l .inv .1) in
       let f = c .before .before .before .before .before .before .before .before .before .before .before .write-front .ensures in
       let v = rw (f .1) at (c .before .before .before .before .before .before .before .write-value .ensures) in
       let e = rw (v .1, c .before .before .before .before .before .before .before .before .before .before .before .before .before .before .before .separator-of .ensures) at (c .before .before .write-ending .ensures) in (
         rw (v .1) (u .behind),
         rw (v .1) (u .fine),
-        rw (v .1) (more (l .inv .2) (wrote-then (f .0) (wrote-then (v .0) e)) (items-turn (a .layout) (a .width) (a .depth) (a .frame) (now (a .tape)) (l .at) (a .end) nz lt (s .pre .1 .1 .0) (l .inv .1))),
+        rw (v .1) (more (l .inv .2) (wrote-then (f .0) (wrote-then (v .0) e)) (items-turn (a .layout) (a .width) (a .depth) (a .frame) (now (a .tape)) (l .at) (a .end) nz lt (trailed (s .pre .1 .1 .0)) (l .inv .1))),
       )
 
   nodes-same-length : nodes-lts.Need-same-length (nodes-calls t) (nodes-at t) nodes.Post Inv μ-loop
@@ -166,7 +167,7 @@ module _ (t : ℕ) where
   nodes-returns-2 c =
       let a = c .before .before .before .before .before .before .args in
       let l = c .before .loop in
-      let n = part-length (now (a .tape)) (l .at) (a .end) (c .before .before .before .before .before .before .pre .1 .1 .0) in
+      let n = part-length (now (a .tape)) (l .at) (a .end) (trailed (c .before .before .before .before .before .before .pre .1 .1 .0)) in
       let z = c .loop-test .left in
       finish (l .inv .2) (ap (λ (w : Walked). items (a .layout) (a .frame) (a .width) (w .0)) (walk-end (a .frame) (a .depth) _ (c .before .before .before .if1 .left) (omega arith)))
 
@@ -178,7 +179,7 @@ module _ (t : ℕ) where
       let a = s .args in
       let i = s .pre .1 .1 .0 in
       let z = s .pre .1 .1 .1 .1 .1 in
-      let p = value-place (a .layout) (a .width) (a .depth) (now (a .tape)) (a .at) (a .end) i z in
+      let p = value-place (a .layout) (a .width) (a .depth) (now (a .tape)) (a .at) (a .end) (trailed i) z in
       omega arith
 
   value-write-leaf-requires : value-lts.Need-write-leaf-requires (value-calls t) (value-at t) value.Post
@@ -187,7 +188,7 @@ module _ (t : ℕ) where
       let a = s .args in
       let i = s .pre .1 .1 .0 in
       let z = s .pre .1 .1 .1 .1 .1 in
-      (s .pre .1 .1 .1 .0, (s .pre .1 .0, (i, scalar-some (a .layout) (a .width) (a .depth) (now (a .tape)) (a .at) (a .end) i z (c .before .if1 .taken))))
+      (s .pre .1 .1 .1 .0, (s .pre .1 .0, (i, scalar-some (a .layout) (a .width) (a .depth) (now (a .tape)) (a .at) (a .end) (trailed i) z (c .before .if1 .taken))))
 
   value-same-length : value-lts.Need-same-length (value-calls t) (value-at t) value.Post
   value-same-length c = search needs
@@ -199,7 +200,7 @@ module _ (t : ℕ) where
       let i = s .pre .1 .1 .0 in
       let z = s .pre .1 .1 .1 .1 .1 in
       let h = c .before .before .before .before .if1 .taken in
-      (rw (scalar-text (a .layout) (a .width) (a .depth) (now (a .tape)) (a .at) (a .end) i z h) (c .before .before .write-leaf .ensures .0), rw (scalar-size (a .layout) (a .width) (a .depth) (now (a .tape)) (a .at) (a .end) i z h) (c .before .before .write-leaf .ensures .1))
+      (rw (scalar-text (a .layout) (a .width) (a .depth) (now (a .tape)) (a .at) (a .end) (trailed i) z h) (c .before .before .write-leaf .ensures .0), rw (scalar-size (a .layout) (a .width) (a .depth) (now (a .tape)) (a .at) (a .end) (trailed i) z h) (c .before .before .write-leaf .ensures .1))
 
   value-write-marker-requires : value-lts.Need-write-marker-requires (value-calls t) (value-at t) value.Post
   value-write-marker-requires c κs = c .before .before .before .before .before .before .pre .1 .1 .1 .0
@@ -210,7 +211,7 @@ module _ (t : ℕ) where
       let a = s .args in
       let i = s .pre .1 .1 .0 in
       let z = s .pre .1 .1 .1 .1 .1 in
-      let p = value-place (a .layout) (a .width) (a .depth) (now (a .tape)) (a .at) (a .end) i z in
+      let p = value-place (a .layout) (a .width) (a .depth) (now (a .tape)) (a .at) (a .end) (trailed i) z in
       let k = c .before .before .before .before .before .before .before .before .shared-slice-known .given in
       omega arith
 
@@ -224,7 +225,7 @@ module _ (t : ℕ) where
       let i = s .pre .1 .1 .0 in
       let z = s .pre .1 .1 .1 .1 .1 in
       let h = c .before .before .before .before .if2 .taken in
-      (rw (marker-text (a .layout) (a .width) (a .depth) (now (a .tape)) (a .at) (a .end) i z h) (c .before .before .write-marker .ensures), rw (marker-length (a .layout) (a .width) (a .depth) (now (a .tape)) (a .at) (a .end) i z h))
+      (rw (marker-text (a .layout) (a .width) (a .depth) (now (a .tape)) (a .at) (a .end) (trailed i) z h) (c .before .before .write-marker .ensures), rw (marker-length (a .layout) (a .width) (a .depth) (now (a .tape)) (a .at) (a .end) (trailed i) z h))
 
   value-write-container-requires : value-lts.Need-write-container-requires (value-calls t) (value-at t) value.Post
   value-write-container-requires c κs =
@@ -252,7 +253,7 @@ module _ (t : ℕ) where
       let z = s .pre .1 .1 .1 .1 .1 .0 in
       let h = s .pre .1 .1 .1 .1 .1 .1 .0 in
       let m = s .pre .1 .1 .1 .1 .1 .1 .1 in
-      let r = header-room (a .layout) (a .width) (a .depth) (now (a .tape)) (a .at) (a .end) i z h m in
+      let r = header-room (a .layout) (a .width) (a .depth) (now (a .tape)) (a .at) (a .end) (trailed i) z h m in
       omega arith
 
   container-frame-of-requires : container-lts.Need-frame-of-requires (container-calls t) (container-at t) container-reads.Post
@@ -266,7 +267,7 @@ module _ (t : ℕ) where
       let z = s .pre .1 .1 .1 .1 .1 .0 in
       let h = s .pre .1 .1 .1 .1 .1 .1 .0 in
       let m = s .pre .1 .1 .1 .1 .1 .1 .1 in
-      let r = header-room (a .layout) (a .width) (a .depth) (now (a .tape)) (a .at) (a .end) i z h m in
+      let r = header-room (a .layout) (a .width) (a .depth) (now (a .tape)) (a .at) (a .end) (trailed i) z h m in
       let k = c .before .before .before .shared-slice-known .given in
       omega arith
 
@@ -278,7 +279,7 @@ module _ (t : ℕ) where
       let z = s .pre .1 .1 .1 .1 .1 .0 in
       let h = s .pre .1 .1 .1 .1 .1 .1 .0 in
       let m = s .pre .1 .1 .1 .1 .1 .1 .1 in
-      let r = header-room (a .layout) (a .width) (a .depth) (now (a .tape)) (a .at) (a .end) i z h m in
+      let r = header-room (a .layout) (a .width) (a .depth) (now (a .tape)) (a .at) (a .end) (trailed i) z h m in
       let k = c .before .before .before .shared-slice-known .given in
       omega arith
 
@@ -290,7 +291,7 @@ module _ (t : ℕ) where
       let z = s .pre .1 .1 .1 .1 .1 .0 in
       let h = s .pre .1 .1 .1 .1 .1 .1 .0 in
       let m = s .pre .1 .1 .1 .1 .1 .1 .1 in
-      let r = header-room (a .layout) (a .width) (a .depth) (now (a .tape)) (a .at) (a .end) i z h m in
+      let r = header-room (a .layout) (a .width) (a .depth) (now (a .tape)) (a .at) (a .end) (trailed i) z h m in
       omega arith
 
   container-add-stop : container-lts.Need-add-stop (container-calls t) (container-at t) container-reads.Post
@@ -301,8 +302,8 @@ module _ (t : ℕ) where
       let z = s .pre .1 .1 .1 .1 .1 .0 in
       let h = s .pre .1 .1 .1 .1 .1 .1 .0 in
       let m = s .pre .1 .1 .1 .1 .1 .1 .1 in
-      let r = header-room (a .layout) (a .width) (a .depth) (now (a .tape)) (a .at) (a .end) i z h m in
-      let q = container (a .layout) (a .width) (a .depth) (now (a .tape)) (a .at) (a .end) i z h m _ (c .before .frame-of .ensures) _ (c .u32-at .ensures .0) in
+      let r = header-room (a .layout) (a .width) (a .depth) (now (a .tape)) (a .at) (a .end) (trailed i) z h m in
+      let q = container (a .layout) (a .width) (a .depth) (now (a .tape)) (a .at) (a .end) (trailed i) z h m _ (c .before .frame-of .ensures) _ (c .u32-at .ensures .0) in
       let k = c .before .before .before .before .shared-slice-known .given in
       let o = q .room in
       omega arith
@@ -321,8 +322,8 @@ module _ (t : ℕ) where
       let z = s .pre .1 .1 .1 .1 .1 .0 in
       let h = s .pre .1 .1 .1 .1 .1 .1 .0 in
       let m = s .pre .1 .1 .1 .1 .1 .1 .1 in
-      let r = header-room (a .layout) (a .width) (a .depth) (now (a .tape)) (a .at) (a .end) i z h m in
-      let q = container (a .layout) (a .width) (a .depth) (now (a .tape)) (a .at) (a .end) i z h m _ (c .before .before .before .before .before .before .before .frame-of .ensures) _ (c .before .before .before .before .before .before .u32-at .ensures .0) in
+      let r = header-room (a .layout) (a .width) (a .depth) (now (a .tape)) (a .at) (a .end) (trailed i) z h m in
+      let q = container (a .layout) (a .width) (a .depth) (now (a .tape)) (a .at) (a .end) (trailed i) z h m _ (c .before .before .before .before .before .before .before .frame-of .ensures) _ (c .before .before .before .before .before .before .u32-at .ensures .0) in
       let y = s .pre .0 in
       let o = q .room in
       let b = s .pre .1 .1 .1 .1 .0 in
@@ -344,8 +345,8 @@ module _ (t : ℕ) where
       let z = s .pre .1 .1 .1 .1 .1 .0 in
       let h = s .pre .1 .1 .1 .1 .1 .1 .0 in
       let m = s .pre .1 .1 .1 .1 .1 .1 .1 in
-      let r = header-room (a .layout) (a .width) (a .depth) (now (a .tape)) (a .at) (a .end) i z h m in
-      let q = container (a .layout) (a .width) (a .depth) (now (a .tape)) (a .at) (a .end) i z h m _ (c .before .before .before .before .before .before .before .before .before .before .before .before .before .before .frame-of .ensures) _ (c .before .before .before .before .before .before .before .before .before .before .before .before .before .u32-at .ensures .0) in
+      let r = header-room (a .layout) (a .width) (a .depth) (now (a .tape)) (a .at) (a .end) (trailed i) z h m in
+      let q = container (a .layout) (a .width) (a .depth) (now (a .tape)) (a .at) (a .end) (trailed i) z h m _ (c .before .before .before .before .before .before .before .before .before .before .before .before .before .before .frame-of .ensures) _ (c .before .before .before .before .before .before .before .before .before .before .before .before .before .u32-at .ensures .0) in
       let b = rw (c .before .before .before .before .before .before .before .before .indentation .ensures) at (c .before .before .before .before .before .before .write-nodes .ensures) in
       (rw (q .written) (wrote-then (wrote-then (c .before .before .before .before .before .before .before .before .before .before .before .write-start .ensures) b) (c .before .before .write-close .ensures)), q .place)
 

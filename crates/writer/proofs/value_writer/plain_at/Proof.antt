@@ -8,9 +8,6 @@ use borrow.Author.Needs.{needs}
 use Rattle.writer.proofs.value_writer.plain_at.Statement.{statement}
 use Rattle.writer.proofs.value_writer.plain_at.Tie as tie
 
-add-if3 : tie.Need-add-if3
-add-if3 c = search needs
-
 word-at-requires : tie.Need-word-at-requires
 word-at-requires c κs = search needs
 
@@ -19,8 +16,9 @@ is-plain-requires c κs = search needs
 
 returns : tie.Need-returns
 returns c e =
-    let a = c .before .before .before .before .before .before .args in
-    plain-word (now (a .tape)) (a .from) (a .n) _ (c .before .word-at .ensures) (c .before .before .before .if2 .taken) (c .before .before .if3 .taken) (c .is-plain .ensures e)
+    let s = c .before .before .before .before .before in
+    let a = s .args in
+    plain-word (now (a .tape)) (a .from) (a .n) _ (c .before .word-at .ensures) (c .before .before .if2 .taken) (s .pre) (c .is-plain .ensures e)
 
 returns-2 : tie.Need-returns-2
 returns-2 c e = let z : _≡_ {A = ℕ} 0 1 = cc in absurd (omega arith)
@@ -28,17 +26,12 @@ returns-2 c e = let z : _≡_ {A = ℕ} 0 1 = cc in absurd (omega arith)
 returns-3 : tie.Need-returns-3
 returns-3 c e = let z : _≡_ {A = ℕ} 0 1 = cc in absurd (omega arith)
 
-returns-4 : tie.Need-returns-4
-returns-4 c e = let z : _≡_ {A = ℕ} 0 1 = cc in absurd (omega arith)
-
 pub plain-at-spec : {M : Type 1} → statement M
 plain-at-spec =
     tie.close
     (tie.spec
-    add-if3
     word-at-requires
     is-plain-requires
     returns
     returns-2
-    returns-3
-    returns-4)
+    returns-3)

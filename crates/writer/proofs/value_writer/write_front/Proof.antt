@@ -8,6 +8,7 @@ use Rattle.output.proofs.Laws.{wrote-none, wrote-then, wrote-bound}
 use Rattle.tape.specs.Steps.{placeOf}
 use Rattle.tape.proofs.CodeReading.{head-one}
 use Rattle.writer.proofs.Notes.{front-parts, name-there, name-placed, notes-placed, name-before, bare-place, bare-front}
+use Rattle.tape.proofs.Parts.{trailed}
 use borrow.Author.Needs.{needs}
 use Rattle.writer.proofs.value_writer.write_front.Statement.{statement}
 use Rattle.writer.proofs.value_writer.write_front.Tie as tie
@@ -49,7 +50,7 @@ notes-end-requires c κs =
     let a = s .args in
     let b = name-before (a .frame) (now (a .tape)) (a .at) (a .end) (s .pre .1 .1 .1 .0) _ (c .before .before .before .before .encode-field-name .ensures .1) in
     let u = s .pre .1 .1 .1 .1 in
-    (omega arith, s .pre .1 .1 .0)
+    (omega arith, trailed (s .pre .1 .1 .0))
 
 enum-known-value : tie.Need-enum-known-value
 enum-known-value c = search needs
@@ -75,7 +76,7 @@ write-notes-requires c κs =
     let a = s .args in
     let b = name-before (a .frame) (now (a .tape)) (a .at) (a .end) (s .pre .1 .1 .1 .0) _ (c .before .before .before .before .before .before .before .before .before .before .encode-field-name .ensures .1) in
     let u = s .pre .1 .1 .1 .1 in
-    (wrote-bound (c .before .before .before .before .before .before .before .before .before .before .encode-field-name .ensures .0), (omega arith, (s .pre .1 .1 .0, sym (c .before .before .before .before .before .notes-end .ensures) ∙ c .before .before .before .value .given .1)))
+    (wrote-bound (c .before .before .before .before .before .before .before .before .before .before .encode-field-name .ensures .0), (omega arith, (trailed (s .pre .1 .1 .0), sym (c .before .before .before .before .before .notes-end .ensures) ∙ c .before .before .before .value .given .1)))
 
 same-length-3 : tie.Need-same-length-3
 same-length-3 c = search needs

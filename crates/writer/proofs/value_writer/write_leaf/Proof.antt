@@ -15,6 +15,7 @@ use Rattle.tape.proofs.Reading.{scalar-sound}
 use Rattle.tape.proofs.CodeReading.{place-within}
 use Rattle.writer.specs.Text.{scalarText}
 use Rattle.writer.proofs.Leaves.{leaf-place, int-leaf, decimal-leaf, timestamp-leaf, string-leaf}
+use Rattle.tape.proofs.Parts.{trailed}
 use borrow.Author.Needs.{needs}
 use Rattle.writer.proofs.value_writer.write_leaf.Statement.{statement}
 use Rattle.writer.proofs.value_writer.write_leaf.Tie as tie
@@ -23,7 +24,7 @@ shared-slice-read-k : tie.Need-shared-slice-read-k
 shared-slice-read-k c =
     let s = c .before .before .before in
     let a = s .args in
-    let r = leaf-place (now (a .tape)) (a .at) (a .end) (s .pre .1 .0) (s .pre .1 .1 .0) (s .pre .1 .1 .1) in
+    let r = leaf-place (now (a .tape)) (a .at) (a .end) (s .pre .1 .0) (trailed (s .pre .1 .1 .0)) (s .pre .1 .1 .1) in
     let k = s .pre .1 .1 .0 in
     omega arith
 
@@ -31,7 +32,7 @@ int-of-requires : tie.Need-int-of-requires
 int-of-requires c κs =
     let s = c .before .before .before .before .before in
     let a = s .args in
-    let r = int-leaf (now (a .tape)) (a .at) (a .end) (s .pre .1 .0) (s .pre .1 .1 .0) (s .pre .1 .1 .1) (c .before .if1 .taken) .room in
+    let r = int-leaf (now (a .tape)) (a .at) (a .end) (s .pre .1 .0) (trailed (s .pre .1 .1 .0)) (s .pre .1 .1 .1) (c .before .if1 .taken) .room in
     let k = s .pre .1 .1 .0 in
     omega arith
 
@@ -49,7 +50,7 @@ unfolding scalarText
 returns c =
     let s = c .before .before .before .before .before .before .before .before .before in
     let a = s .args in
-    let q = int-leaf (now (a .tape)) (a .at) (a .end) (s .pre .1 .0) (s .pre .1 .1 .0) (s .pre .1 .1 .1) (c .before .before .before .before .before .if1 .taken) in
+    let q = int-leaf (now (a .tape)) (a .at) (a .end) (s .pre .1 .0) (trailed (s .pre .1 .1 .0)) (s .pre .1 .1 .1) (c .before .before .before .before .before .if1 .taken) in
     let z = c .before .before .before .int-of .result in
     let k : SFits w64 z = search needs in
     (rw (q .read) (rw (toZ-ofZ w64 z k, c .before .before .before .int-of .ensures) at (c .before .before .format-integer .ensures)), rw (q .read))
@@ -58,7 +59,7 @@ magnitude-of-requires : tie.Need-magnitude-of-requires
 magnitude-of-requires c κs =
     let s = c .before .before .before .before .before in
     let a = s .args in
-    let r = decimal-leaf (now (a .tape)) (a .at) (a .end) (s .pre .1 .0) (s .pre .1 .1 .0) (s .pre .1 .1 .1) (c .if2 .taken) .room in
+    let r = decimal-leaf (now (a .tape)) (a .at) (a .end) (s .pre .1 .0) (trailed (s .pre .1 .1 .0)) (s .pre .1 .1 .1) (c .if2 .taken) .room in
     let k = s .pre .1 .1 .0 in
     omega arith
 
@@ -66,7 +67,7 @@ exponent-of-requires : tie.Need-exponent-of-requires
 exponent-of-requires c κs =
     let s = c .before .before .before .before .before .before in
     let a = s .args in
-    let r = decimal-leaf (now (a .tape)) (a .at) (a .end) (s .pre .1 .0) (s .pre .1 .1 .0) (s .pre .1 .1 .1) (c .before .if2 .taken) .room in
+    let r = decimal-leaf (now (a .tape)) (a .at) (a .end) (s .pre .1 .0) (trailed (s .pre .1 .1 .0)) (s .pre .1 .1 .1) (c .before .if2 .taken) .room in
     let k = s .pre .1 .1 .0 in
     omega arith
 
@@ -77,7 +78,7 @@ shared-slice-read-format-text : tie.Need-shared-slice-read-format-text
 shared-slice-read-format-text c =
     let s = c .before .before .before .before .before .before .before .before .before in
     let a = s .args in
-    let r = decimal-leaf (now (a .tape)) (a .at) (a .end) (s .pre .1 .0) (s .pre .1 .1 .0) (s .pre .1 .1 .1) (c .before .before .before .before .if2 .taken) .room in
+    let r = decimal-leaf (now (a .tape)) (a .at) (a .end) (s .pre .1 .0) (trailed (s .pre .1 .1 .0)) (s .pre .1 .1 .1) (c .before .before .before .before .if2 .taken) .room in
     let k = s .pre .1 .1 .0 in
     omega arith
 
@@ -95,7 +96,7 @@ unfolding scalarText
 returns-2 c =
     let s = c .before .before .before .before .before .before .before .before .before .before .before .before in
     let a = s .args in
-    let q = decimal-leaf (now (a .tape)) (a .at) (a .end) (s .pre .1 .0) (s .pre .1 .1 .0) (s .pre .1 .1 .1) (c .before .before .before .before .before .before .before .if2 .taken) in
+    let q = decimal-leaf (now (a .tape)) (a .at) (a .end) (s .pre .1 .0) (trailed (s .pre .1 .1 .0)) (s .pre .1 .1 .1) (c .before .before .before .before .before .before .before .if2 .taken) in
     let z = c .before .before .before .before .before .exponent-of .result in
     let k : SFits w32 z = search needs in
     (rw (q .read) (rw (toZ-ofZ w32 z k, c .before .before .before .before .before .exponent-of .ensures, c .before .before .before .before .before .before .magnitude-of .ensures) at (c .before .before .format-text .ensures)), rw (q .read))
@@ -104,7 +105,7 @@ timestamp-of-requires : tie.Need-timestamp-of-requires
 timestamp-of-requires c κs =
     let s = c .before .before .before .before .before .before .before in
     let a = s .args in
-    let r = timestamp-leaf (now (a .tape)) (a .at) (a .end) (s .pre .1 .0) (s .pre .1 .1 .0) (s .pre .1 .1 .1) (c .before .if3 .taken) .room in
+    let r = timestamp-leaf (now (a .tape)) (a .at) (a .end) (s .pre .1 .0) (trailed (s .pre .1 .1 .0)) (s .pre .1 .1 .1) (c .before .if3 .taken) .room in
     let k = s .pre .1 .1 .0 in
     omega arith
 
@@ -122,7 +123,7 @@ unfolding scalarText
 returns-3 c =
     let s = c .before .before .before .before .before .before .before .before .before .before .before in
     let a = s .args in
-    let q = timestamp-leaf (now (a .tape)) (a .at) (a .end) (s .pre .1 .0) (s .pre .1 .1 .0) (s .pre .1 .1 .1) (c .before .before .before .before .before .if3 .taken) in
+    let q = timestamp-leaf (now (a .tape)) (a .at) (a .end) (s .pre .1 .0) (trailed (s .pre .1 .1 .0)) (s .pre .1 .1 .1) (c .before .before .before .before .before .if3 .taken) in
     (rw (q .read) (rw (c .before .before .before .timestamp-of .ensures) at (c .before .before .format .ensures)), rw (q .read))
 
 write-symbol-requires : tie.Need-write-symbol-requires
@@ -143,7 +144,7 @@ u32-at-requires : tie.Need-u32-at-requires
 u32-at-requires c κs =
     let s = c .before .before .before .before .before .before .before .before in
     let a = s .args in
-    let r = string-leaf (now (a .tape)) (a .at) (a .end) (s .pre .1 .0) (s .pre .1 .1 .0) (s .pre .1 .1 .1) _ refl (c .if5 .taken) .room in
+    let r = string-leaf (now (a .tape)) (a .at) (a .end) (s .pre .1 .0) (trailed (s .pre .1 .1 .0)) (s .pre .1 .1 .1) _ refl (c .if5 .taken) .room in
     let k = s .pre .1 .1 .0 in
     omega arith
 
@@ -151,8 +152,8 @@ write-string-requires : tie.Need-write-string-requires
 write-string-requires c κs =
     let s = c .before .before .before .before .before .before .before .before .before .before in
     let a = s .args in
-    let q = string-leaf (now (a .tape)) (a .at) (a .end) (s .pre .1 .0) (s .pre .1 .1 .0) (s .pre .1 .1 .1) _ (c .before .u32-at .ensures .0) (c .before .before .if5 .taken) in
-    (s .pre .0, (q .room, s .pre .1 .1 .0))
+    let q = string-leaf (now (a .tape)) (a .at) (a .end) (s .pre .1 .0) (trailed (s .pre .1 .1 .0)) (s .pre .1 .1 .1) _ (c .before .u32-at .ensures .0) (c .before .before .if5 .taken) in
+    (s .pre .0, (q .room, trailed (s .pre .1 .1 .0)))
 
 add-t36 : tie.Need-add-t36
 add-t36 c = search needs
@@ -168,7 +169,7 @@ unfolding scalarText
 returns-5 c =
     let s = c .before .before .before .before .before .before .before .before .before .before .before .before .before in
     let a = s .args in
-    let q = string-leaf (now (a .tape)) (a .at) (a .end) (s .pre .1 .0) (s .pre .1 .1 .0) (s .pre .1 .1 .1) _ (c .before .before .before .before .u32-at .ensures .0) (c .before .before .before .before .before .if5 .taken) in
+    let q = string-leaf (now (a .tape)) (a .at) (a .end) (s .pre .1 .0) (trailed (s .pre .1 .1 .0)) (s .pre .1 .1 .1) _ (c .before .before .before .before .u32-at .ensures .0) (c .before .before .before .before .before .if5 .taken) in
     (rw (q .read) (c .before .before .write-string .ensures), rw (q .read))
 
 scalar-at-requires : tie.Need-scalar-at-requires
@@ -192,15 +193,15 @@ write-scalar-requires c κs =
     let s = c .before .before .before .before .before .before .before .before .before .before .before .before .before in
     let a = s .args in
     let e = sym (rw (c .before .before .s .given .1) at (c .before .before .before .before .scalar-at .ensures)) in
-    let r = place-within encodeScalar (now (a .tape)) (a .at) (a .end) _ (scalarOf (part (now (a .tape)) (a .at) (a .end))) (s .pre .1 .0) (s .pre .1 .1 .0) (scalar-sound _) (ap (placeOf (a .at)) e) .1 in
-    (s .pre .0, (r, s .pre .1 .1 .0))
+    let r = place-within encodeScalar (now (a .tape)) (a .at) (a .end) _ (scalarOf (part (now (a .tape)) (a .at) (a .end))) (s .pre .1 .0) (trailed (s .pre .1 .1 .0)) (scalar-sound _) (ap (placeOf (a .at)) e) .1 in
+    (s .pre .0, (r, trailed (s .pre .1 .1 .0)))
 
 size-of-requires : tie.Need-size-of-requires
 size-of-requires c κs =
     let s = c .before .before .before .before .before .before .before .before .before .before .before .before .before .before .before .before in
     let a = s .args in
     let e = sym (rw (c .before .before .before .before .before .s .given .1) at (c .before .before .before .before .before .before .before .scalar-at .ensures)) in
-    let r = place-within encodeScalar (now (a .tape)) (a .at) (a .end) _ (scalarOf (part (now (a .tape)) (a .at) (a .end))) (s .pre .1 .0) (s .pre .1 .1 .0) (scalar-sound _) (ap (placeOf (a .at)) e) .1 in
+    let r = place-within encodeScalar (now (a .tape)) (a .at) (a .end) _ (scalarOf (part (now (a .tape)) (a .at) (a .end))) (s .pre .1 .0) (trailed (s .pre .1 .1 .0)) (scalar-sound _) (ap (placeOf (a .at)) e) .1 in
     let k = s .pre .1 .1 .0 in
     let l = c .before .before .before .before .before .before .before .before .before .before .before .before .before .before .shared-slice-known .given in
     omega arith
@@ -210,7 +211,7 @@ add-t44 c =
     let s = c .before .before .before .before .before .before .before .before .before .before .before .before .before .before .before .before .before in
     let a = s .args in
     let e = sym (rw (c .before .before .before .before .before .before .s .given .1) at (c .before .before .before .before .before .before .before .before .scalar-at .ensures)) in
-    let r = place-within encodeScalar (now (a .tape)) (a .at) (a .end) _ (scalarOf (part (now (a .tape)) (a .at) (a .end))) (s .pre .1 .0) (s .pre .1 .1 .0) (scalar-sound _) (ap (placeOf (a .at)) e) .1 in
+    let r = place-within encodeScalar (now (a .tape)) (a .at) (a .end) _ (scalarOf (part (now (a .tape)) (a .at) (a .end))) (s .pre .1 .0) (trailed (s .pre .1 .1 .0)) (scalar-sound _) (ap (placeOf (a .at)) e) .1 in
     let k = s .pre .1 .1 .0 in
     let l = c .before .before .before .before .before .before .before .before .before .before .before .before .before .before .before .shared-slice-known .given in
     let n = c .size-of .ensures in

@@ -7,6 +7,7 @@ use Rattle.output.proofs.Laws.{wrote-then}
 use Rattle.writer.specs.Text.{symText, nameText}
 use Rattle.writer.proofs.Texts.{plain-text}
 use Rattle.writer.proofs.Leaves.{name-header, id-name, text-name}
+use Rattle.tape.proofs.Parts.{trailed}
 use borrow.Author.Needs.{needs}
 use Rattle.writer.proofs.value_writer.write_name.Statement.{statement}
 use Rattle.writer.proofs.value_writer.write_name.Tie as tie
@@ -18,7 +19,7 @@ u32-at-requires : tie.Need-u32-at-requires
 u32-at-requires c κs =
     let s = c .before .before in
     let a = s .args in
-    let h = name-header (now (a .tape)) (a .at) (a .end) (s .pre .1 .0) (s .pre .1 .1 .0) (s .pre .1 .1 .1) in
+    let h = name-header (now (a .tape)) (a .at) (a .end) (s .pre .1 .0) (trailed (s .pre .1 .1 .0)) (s .pre .1 .1 .1) in
     let k = s .pre .1 .1 .0 in
     omega arith
 
@@ -26,7 +27,7 @@ shared-slice-read-if1 : tie.Need-shared-slice-read-if1
 shared-slice-read-if1 c =
     let s = c .before .before .before .before in
     let a = s .args in
-    let h = name-header (now (a .tape)) (a .at) (a .end) (s .pre .1 .0) (s .pre .1 .1 .0) (s .pre .1 .1 .1) in
+    let h = name-header (now (a .tape)) (a .at) (a .end) (s .pre .1 .0) (trailed (s .pre .1 .1 .0)) (s .pre .1 .1 .1) in
     let k = s .pre .1 .1 .0 in
     omega arith
 
@@ -50,7 +51,7 @@ unfolding nameText symText
 returns c =
     let s = c .before .before .before .before .before .before .before .before .before .before .before .before .before in
     let a = s .args in
-    let q = id-name (now (a .tape)) (a .at) (a .end) (s .pre .1 .0) (s .pre .1 .1 .0) (s .pre .1 .1 .1) _ (c .before .before .before .before .before .before .before .before .before .before .u32-at .ensures .0) (c .before .before .before .before .before .before .before .before .if1 .taken) in
+    let q = id-name (now (a .tape)) (a .at) (a .end) (s .pre .1 .0) (trailed (s .pre .1 .1 .0)) (s .pre .1 .1 .1) _ (c .before .before .before .before .before .before .before .before .before .before .u32-at .ensures .0) (c .before .before .before .before .before .before .before .before .if1 .taken) in
     (rw (q .read) (wrote-then (c .before .before .before .before .before .before .format-symbol-id .ensures) (c .before .before .write-colon .ensures)), rw (q .read))
 
 add-from : tie.Need-add-from
@@ -60,7 +61,7 @@ plain-at-requires : tie.Need-plain-at-requires
 plain-at-requires c κs =
     let s = c .before .before .before .before .before in
     let a = s .args in
-    let r = text-name (now (a .tape)) (a .at) (a .end) (s .pre .1 .0) (s .pre .1 .1 .0) (s .pre .1 .1 .1) _ (c .before .before .u32-at .ensures .0) (c .if1 .left) .room in
+    let r = text-name (now (a .tape)) (a .at) (a .end) (s .pre .1 .0) (trailed (s .pre .1 .1 .0)) (s .pre .1 .1 .1) _ (c .before .before .u32-at .ensures .0) (c .if1 .left) .room in
     let k = s .pre .1 .1 .0 in
     omega arith
 
@@ -84,7 +85,7 @@ unfolding nameText symText
 returns-2 c =
     let s = c .before .before .before .before .before .before .before .before .before .before .before .before .before .before .before .before in
     let a = s .args in
-    let q = text-name (now (a .tape)) (a .at) (a .end) (s .pre .1 .0) (s .pre .1 .1 .0) (s .pre .1 .1 .1) _ (c .before .before .before .before .before .before .before .before .before .before .before .before .before .u32-at .ensures .0) (c .before .before .before .before .before .before .before .before .before .before .before .if1 .left) in
+    let q = text-name (now (a .tape)) (a .at) (a .end) (s .pre .1 .0) (trailed (s .pre .1 .1 .0)) (s .pre .1 .1 .1) _ (c .before .before .before .before .before .before .before .before .before .before .before .before .before .u32-at .ensures .0) (c .before .before .before .before .before .before .before .before .before .before .before .if1 .left) in
     let p = plain-text (now (a .tape)) (a .at + 5) _ _ (c .before .before .before .before .before .before .before .word-at .ensures) (a .at) (a .end) refl (q .room) (c .before .before .before .before .before .before .before .before .before .before .plain-at .ensures (c .before .before .before .before .before .before .before .before .before .if2 .taken)) in
     (rw (q .read, p) (wrote-then (c .before .before .before .before .before .before .put-le .ensures) (c .before .before .write-colon2 .ensures)), rw (q .read) (omega arith))
 
@@ -92,8 +93,8 @@ write-symbol-text-requires : tie.Need-write-symbol-text-requires
 write-symbol-text-requires c κs =
     let s = c .before .before .before .before .before .before .before .before in
     let a = s .args in
-    let q = text-name (now (a .tape)) (a .at) (a .end) (s .pre .1 .0) (s .pre .1 .1 .0) (s .pre .1 .1 .1) _ (c .before .before .before .before .before .u32-at .ensures .0) (c .before .before .before .if1 .left) in
-    (s .pre .0, (q .room, s .pre .1 .1 .0))
+    let q = text-name (now (a .tape)) (a .at) (a .end) (s .pre .1 .0) (trailed (s .pre .1 .1 .0)) (s .pre .1 .1 .1) _ (c .before .before .before .before .before .u32-at .ensures .0) (c .before .before .before .if1 .left) in
+    (s .pre .0, (q .room, trailed (s .pre .1 .1 .0)))
 
 write-colon-requires-3 : tie.Need-write-colon-requires-3
 write-colon-requires-3 c κs = search needs
@@ -109,7 +110,7 @@ unfolding nameText symText
 returns-3 c =
     let s = c .before .before .before .before .before .before .before .before .before .before .before .before .before .before .before in
     let a = s .args in
-    let q = text-name (now (a .tape)) (a .at) (a .end) (s .pre .1 .0) (s .pre .1 .1 .0) (s .pre .1 .1 .1) _ (c .before .before .before .before .before .before .before .before .before .before .before .before .u32-at .ensures .0) (c .before .before .before .before .before .before .before .before .before .before .if1 .left) in
+    let q = text-name (now (a .tape)) (a .at) (a .end) (s .pre .1 .0) (trailed (s .pre .1 .1 .0)) (s .pre .1 .1 .1) _ (c .before .before .before .before .before .before .before .before .before .before .before .before .u32-at .ensures .0) (c .before .before .before .before .before .before .before .before .before .before .if1 .left) in
     (rw (q .read) (wrote-then (c .before .before .before .before .before .before .write-symbol-text .ensures) (c .before .before .write-colon3 .ensures)), rw (q .read) (omega arith))
 
 pub write-name-spec : {M : Type 1} → statement M

@@ -6,6 +6,7 @@ use denote.Ref.{now}
 use Rattle.writer.specs.Text.{symText, scalarText}
 use Rattle.writer.proofs.Texts.{plain-text}
 use Rattle.writer.proofs.Leaves.{symbol-leaf}
+use Rattle.tape.proofs.Parts.{trailed}
 use borrow.Author.Needs.{needs}
 use Rattle.writer.proofs.value_writer.write_symbol.Statement.{statement}
 use Rattle.writer.proofs.value_writer.write_symbol.Tie as tie
@@ -17,7 +18,7 @@ u32-at-requires : tie.Need-u32-at-requires
 u32-at-requires c κs =
     let s = c .before .before in
     let a = s .args in
-    let r = symbol-leaf (now (a .tape)) (a .at) (a .end) (s .pre .1 .0) (s .pre .1 .1 .0) (s .pre .1 .1 .1 .0) _ refl (s .pre .1 .1 .1 .1) .room in
+    let r = symbol-leaf (now (a .tape)) (a .at) (a .end) (s .pre .1 .0) (trailed (s .pre .1 .1 .0)) (s .pre .1 .1 .1 .0) _ refl (s .pre .1 .1 .1 .1) .room in
     let k = s .pre .1 .1 .0 in
     omega arith
 
@@ -28,7 +29,7 @@ plain-at-requires : tie.Need-plain-at-requires
 plain-at-requires c κs =
     let s = c .before .before .before in
     let a = s .args in
-    let r = symbol-leaf (now (a .tape)) (a .at) (a .end) (s .pre .1 .0) (s .pre .1 .1 .0) (s .pre .1 .1 .1 .0) _ (c .u32-at .ensures .0) (s .pre .1 .1 .1 .1) .room in
+    let r = symbol-leaf (now (a .tape)) (a .at) (a .end) (s .pre .1 .0) (trailed (s .pre .1 .1 .0)) (s .pre .1 .1 .1 .0) _ (c .u32-at .ensures .0) (s .pre .1 .1 .1 .1) .room in
     let k = s .pre .1 .1 .0 in
     omega arith
 
@@ -49,7 +50,7 @@ unfolding scalarText symText
 returns c =
     let s = c .before .before .before .before .before .before .before .before .before .before in
     let a = s .args in
-    let q = symbol-leaf (now (a .tape)) (a .at) (a .end) (s .pre .1 .0) (s .pre .1 .1 .0) (s .pre .1 .1 .1 .0) _ (c .before .before .before .before .before .before .before .u32-at .ensures .0) (s .pre .1 .1 .1 .1) in
+    let q = symbol-leaf (now (a .tape)) (a .at) (a .end) (s .pre .1 .0) (trailed (s .pre .1 .1 .0)) (s .pre .1 .1 .1 .0) _ (c .before .before .before .before .before .before .before .u32-at .ensures .0) (s .pre .1 .1 .1 .1) in
     let p = plain-text (now (a .tape)) (a .at + 5) _ _ (c .before .before .before .word-at .ensures) (a .at) (a .end) refl (q .room) (c .before .before .before .before .before .before .plain-at .ensures (c .before .before .before .before .before .if1 .taken)) in
     (rw (q .read, p) (c .before .before .put-le .ensures), rw (q .read) (omega arith))
 
@@ -57,8 +58,8 @@ write-symbol-text-requires : tie.Need-write-symbol-text-requires
 write-symbol-text-requires c κs =
     let s = c .before .before .before .before .before .before in
     let a = s .args in
-    let q = symbol-leaf (now (a .tape)) (a .at) (a .end) (s .pre .1 .0) (s .pre .1 .1 .0) (s .pre .1 .1 .1 .0) _ (c .before .before .before .u32-at .ensures .0) (s .pre .1 .1 .1 .1) in
-    (s .pre .0, (q .room, s .pre .1 .1 .0))
+    let q = symbol-leaf (now (a .tape)) (a .at) (a .end) (s .pre .1 .0) (trailed (s .pre .1 .1 .0)) (s .pre .1 .1 .1 .0) _ (c .before .before .before .u32-at .ensures .0) (s .pre .1 .1 .1 .1) in
+    (s .pre .0, (q .room, trailed (s .pre .1 .1 .0)))
 
 add-t11 : tie.Need-add-t11
 add-t11 c = search needs
@@ -71,7 +72,7 @@ unfolding scalarText symText
 returns-2 c =
     let s = c .before .before .before .before .before .before .before .before .before in
     let a = s .args in
-    let q = symbol-leaf (now (a .tape)) (a .at) (a .end) (s .pre .1 .0) (s .pre .1 .1 .0) (s .pre .1 .1 .1 .0) _ (c .before .before .before .before .before .before .u32-at .ensures .0) (s .pre .1 .1 .1 .1) in
+    let q = symbol-leaf (now (a .tape)) (a .at) (a .end) (s .pre .1 .0) (trailed (s .pre .1 .1 .0)) (s .pre .1 .1 .1 .0) _ (c .before .before .before .before .before .before .u32-at .ensures .0) (s .pre .1 .1 .1 .1) in
     (rw (q .read) (c .before .before .write-symbol-text .ensures), rw (q .read) (omega arith))
 
 pub write-symbol-spec : {M : Type 1} → statement M

@@ -42,7 +42,11 @@ sub-end : tie.Need-sub-end
 sub-end c = verdict-told (now (c .before .before .before .before .before .before .before .args .tape)) (sym (c .before .before .before .check-tape .ensures .fault) ∙ c .before .if2 .left) .least
 
 write-nodes-requires : tie.Need-write-nodes-requires
-write-nodes-requires c κs = (omega arith, (omega arith, (omega arith, (omega arith, fine-walked (now (c .before .before .before .before .before .before .before .before .args .tape)) (sym (c .before .before .before .before .check-tape .ensures .fault) ∙ c .before .before .if2 .left)))))
+write-nodes-requires c κs =
+    let t = now (c .before .before .before .before .before .before .before .before .args .tape) in
+    let e = sym (c .before .before .before .before .check-tape .ensures .fault) ∙ c .before .before .if2 .left in
+    let m = verdict-told t e .least in
+    (omega arith, (omega arith, (omega arith, (omega arith, fine-walked t e))))
 
 same-length : tie.Need-same-length
 same-length c = search needs
