@@ -1,10 +1,11 @@
 -- What the tests of a word's bytes say: each is one test over the 256 bytes, and then every byte of a text passes it. Assumes nothing.
-use mathlib.Core.Path.{_≡_, refl, sym, ap, _∙_}
+use mathlib.Core.Path.{_≡_, refl, sym, ap, subst, _∙_}
 use mathlib.Core.Bool.{Bool, true, false, _&&_, _||_, not}
 use mathlib.Core.List.{List, [], _∷_, _++_, append-nil}
 use mathlib.Core.Option.{none}
 use Prim.Native.Nat.{ℕ, zero, suc, _+_, _-_, _*_, _/_, _%_, _^_, _≤_, _<_}
 use native.Mathlib.Nat.{mod-one, pow-suc}
+use native.Mathlib.Decide.{decLe}
 use native.Mathlib.Omega.{arith}
 use lib.Arith.{mod-mul}
 use lib.Bits.{bitAnd, bitOr, bitXor}
@@ -289,3 +290,30 @@ keyword-5 x = rw (other-length (ascii "true") 5 x (λ (e : 5 ≡ 4). omega arith
 pub keyword-none : (n x : ℕ) → (n ≡ 3 → ⊥) → (n ≡ 4 → ⊥) → (n ≡ 5 → ⊥) → isKeyword (leBytes n x) ≡ false
 unfolding isKeyword
 keyword-none n x h3 h4 h5 = rw (other-length (ascii "true") n x h4, other-length (ascii "false") n x h5, other-length (ascii "nan") n x h3, other-length (ascii "null") n x h4)
+
+-- the lengths of keywords
+by-length : (P : ℕ → Type 0) (n : ℕ) → 3 ≤ n → n ≤ 5 → P 3 → P 4 → P 5 → P n
+by-length P n l h p3 p4 p5 = go (decLe n 3) (decLe n 4)
+  where
+    go : Dec (n ≤ 3) → Dec (n ≤ 4) → P n
+    go (yes a) d = let e : 3 ≡ n = omega arith in subst P e p3
+    go (no a) (yes b) = let e : 4 ≡ n = omega arith in subst P e p4
+    go (no a) (no b) = let e : 5 ≡ n = omega arith in subst P e p5
+
+-- what n bytes are whose number is that of a keyword, or of none
+module _ (x n : ℕ) (l : 3 ≤ n) (h : n ≤ 5) where
+  pub keyword-true : x % 256 ^ n ≡ 0x65757274 → eqb n 4 ≡ isKeyword (leBytes n x)
+  keyword-true = by-length (λ k. x % 256 ^ k ≡ 0x65757274 → eqb k 4 ≡ isKeyword (leBytes k x)) n l h (λ e. absurd (omega arith)) (λ e. sym (keyword-4 x ∙ rw e)) (λ e. sym (keyword-5 x ∙ rw e))
+
+  pub keyword-null : x % 256 ^ n ≡ 0x6C6C756E → eqb n 4 ≡ isKeyword (leBytes n x)
+  keyword-null = by-length (λ k. x % 256 ^ k ≡ 0x6C6C756E → eqb k 4 ≡ isKeyword (leBytes k x)) n l h (λ e. absurd (omega arith)) (λ e. sym (keyword-4 x ∙ rw e)) (λ e. sym (keyword-5 x ∙ rw e))
+
+  pub keyword-nan : x % 256 ^ n ≡ 0x6E616E → eqb n 3 ≡ isKeyword (leBytes n x)
+  keyword-nan = by-length (λ k. x % 256 ^ k ≡ 0x6E616E → eqb k 3 ≡ isKeyword (leBytes k x)) n l h (λ e. sym (keyword-3 x ∙ rw e)) (λ e. sym (keyword-4 x ∙ rw e)) (λ e. sym (keyword-5 x ∙ rw e))
+
+  pub keyword-false : x % 256 ^ n ≡ 0x65736C6166 → eqb n 5 ≡ isKeyword (leBytes n x)
+  keyword-false = by-length (λ k. x % 256 ^ k ≡ 0x65736C6166 → eqb k 5 ≡ isKeyword (leBytes k x)) n l h (λ e. absurd (omega arith)) (λ e. absurd (omega arith)) (λ e. sym (keyword-5 x ∙ rw e))
+
+  pub keyword-other : (x % 256 ^ n ≡ 0x65757274 → ⊥) → (x % 256 ^ n ≡ 0x6C6C756E → ⊥) → (x % 256 ^ n ≡ 0x6E616E → ⊥) → (x % 256 ^ n ≡ 0x65736C6166 → ⊥) → isKeyword (leBytes n x) ≡ false
+  keyword-other = by-length (λ k. (x % 256 ^ k ≡ 0x65757274 → ⊥) → (x % 256 ^ k ≡ 0x6C6C756E → ⊥) → (x % 256 ^ k ≡ 0x6E616E → ⊥) → (x % 256 ^ k ≡ 0x65736C6166 → ⊥) → isKeyword (leBytes k x) ≡ false) n l h
+      (λ t u a f. keyword-3 x ∙ ne-eqb _ _ a) (λ t u a f. keyword-4 x ∙ rw (ne-eqb _ _ t, ne-eqb _ _ u)) (λ t u a f. keyword-5 x ∙ ne-eqb _ _ f)

@@ -1,6 +1,6 @@
 // Tests of the bytes of a word side by side: up to eight bytes at once, the lowest first. A mark is the high bit of a byte's place. Each test
 // may say no too often, never yes too often, unless it says otherwise.
-ghost use Prim.Native.Nat.{_%_, _≤_};
+ghost use Prim.Native.Nat.{_%_, _≤_, _-_, _*_, _^_};
 ghost use mathlib.Core.Path.{_≡_};
 ghost use mathlib.Core.Bool.{true};
 ghost use Rattle.output.specs.Wrote.{leBytes};
@@ -47,23 +47,42 @@ fn letters(x: u64) -> u64
         | !((z ^ 0x5F5F5F5F5F5F5F5F) + 0x7F7F7F7F7F7F7F7F)
 }
 
-// The n lowest bytes are true, false, nan or null, no more and no less.
+// All bits of the n lowest bytes, of which a keyword has three, four or five.
+fn low_bits(n: usize) -> u64
+    requires { ⌜ (3 ≤ n) × (n ≤ 5) ⌝ }
+    ensures { λ r. ⌜ r ≡ 2 ^ (8 * n) - 1 ⌝ }
+{
+    match n {
+        3 => 0xFFFFFF,
+        4 => 0xFFFFFFFF,
+        _ => 0xFFFFFFFFFF,
+    }
+}
+
+// The n lowest bytes are true, false, nan or null, no more and no less. The bytes come first and then their number, so that the compiler
+// keeps the word whole.
 pub fn is_keyword_word(x: u64, n: usize) -> bool
     requires { ⌜ (1 ≤ n) × (n ≤ 8) ⌝ }
     ensures { λ r. ⌜ r ≡ isKeyword (leBytes n x) ⌝ }
 {
-    if n == 4 {
-        let y = x % 4294967296;
-        if y == 0x65757274 {
-            return true;
-        }
-        return y == 0x6C6C756E;
+    if n < 3 {
+        return false;
     }
-    if n == 3 {
-        return x % 16777216 == 0x6E616E;
+    if 5 < n {
+        return false;
     }
-    if n == 5 {
-        return x % 1099511627776 == 0x65736C6166;
+    let y = x & low_bits(n);
+    if y == 0x65757274 {
+        return n == 4;
+    }
+    if y == 0x6C6C756E {
+        return n == 4;
+    }
+    if y == 0x6E616E {
+        return n == 3;
+    }
+    if y == 0x65736C6166 {
+        return n == 5;
     }
     false
 }
