@@ -8,7 +8,7 @@ use native.Mathlib.Nat.{mod-one, pow-suc}
 use native.Mathlib.Decide.{decLe}
 use native.Mathlib.Omega.{arith}
 use lib.Arith.{mod-mul}
-use lib.Bits.{bitAnd, bitOr, bitXor}
+use lib.Bits.{bitAnd, bitOr, bitXor, and-mask}
 use lib.Dec.{eqb, ltb, leb}
 use lib.ListN.{length, take, drop, take-append-drop, length-drop}
 use lib.Seq.{drop-drop, take-all, take-take}
@@ -16,7 +16,7 @@ use borrow.Author.Tests.{ltb-true, not-true, eq-eqb, ne-eqb}
 use Rattle.output.specs.Logic.{if, on, byte, ascii}
 use Rattle.output.specs.Wrote.{leBytes}
 use Rattle.output.proofs.Laws.{length-le}
-use Rattle.output.proofs.Words.{take-le}
+use Rattle.output.proofs.Words.{take-le, pow-bytes}
 use Rattle.text_rules.specs.Texts.{empty, starts, strip, same}
 use Rattle.text_rules.specs.Digits.{isDigit}
 use Rattle.text_rules.specs.Utf8.{charAt, after, valid}
@@ -290,6 +290,10 @@ keyword-5 x = rw (other-length (ascii "true") 5 x (λ (e : 5 ≡ 4). omega arith
 pub keyword-none : (n x : ℕ) → (n ≡ 3 → ⊥) → (n ≡ 4 → ⊥) → (n ≡ 5 → ⊥) → isKeyword (leBytes n x) ≡ false
 unfolding isKeyword
 keyword-none n x h3 h4 h5 = rw (other-length (ascii "true") n x h4, other-length (ascii "false") n x h5, other-length (ascii "nan") n x h3, other-length (ascii "null") n x h4)
+
+-- the n lowest bytes as a number
+pub masked : (x m n : ℕ) → m ≡ 2 ^ (8 * n) - 1 → bitAnd x m ≡ x % 256 ^ n
+masked x m n e = ap (bitAnd x) e ∙ and-mask x (8 * n) ∙ ap (λ (k : ℕ). x % k) (pow-bytes n)
 
 -- the lengths of keywords
 by-length : (P : ℕ → Type 0) (n : ℕ) → 3 ≤ n → n ≤ 5 → P 3 → P 4 → P 5 → P n

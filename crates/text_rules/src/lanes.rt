@@ -2,7 +2,7 @@
 // may say no too often, never yes too often, unless it says otherwise.
 ghost use Prim.Native.Nat.{_%_, _≤_, _-_, _*_, _^_};
 ghost use mathlib.Core.Path.{_≡_};
-ghost use mathlib.Core.Bool.{true};
+ghost use mathlib.Core.Bool.{true, false};
 ghost use Rattle.output.specs.Wrote.{leBytes};
 ghost use Rattle.text_rules.specs.Lanes.{rep, Lane, letterMark};
 ghost use Rattle.text_rules.specs.Utf8.{valid};
@@ -59,6 +59,30 @@ fn low_bits(n: usize) -> u64
     }
 }
 
+// False only where the n lowest bytes are no keyword. A short test, for `is_plain`, which is asked of every name.
+fn resembles_keyword(x: u64, n: usize) -> bool
+    requires { ⌜ (1 ≤ n) × (n ≤ 8) ⌝ }
+    ensures { λ r. ⌜ (r ≡ false → isKeyword (leBytes n x) ≡ false) ⌝ }
+{
+    if n < 3 {
+        return false;
+    }
+    if 5 < n {
+        return false;
+    }
+    let y = x & low_bits(n);
+    if y == 0x65757274 {
+        return true;
+    }
+    if y == 0x6C6C756E {
+        return true;
+    }
+    if y == 0x6E616E {
+        return true;
+    }
+    y == 0x65736C6166
+}
+
 // The n lowest bytes are true, false, nan or null, no more and no less. The bytes come first and then their number, so that the compiler
 // keeps the word whole.
 pub fn is_keyword_word(x: u64, n: usize) -> bool
@@ -95,7 +119,7 @@ pub fn is_plain(x: u64, n: usize) -> bool
     if (!letters(x) | x) & high_bits(n) != 0 {
         return false;
     }
-    !is_keyword_word(x, n)
+    !resembles_keyword(x, n)
 }
 
 // The n lowest bytes are written in text as they are. Every control character is refused, which keeps the test short.

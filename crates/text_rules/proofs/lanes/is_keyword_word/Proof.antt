@@ -1,17 +1,10 @@
 -- `lanes::is_keyword_word` meets its contract. Assumes nothing.
-use Prim.Native.Nat.{ℕ, _-_, _*_, _%_, _^_, _≤_, _<_}
-use mathlib.Core.Path.{_≡_, sym, ap, _∙_}
+use mathlib.Core.Path.{sym, _∙_}
 use native.Mathlib.Omega.{arith}
-use lib.Bits.{bitAnd, and-mask}
-use Rattle.output.proofs.Words.{pow-bytes}
-use Rattle.text_rules.proofs.LaneTests.{keyword-none, keyword-true, keyword-null, keyword-nan, keyword-false, keyword-other}
+use Rattle.text_rules.proofs.LaneTests.{masked, keyword-none, keyword-true, keyword-null, keyword-nan, keyword-false, keyword-other}
 use borrow.Author.Needs.{needs}
 use Rattle.text_rules.proofs.lanes.is_keyword_word.Statement.{statement}
 use Rattle.text_rules.proofs.lanes.is_keyword_word.Tie as tie
-
--- the n lowest bytes as a number
-masked : (x m n : ℕ) → m ≡ 2 ^ (8 * n) - 1 → bitAnd x m ≡ x % 256 ^ n
-masked x m n e = ap (bitAnd x) e ∙ and-mask x (8 * n) ∙ ap (λ (k : ℕ). x % k) (pow-bytes n)
 
 returns : tie.Need-returns
 returns c = let h = c .if1 .taken in sym (keyword-none _ _ (λ e. omega arith) (λ e. omega arith) (λ e. omega arith))

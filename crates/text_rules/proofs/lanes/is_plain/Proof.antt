@@ -25,8 +25,8 @@ high-bits-requires c κs = search needs
 returns : tie.Need-returns
 returns c = λ e. never (sym e)
 
-is-keyword-word-requires : tie.Need-is-keyword-word-requires
-is-keyword-word-requires c κs = search needs
+resembles-keyword-requires : tie.Need-resembles-keyword-requires
+resembles-keyword-requires c κs = search needs
 
 returns-2 : tie.Need-returns-2
 returns-2 c =
@@ -36,9 +36,9 @@ returns-2 c =
     let m = lane-or (lane-not (c .before .before .before .letters .ensures)) (lane-self x (a .fits .x .fits)) in
     let t : every isName (leBytes n x) ≡ true = sym (unmarked isName n m name-test (a .pre .1)) ∙ (rw (c .before .before .high-bits .ensures) at (eq-eqb _ _ (c .before .if1 .left))) in
     let l : 0 < length (leBytes n x) = omega (arith, length-le n x, a .pre) in
-    λ e. symbol-bare _ (names-bare _ l t (sym (c .is-keyword-word .ensures) ∙ not-true _ e))
+    λ e. symbol-bare _ (names-bare _ l t (c .resembles-keyword .ensures (not-true _ e)))
 
 pub is-plain-spec : {M : Type 1} → statement M
 is-plain-spec =
     tie.close
-    (tie.spec letters-requires high-bits-requires returns is-keyword-word-requires returns-2)
+    (tie.spec letters-requires high-bits-requires returns resembles-keyword-requires returns-2)
