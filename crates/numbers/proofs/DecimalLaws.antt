@@ -11,6 +11,7 @@ use lib.IntN.{pos, negsuc}
 use lib.ListN.{replicate}
 use borrow.Author.Tests.{lt-ltb, le-ltb, le-leb, lt-leb}
 use Rattle.output.specs.Logic.{byte}
+use Rattle.output.specs.Wrote.{leBytes}
 use Rattle.text_rules.specs.Digits.{pad, count, digits}
 use Rattle.text_rules.proofs.DigitLaws.{count-most, count-enough, count-le, pow-pos10, digits-take-pad, digits-drop-pad, length-digits}
 use Rattle.text_rules.proofs.DigitCode.{count-is}
@@ -47,6 +48,17 @@ digits-first k l n h p e = rw (count-first k l n h p e)
 pub pointed-parts : (k l n : ℕ) → n < 2 ^ 64 → 1 ≤ k → k + l ≡ count 19 n → digits (n / 10 ^ l) ++ (byte "." ∷ pad l n) ≡ pointed (digits n) k
 unfolding pointed
 pointed-parts k l n h p e = rw (digits-take-pad k l n e, digits-drop-pad k l n e, digits-first k l n h p e)
+
+-- `0.` and zeros, as the bytes of a word
+pub small-start : (z : ℕ) → z ≤ 5 → leBytes (2 + z) 0x3030303030302E30 ≡ byte "0" ∷ byte "." ∷ replicate z (byte "0")
+unfolding leBytes
+small-start zero h = refl
+small-start (suc zero) h = refl
+small-start (suc (suc zero)) h = refl
+small-start (suc (suc (suc zero))) h = refl
+small-start (suc (suc (suc (suc zero)))) h = refl
+small-start (suc (suc (suc (suc (suc zero))))) h = refl
+small-start (suc (suc (suc (suc (suc (suc z)))))) h = let bad : ⊥ = omega arith in absurd bad
 
 -- ---- the six forms, by the tests of the code
 

@@ -87,15 +87,13 @@ fn width(x: u64) -> usize
     x as usize
 }
 
-// `0.`, zeros, digits.
+// `0.`, five zeros at most, digits. What stands before the digits is a word of eight bytes, the first lowest.
 fn put_small(buf: &mut [u8], pos: usize, n: u64, zeros: usize) -> usize
-    requires { ⌜ pos ≤ limit ⌝ }
+    requires { ⌜ (pos ≤ limit) × (zeros ≤ 5) ⌝ }
     ensures { λ r. ⌜ Wrote (now (buf .entry)) (now (buf .exit)) pos r (byte "0" ∷ byte "." ∷ (replicate zeros (byte "0") ++ digits n)) ⌝ }
 {
-    let a = output::put(buf, pos, b'0');
-    let b = output::put(buf, a, b'.');
-    let c = output::put_repeated(buf, b, b'0', zeros);
-    text_rules::digits::put_digits(buf, c, n)
+    let a = output::put_le(buf, pos, 0x3030_3030_3030_2E30, 2 + zeros);
+    text_rules::digits::put_digits(buf, a, n)
 }
 
 // The exponent is e, 0 or above.
