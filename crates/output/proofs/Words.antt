@@ -4,7 +4,7 @@ use mathlib.Core.List.{List, [], _∷_, _++_}
 use Prim.Native.Nat.{ℕ, zero, suc, _+_, _-_, _*_, _/_, _%_, _^_, _≤_, _<_}
 use native.Mathlib.Nat.{suc-add, zero-add, sub-zero, div-one, div-div-eq-div-mul, pow-succ'}
 use native.Mathlib.Omega.{arith}
-use lib.ListN.{length, take, drop, replicate}
+use lib.ListN.{length, take, drop}
 use lib.Seq.{sets}
 use lib.Pow.{pow-add}
 use Rattle.output.specs.Wrote.{leBytes}
@@ -108,14 +108,3 @@ le-sum a b c d e f g h la lb lc ld le lf lg lh =
     ∙ ap (λ (t : List ℕ). e ∷ t) (le-cons 2 f m6 lf
     ∙ ap (λ (t : List ℕ). f ∷ t) (le-cons 1 g m7 lg
     ∙ ap (λ (t : List ℕ). g ∷ t) (le-cons 0 h 0 lh)))))))
-
--- one byte n times, as the bytes of a word
-take-replicate : (n m x : ℕ) → n ≤ m → take n (replicate m x) ≡ replicate n x
-take-replicate zero m x h = refl
-take-replicate (suc n) zero x h = let bad : ⊥ = omega arith in absurd bad
-take-replicate (suc n) (suc m) x h = ap (λ (l : List ℕ). x ∷ l) (take-replicate n m x (omega arith))
-
-pub le-repeated : (n x : ℕ) → n ≤ 8 → x < 256 → leBytes n (x * 0x0101010101010101) ≡ replicate n x
-le-repeated n x h b =
-    let e : x * 0x0101010101010101 ≡ x + 256 * x + 65536 * x + 16777216 * x + 4294967296 * x + 1099511627776 * x + 281474976710656 * x + 72057594037927936 * x = omega arith in
-    sym (take-le n 8 (x * 0x0101010101010101) h) ∙ ap (take n) (ap (leBytes 8) e ∙ le-sum x x x x x x x x b b b b b b b b) ∙ take-replicate n 8 x h

@@ -247,21 +247,7 @@ fn repeat_clipped(buf: &mut [u8], pos: usize, x: u8, n: usize) -> usize
     p
 }
 
-// The byte x, n times: all at once where there is room.
-fn repeat_long(buf: &mut [u8], pos: usize, x: u8, n: usize) -> usize
-    requires { ⌜ pos ≤ limit ⌝ }
-    ensures { λ r. ⌜ Wrote (now (buf .entry)) (now (buf .exit)) pos r (replicate n x) ⌝ }
-{
-    if pos <= buf.len() {
-        if n <= buf.len() - pos {
-            fill_at(buf, pos, x, n);
-            return pos + n;
-        }
-    }
-    repeat_clipped(buf, pos, x, n)
-}
-
-// The byte x, n times, which is mostly not at all, and else a few times: these are the bytes of a word.
+// The byte x, n times, which is mostly not at all.
 pub fn put_repeated(buf: &mut [u8], pos: usize, x: u8, n: usize) -> usize
     requires { ⌜ pos ≤ limit ⌝ }
     ensures { λ r. ⌜ Wrote (now (buf .entry)) (now (buf .exit)) pos r (replicate n x) ⌝ }
@@ -269,10 +255,13 @@ pub fn put_repeated(buf: &mut [u8], pos: usize, x: u8, n: usize) -> usize
     if n == 0 {
         return pos;
     }
-    if n <= 8 {
-        return put_le(buf, pos, wide64(x) * 0x0101_0101_0101_0101, n);
+    if pos <= buf.len() {
+        if n <= buf.len() - pos {
+            fill_at(buf, pos, x, n);
+            return pos + n;
+        }
     }
-    repeat_long(buf, pos, x, n)
+    repeat_clipped(buf, pos, x, n)
 }
 
 // The n lowest bytes of w, eight at most, for which there is room: two stores that overlap.

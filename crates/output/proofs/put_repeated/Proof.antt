@@ -1,10 +1,8 @@
 -- `output::put_repeated` meets its contract. Assumes nothing.
-use mathlib.Core.Path.{sym, ap, _∙_}
-use Prim.Native.Nat.{ℕ, _*_}
+use Prim.Native.Nat.{ℕ}
 use native.Mathlib.Omega.{arith}
-use Rattle.output.specs.Wrote.{leBytes}
+use lib.ListN.{length-replicate}
 use Rattle.output.proofs.Laws.{wrote-none}
-use Rattle.output.proofs.Words.{le-repeated}
 use borrow.Author.Needs.{needs}
 use Rattle.output.proofs.put_repeated.Statement.{statement}
 use Rattle.output.proofs.put_repeated.Tie as tie
@@ -12,26 +10,28 @@ use Rattle.output.proofs.put_repeated.Tie as tie
 returns : tie.Need-returns
 returns c = rw (c .if1 .taken) (wrote-none _ _ (search needs) (search needs))
 
-wide64-requires : tie.Need-wide64-requires
-wide64-requires c κs = search needs
+sub-if3 : tie.Need-sub-if3
+sub-if3 c = search needs
 
-mul-put-le : tie.Need-mul-put-le
-mul-put-le c = search needs
+fill-at-requires : tie.Need-fill-at-requires
+fill-at-requires c κs = search needs
 
-put-le-requires : tie.Need-put-le-requires
-put-le-requires c κs = search needs
+add-result : tie.Need-add-result
+add-result c = search needs
 
 same-length : tie.Need-same-length
 same-length c = search needs
 
 returns-2 : tie.Need-returns-2
 returns-2 c =
-    let w = c .before .before .before .wide64 .ensures in
-    let n = c .before .before .before .before .before .if2 .taken in
-    rw (sym (w .0), sym (le-repeated _ _ n (w .1))) (c .before .before .put-le .ensures)
+    record {
+      bytes = c .before .before .fill-at .ensures;
+      count = simp (length-replicate {A = ℕ}) (omega arith);
+      room = search needs;
+    }
 
-repeat-long-requires : tie.Need-repeat-long-requires
-repeat-long-requires c κs = search needs
+repeat-clipped-requires : tie.Need-repeat-clipped-requires
+repeat-clipped-requires c κs = search needs
 
 same-length-2 : tie.Need-same-length-2
 same-length-2 c = search needs
@@ -44,11 +44,11 @@ put-repeated-spec =
     tie.close
     (tie.spec
     returns
-    wide64-requires
-    mul-put-le
-    put-le-requires
+    sub-if3
+    fill-at-requires
+    add-result
     same-length
     returns-2
-    repeat-long-requires
+    repeat-clipped-requires
     same-length-2
     returns-3)
