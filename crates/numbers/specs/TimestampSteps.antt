@@ -1,4 +1,4 @@
--- What the readers of a timestamp's parts answer, in the terms of the rules. Assumes nothing: these are definitions.
+-- What inner functions on timestamps, reading and writing, say in the terms of the rules. Assumes nothing: these are definitions.
 use Prim.Native.Nat.{ℕ, _<_}
 use mathlib.Core.Path.{_≡_}
 use mathlib.Core.Bool.{Bool, true, false}
@@ -34,6 +34,8 @@ clockRead c.Bad = none
 abbrev pub negative : ℤ → Bool
 negative (pos m) = false
 negative (negsuc m) = true
+
+-- ---- written
 
 -- `YYYY-MM-DDThh:mm:ss`
 abbrev pub toSecond : Timestamp → List ℕ

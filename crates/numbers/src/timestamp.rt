@@ -285,7 +285,7 @@ fn format_offset(buf: &mut [u8], pos: usize, offset: i16) -> usize
     format_hour_and_minute(buf, p, m / 60, m % 60)
 }
 
-// Whether every field has the digits that its place has.
+// True only where no field has more digits than its place. One test for five fields: it says no of 64 to 99, which no real field has.
 fn is_short(t: Timestamp) -> bool
     ensures { λ r. ⌜ (r ≡ true → (t .year < 10000) × (t .month < 100) × (t .day < 100) × (t .hour < 100) × (t .minute < 100) × (t .second < 100)) ⌝ }
 {

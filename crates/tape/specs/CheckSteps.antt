@@ -18,7 +18,8 @@ use Rattle.tape.specs.declared.check.Front.{Front}
 use Rattle.tape.specs.declared.check.Front.the-variants as F
 use Rattle.tape.specs.declared.check.Checked.{Checked}
 
--- a node without a body as one number, by its problem f: its n bytes; 1 where it is refused by 4, 0 where it is refused by 2
+-- a node without a body as one number, by its problem f: its n bytes; 1 where it is refused by 4, 0 where it is refused by 2. A node has two
+-- bytes at least, and its problem is 2 or 4, so the numbers do not meet
 abbrev pub coded : ℕ → ℕ → ℕ
 coded zero n = n
 coded (suc f) n = if (eqb f 3) 1 0
@@ -34,10 +35,11 @@ scalarCode o = codeOf scalarFault o
 unfoldable pub spanOf : List ℕ → ℕ
 spanOf l = if (leb (5 + lengthOf l) (length l)) (5 + lengthOf l) 0
 
--- whether an identifier but 0 is read as a symbol, as a name
+-- whether the symbol that l starts with is an identifier but 0
 unfoldable pub numberIn : List ℕ → Bool
 numberIn l = past (symOf l) false (λ s n. symNumbered s)
 
+-- whether the name of the child that l starts with is one
 unfoldable pub nameIn : Frame → List ℕ → Bool
 nameIn k l = past (nameOf k l) false (λ a n. nameNumbered a)
 
@@ -54,7 +56,7 @@ endOf f at e o = past o e (λ a n. ends (f a) (at + n) e)
 unfoldable pub frameOf : ℕ → Frame
 frameOf k = if (eqb k 10) ListF (if (eqb k 11) Sexp Struct)
 
--- of what stands before a value, with its problem f: refused, or it ends at p; m: there are annotations, b: there is an identifier but 0
+-- of annotations, with their problem f: refused, or they end at p; m: there are annotations, b: there is an identifier but 0
 abbrev pub front : ℕ → ℕ → Bool → Bool → Front
 front zero p m b = F.Whole p m b
 front (suc f) p m b = F.Bad

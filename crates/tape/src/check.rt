@@ -12,8 +12,8 @@ ghost use Rattle.tape.specs.Tape.{kind, textOf, symOf, symsOf, nameOf, n
 ghost use Rattle.tape.specs.CheckSteps.{codeOf, scalarCode, spanOf, numberIn, nameIn, endOf, frameOf, symsFront, notesFront, Checks, Refuses, TapeChecks};
 use crate::Frame;
 
-// What stands before a value: refused, always by 2; or where it ends, and, of it and of the nodes before it, whether there are annotations and
-// whether there is an identifier but 0.
+// Annotations: refused, always by 2; or where they end, and, of them and of the nodes before them, whether there are annotations and whether
+// there is an identifier but 0.
 pub enum Front {
     Bad,
     Whole(usize, bool, bool),
@@ -174,7 +174,7 @@ fn span(tape: &[u8], at: usize, end: usize) -> usize
     5 + n
 }
 
-// A string, behind its kind byte.
+// A string's node.
 fn text_size(tape: &[u8], at: usize, end: usize) -> usize
     requires { ⌜ at ≤ end ⌝ }
     requires { ⌜ end ≤ length (now tape) ⌝ }
@@ -190,7 +190,7 @@ fn text_size(tape: &[u8], at: usize, end: usize) -> usize
     0
 }
 
-// The text of a symbol, behind its kind byte.
+// The node of a symbol's text. Symbols are short, so a word is tested first.
 fn word_size(tape: &[u8], at: usize, end: usize) -> usize
     requires { ⌜ at ≤ end ⌝ }
     requires { ⌜ end + 8 ≤ length (now tape) ⌝ }
@@ -392,6 +392,7 @@ fn refused(fault: u8) -> Checked
 }
 
 // The first problem among the nodes of a body, or 0 and what stands in it. A body is opened while `depth` more may be.
+// Eight bytes stand behind every body, as the trailer does, so that a word may be loaded at any place of it.
 fn check_nodes(tape: &[u8], from: usize, end: usize, frame: Frame, depth: usize) -> Checked
     requires { ⌜ from ≤ end ⌝ }
     requires { ⌜ end + 8 ≤ length (now tape) ⌝ }

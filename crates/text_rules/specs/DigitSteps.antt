@@ -27,11 +27,11 @@ unfoldable pub word : ℕ → ℕ → ℕ → ℕ → ℕ
 word a b c d =
     a / 10 + 256 * (a % 10) + 65536 * (b / 10) + 16777216 * (b % 10) + 4294967296 * (c / 10) + 1099511627776 * (c % 10) + 281474976710656 * (d / 10) + 72057594037927936 * (d % 10)
 
--- the eight digits of x
+-- the eight digits of x, below 100,000,000
 abbrev pub wordOf : ℕ → ℕ
 wordOf x = word (x / 1000000) (x / 10000 % 100) (x / 100 % 100) (x % 100)
 
--- h has four numbers below 100
+-- h is four numbers below 100 in lanes of sixteen bits
 pub record Lanes (h : ℕ) : Type 0 where
   pub a : ℕ
   pub b : ℕ
@@ -40,7 +40,7 @@ pub record Lanes (h : ℕ) : Type 0 where
   pub small : (a < 100) × (b < 100) × (c < 100) × (d < 100)
   pub whole : h ≡ packed a b c d
 
--- r has their digits
+-- r is the eight digits of the four numbers in h; below 10 · 2^56, as its highest byte is below ten
 pub record Split (h r : ℕ) : Type 0 where
   pub word-is : (a b c d : ℕ) → a < 100 → b < 100 → c < 100 → d < 100 → h ≡ packed a b c d → r ≡ word a b c d
   pub small : r < 720575940379279360

@@ -1,4 +1,4 @@
--- Words as bytes side by side: what a word operation does to each byte. Assumes nothing: these are definitions.
+-- Words as bytes side by side: what a word operation does to each byte. Only inner contracts name these. Assumes nothing: these are definitions.
 use Prim.Native.Nat.{ℕ, zero, suc, _+_, _-_, _*_, _/_, _%_, _<_}
 use mathlib.Core.Path.{_≡_}
 use lib.Bits.{bitAnd, bitOr, bitXor}

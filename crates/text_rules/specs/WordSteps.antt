@@ -1,4 +1,4 @@
--- What the contracts of the word readers say. Assumes nothing: these are definitions.
+-- What the contracts of the word readers say, and of the tests by which symbol text is written. Assumes nothing: these are definitions.
 use Prim.Native.Nat.{ℕ, _+_, _-_, _≤_}
 use mathlib.Core.Path.{_≡_}
 use mathlib.Core.Bool.{Bool, not, _&&_, _||_}

@@ -391,7 +391,7 @@ fn put_text_escaped(buf: &mut [u8], pos: usize, s: &[u8]) -> usize
     put_text_clipped(buf, pos, s)
 }
 
-// 0 only for a byte that is raw in text. It says 1 of every control character, which keeps the test short.
+// 0 only for a byte that is raw in text. It says 1 of every byte below hex 20, which keeps the test short.
 fn suspect(b: u8) -> u8
     ensures { λ r. ⌜ (r ≡ 0 → textEscape b ≡ b ∷ []) ⌝ }
 {

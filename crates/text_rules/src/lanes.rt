@@ -11,7 +11,7 @@ ghost use Rattle.text_rules.specs.WordSteps.{isName, allPart};
 ghost use Rattle.text_rules.specs.Escapes.{textBody};
 ghost use Rattle.text_rules.specs.Text.{symbolText};
 
-// Hex 80 in each of the n lowest bytes: the compiler makes a table of the arms.
+// Hex 80 in each of the n lowest bytes. The compiler makes a table of the arms, which has all eight where the last is not the default.
 fn high_bits(n: usize) -> u64
     requires { ⌜ (1 ≤ n) × (n ≤ 8) ⌝ }
     ensures { λ r. ⌜ r ≡ rep n 0x80 ⌝ }
@@ -59,7 +59,8 @@ fn low_bits(n: usize) -> u64
     }
 }
 
-// False only where the n lowest bytes are no keyword. A short test, for `is_plain`, which is asked of every name.
+// False only where the n lowest bytes are no keyword. It also takes a keyword with a NUL behind it for one, which `is_plain` has ruled out by
+// then, and is the shorter for it: it is asked of every name.
 fn resembles_keyword(x: u64, n: usize) -> bool
     requires { ⌜ (1 ≤ n) × (n ≤ 8) ⌝ }
     ensures { λ r. ⌜ (r ≡ false → isKeyword (leBytes n x) ≡ false) ⌝ }
@@ -84,7 +85,7 @@ fn resembles_keyword(x: u64, n: usize) -> bool
 }
 
 // The n lowest bytes are true, false, nan or null, no more and no less. The bytes come first and then their number, so that the compiler
-// keeps the word whole.
+// does not load parts of the word.
 pub fn is_keyword_word(x: u64, n: usize) -> bool
     requires { ⌜ (1 ≤ n) × (n ≤ 8) ⌝ }
     ensures { λ r. ⌜ r ≡ isKeyword (leBytes n x) ⌝ }
@@ -122,7 +123,7 @@ pub fn is_plain(x: u64, n: usize) -> bool
     !resembles_keyword(x, n)
 }
 
-// The n lowest bytes are written in text as they are. Every control character is refused, which keeps the test short.
+// The n lowest bytes are written in text as they are. It says no of every byte below hex 20, which keeps the test short.
 pub fn is_raw_word(x: u64, n: usize) -> bool
     requires { ⌜ (1 ≤ n) × (n ≤ 8) ⌝ }
     ensures { λ r. ⌜ (r ≡ true → textBody (leBytes n x) ≡ leBytes n x) ⌝ }

@@ -73,7 +73,7 @@ fn write_clob(buf: &mut [u8], pos: usize, tape: &[u8], at: usize, n: usize, end:
     text_rules::clobs::format_clob(buf, pos, &tape[from..to])
 }
 
-// The scalar s, whose node stands at a place.
+// The scalar s, whose node stands at a place. Of its arms `write_leaf` needs nulls, bools, floats, identifiers and clobs.
 fn write_scalar(buf: &mut [u8], pos: usize, tape: &[u8], at: usize, end: usize, s: Scalar) -> usize
     requires { ⌜ pos ≤ limit ⌝ }
     requires { ⌜ at + sizeOf s ≤ end ⌝ }
@@ -104,7 +104,7 @@ fn write_colon(buf: &mut [u8], pos: usize) -> usize
     output::put_two(buf, pos, b':', b' ')
 }
 
-// Whether the n bytes of the tape from a place on, in a word of it, are a symbol that stands bare.
+// True only where the n bytes of the tape from a place on are a symbol that stands bare. It may say no too often.
 fn plain_at(tape: &[u8], from: usize, n: usize) -> bool
     requires { ⌜ from + 8 ≤ length (now tape) ⌝ }
     ensures { λ r. ⌜ (r ≡ true → Plain (now (tape .entry)) from n) ⌝ }
@@ -308,7 +308,7 @@ fn write_symbol(buf: &mut [u8], pos: usize, tape: &[u8], at: usize, end: usize) 
     }
 }
 
-// The scalar at a place.
+// The scalar at a place. The frequent kinds are written straight from the tape, the others through `Scalar`.
 fn write_leaf(buf: &mut [u8], pos: usize, tape: &[u8], at: usize, end: usize) -> Step
     requires { ⌜ pos ≤ limit ⌝ }
     requires { ⌜ at ≤ end ⌝ }
@@ -438,7 +438,8 @@ fn write_value(
     write_container(tape, at, end, depth, layout, width, buf, pos)
 }
 
-// The nodes of a body, with `width` blanks before each. This body and those inside it are `depth` at most.
+// The nodes of a body, with `width` blanks before each. This body and those inside it are `depth` at most. Eight bytes stand behind every body,
+// as the trailer does, so that a word may be loaded at any place of it.
 pub fn write_nodes(
     tape: &[u8],
     from: usize,

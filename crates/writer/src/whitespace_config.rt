@@ -1,4 +1,4 @@
-// What stands between values, by layout: 0 Compact, 1 Lines, 2 Pretty. The byte strings of `WhitespaceConfig`, each written by its own function.
+// What stands between values, by layout: 0 Compact, 1 Lines, 2 Pretty. The byte strings of `WhitespaceConfig`; a separator is chosen once a body.
 ghost use mathlib.Core.Path.{_≡_};
 ghost use mathlib.Core.List.{_++_};
 ghost use Prim.Native.Nat.{_≤_};
