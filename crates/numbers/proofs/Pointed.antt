@@ -12,11 +12,11 @@ use Rattle.output.specs.Logic.{byte}
 use Rattle.output.specs.Wrote.{leBytes}
 use Rattle.output.proofs.Words.{take-le}
 use Rattle.text_rules.specs.Digits.{pad, count, digits}
-use Rattle.text_rules.proofs.DigitLaws.{count-most, count-enough, length-pad, length-digits, pad-split}
-use Rattle.text_rules.proofs.DigitCode.{count-blocks}
+use Rattle.text_rules.proofs.DigitLaws.{count-most, count-enough, length-pad, length-digits, pad-split, digits-drop-pad}
+use Rattle.text_rules.proofs.DigitCode.{pad-mod, count-blocks}
 use Rattle.text_rules.proofs.DigitWords.{shift, last-digits, ahead-of, ahead-more}
 use Rattle.numbers.specs.Decimal.{pointed}
-use Rattle.numbers.proofs.Stores.{sets-between}
+use Rattle.numbers.proofs.Stores.{sets-between, sets-onward}
 
 -- ---- a number by its count of digits
 
@@ -75,17 +75,38 @@ first-k n v w k c h g j e =
     ∙ sym (take-append-le k (pad (w - 8) m) (pad 8 n) i)
     ∙ ap (take k) (sym d)
 
-pub point-long : (l a b d : List ℕ) (p n v x w k : ℕ) → n < 2 ^ 64 → w ≡ count 19 n → 8 < w → w ≤ 16 → k + 8 ≤ w → leBytes 8 v ≡ pad 8 (n / 100000000) → leBytes 8 x ≡ pad 8 (n % 100000000)
-    → a ≡ sets l (p + 1) (leBytes 8 (v / 2 ^ (128 - 8 * w))) → b ≡ sets a (p + (w - 7)) (leBytes 8 x) → d ≡ sets b p (leBytes k (v / 2 ^ (128 - 8 * w)))
-    → set d (p + k) (byte ".") ≡ sets l p (pointed (digits n) k)
-point-long l a b d p n v x w k o c h g j e f ea eb ed =
+-- they are stored by two words, the first with too much behind them
+two-words : (l a b : List ℕ) (p n v x w : ℕ) → n < 2 ^ 64 → w ≡ count 19 n → 8 < w → w ≤ 16 → leBytes 8 v ≡ pad 8 (n / 100000000) → leBytes 8 x ≡ pad 8 (n % 100000000)
+    → a ≡ sets l p (leBytes 8 (v / 2 ^ (128 - 8 * w))) → b ≡ sets a (p + (w - 8)) (leBytes 8 x)
+    → b ≡ sets l p (digits n)
+two-words l a b p n v x w o c h g e f ea eb =
     let m = n / 100000000 in
     let q : 100000000 ≤ n = over-8 n (omega arith) in
     let t : count 19 n ≡ count 19 m + 8 = count-blocks 8 n (omega arith) q o in
     let z : 16 - w + count 19 m ≡ 8 = omega arith in
     let y : 128 - 8 * w ≡ 8 * (16 - w) = omega arith in
-    let r : p + (w - 7) ≡ p + 1 + (8 - (16 - w)) = omega arith in
+    let r : p + (w - 8) ≡ p + (8 - (16 - w)) = omega arith in
+    let first = ahead-of (16 - w) v m z e (ea ∙ ap (λ (i : ℕ). sets l p (leBytes 8 (v / 2 ^ i))) y) in
+    let all = ahead-more n q o first (eb ∙ ap (λ (i : ℕ). sets a i (leBytes 8 x)) r ∙ ap (sets a (p + (8 - (16 - w)))) f) in
+    all .bytes
+
+pub point-long : (l a b d : List ℕ) (p n v x w k : ℕ) → n < 2 ^ 64 → w ≡ count 19 n → 8 < w → w ≤ 16 → k + 8 ≤ w → leBytes 8 v ≡ pad 8 (n / 100000000) → leBytes 8 x ≡ pad 8 (n % 100000000)
+    → a ≡ sets l (p + 1) (leBytes 8 (v / 2 ^ (128 - 8 * w))) → b ≡ sets a (p + (w - 7)) (leBytes 8 x) → d ≡ sets b p (leBytes k (v / 2 ^ (128 - 8 * w)))
+    → set d (p + k) (byte ".") ≡ sets l p (pointed (digits n) k)
+point-long l a b d p n v x w k o c h g j e f ea eb ed =
+    let r : p + (w - 7) ≡ p + 1 + (w - 8) = omega arith in
     let kc : k ≤ count 19 n = omega arith in
-    let first = ahead-of (16 - w) v m z e (ea ∙ ap (λ (i : ℕ). sets l (p + 1) (leBytes 8 (v / 2 ^ i))) y) in
-    let all = ahead-more n q o first (eb ∙ ap (λ (i : ℕ). sets a i (leBytes 8 x)) r ∙ ap (sets a (p + 1 + (8 - (16 - w)))) f) in
-    between l b d p n k (leBytes k (v / 2 ^ (128 - 8 * w))) kc (all .bytes) ed (first-k n v w k c h g j e)
+    let all = two-words l a b (p + 1) n v x w o c h g e f ea (eb ∙ ap (λ (i : ℕ). sets a i (leBytes 8 x)) r) in
+    between l b d p n k (leBytes k (v / 2 ^ (128 - 8 * w))) kc all ed (first-k n v w k c h g j e)
+
+-- the digits behind the point are the w - k last of the eight in x
+pub point-late : (l a b d : List ℕ) (p n v x w k : ℕ) → n < 2 ^ 64 → w ≡ count 19 n → 8 < w → w ≤ 16 → k ≤ w → w < k + 8 → leBytes 8 v ≡ pad 8 (n / 100000000) → leBytes 8 x ≡ pad 8 (n % 100000000)
+    → a ≡ sets l p (leBytes 8 (v / 2 ^ (128 - 8 * w))) → b ≡ sets a (p + (w - 8)) (leBytes 8 x) → d ≡ sets b (p + k + 1) (drop (8 - (w - k)) (leBytes 8 x))
+    → set d (p + k) (byte ".") ≡ sets l p (pointed (digits n) k)
+unfolding pointed
+point-late l a b d p n v x w k o c h g j i e f ea eb ed =
+    let s = drop (8 - (w - k)) (leBytes 8 x) in
+    let r : k + (w - k) ≡ count 19 n = omega arith in
+    let t : s ≡ drop k (digits n) = last-digits (w - k) x n (omega arith) (f ∙ pad-mod 8 n) ∙ sym (digits-drop-pad k (w - k) n r) in
+    ap (λ (y : List ℕ). set y (p + k) (byte ".")) (ed ∙ ap (λ (y : List ℕ). sets y (p + k + 1) s) (two-words l a b p n v x w o c h g e f ea eb) ∙ ap (sets (sets l p (digits n)) (p + k + 1)) t)
+    ∙ sets-onward (digits n) l p k (byte ".") (omega (arith, length-digits n))

@@ -9,9 +9,10 @@ use native.Mathlib.Omega.{arith}
 use lib.ListN.{length, take, drop, getD, set, length-append, length-set, take-append-drop}
 use lib.Seq.{sets, length-sets, set-getD, length-take-le}
 use Rattle.output.specs.Wrote.{Wrote, limit, leBytes}
-use Rattle.output.proofs.Laws.{sets-append, sets-over, length-le}
+use Rattle.output.proofs.Laws.{sets-append, set-sets, sets-over, length-le}
 use Rattle.output.proofs.Words.{take-le, drop-le}
 use Rattle.text_rules.specs.Digits.{pad}
+use Rattle.text_rules.proofs.DigitWords.{sets-behind}
 
 -- a text of k bytes, for which there is room
 pub wrote-here : {a b : List ℕ} {p : ℕ} {s : List ℕ} (k : ℕ) → b ≡ sets a p s → length s ≡ k → p + k ≤ length a → length a < limit → Wrote a b p (p + k) s
@@ -54,6 +55,17 @@ sets-between d l p k x h =
     ∙ sets-then (sets l p ((y ∷ s) ++ drop k d)) p s (x ∷ []) k (length-take-le k d h)
     ∙ sets-over (y ∷ s) (s ++ (x ∷ [])) (drop k d) l p (sym (length-append s (x ∷ []) ∙ add-one (length s)))
     ∙ ap (sets l p) (append-assoc s (x ∷ []) (drop k d))
+
+-- a text in its own place, then what it has behind its first k bytes one place on, and a byte between
+pub sets-onward : (d l : List ℕ) (p k x : ℕ) → k ≤ length d → set (sets (sets l p d) (p + k + 1) (drop k d)) (p + k) x ≡ sets l p (take k d ++ (x ∷ drop k d))
+sets-onward d l p k x h =
+    let s : List ℕ = take k d in
+    let t : List ℕ = drop k d in
+    ap (λ (i : ℕ). set (sets (sets l p d) i t) (p + k) x) (add-one (p + k))
+    ∙ set-sets t (sets l p d) (p + k) (suc (p + k)) x (omega arith)
+    ∙ ap (λ (m : List ℕ). sets (sets l p m) (p + k) (x ∷ t)) (sym (take-append-drop k d))
+    ∙ ap (λ (i : ℕ). sets (sets l p (s ++ t)) (p + i) (x ∷ t)) (sym (length-take-le k d h))
+    ∙ sets-behind l s t (x ∷ t) p (omega arith)
 
 -- ---- the bytes of a word
 

@@ -37,12 +37,26 @@ fn pointed_long(buf: &mut [u8], pos: usize, n: u64, w: usize, k: usize)
     buf[pos + k] = b'.';
 }
 
+// The digits of n, nine to sixteen, with a point after k that cuts the last eight: all digits in their own place, then those behind the point
+// one place on.
+fn pointed_late(buf: &mut [u8], pos: usize, n: u64, w: usize, k: usize)
+    requires { ⌜ (w ≡ count 19 n) × (8 < w) × (w ≤ 16) × (k ≤ w) × (w < k + 8) × (pos + 17 ≤ length (now buf)) ⌝ }
+    ensures { λ _. ⌜ now (buf .exit) ≡ sets (now (buf .entry)) pos (pointed (digits n) k) ⌝ }
+{
+    let v = text_rules::digits::eight_digits(n / 100000000) >> (128 - 8 * w);
+    let l = text_rules::digits::eight_digits(n % 100000000);
+    output::store_8(buf, pos, v);
+    output::store_8(buf, pos + (w - 8), l);
+    text_rules::digits::store_last(buf, pos + k + 1, l, w - k);
+    buf[pos + k] = b'.';
+}
+
 // The digits of n, w of them, with a point after k. For every buffer: the number that the first k are, and as many digits as are left.
 fn put_pointed(buf: &mut [u8], pos: usize, n: u64, w: usize, k: usize) -> usize
     requires { ⌜ (pos ≤ limit) × (w ≡ count 19 n) × (w ≤ 20) × (1 ≤ k) × (k ≤ w) ⌝ }
     ensures { λ r. ⌜ Wrote (now (buf .entry)) (now (buf .exit)) pos r (pointed (digits n) k) ⌝ }
 {
-    if pos + 17 <= buf.len() {
+    if pos + 16 < buf.len() {
         if w <= 8 {
             pointed_short(buf, pos, n, w, k);
             return pos + w + 1;
@@ -52,6 +66,8 @@ fn put_pointed(buf: &mut [u8], pos: usize, n: u64, w: usize, k: usize) -> usize
                 pointed_long(buf, pos, n, w, k);
                 return pos + w + 1;
             }
+            pointed_late(buf, pos, n, w, k);
+            return pos + w + 1;
         }
     }
     let left = w - k;

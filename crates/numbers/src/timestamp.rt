@@ -330,7 +330,7 @@ fn format_to_second(buf: &mut [u8], pos: usize, t: Timestamp) -> usize
     ensures { λ r. ⌜ Wrote (now (buf .entry)) (now (buf .exit)) pos r (toSecond t) ⌝ }
 {
     if is_short(t) {
-        if pos + 19 <= buf.len() {
+        if pos + 18 < buf.len() {
             second_here(buf, pos, t);
             return pos + 19;
         }

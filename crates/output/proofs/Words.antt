@@ -4,7 +4,7 @@ use mathlib.Core.List.{List, [], _∷_, _++_}
 use Prim.Native.Nat.{ℕ, zero, suc, _+_, _-_, _*_, _/_, _%_, _^_, _≤_, _<_}
 use native.Mathlib.Nat.{suc-add, zero-add, sub-zero, div-one, div-div-eq-div-mul, pow-succ'}
 use native.Mathlib.Omega.{arith}
-use lib.ListN.{length, take, drop}
+use lib.ListN.{length, take, drop, replicate}
 use lib.Seq.{sets}
 use lib.Pow.{pow-add}
 use Rattle.output.specs.Wrote.{leBytes}
@@ -108,3 +108,43 @@ le-sum a b c d e f g h la lb lc ld le lf lg lh =
     ∙ ap (λ (t : List ℕ). e ∷ t) (le-cons 2 f m6 lf
     ∙ ap (λ (t : List ℕ). f ∷ t) (le-cons 1 g m7 lg
     ∙ ap (λ (t : List ℕ). g ∷ t) (le-cons 0 h 0 lh)))))))
+
+-- four bytes, each times its power of 256, added up
+pub le-sum-4 : (a b c d : ℕ) → a < 256 → b < 256 → c < 256 → d < 256 → leBytes 4 (a + 256 * b + 65536 * c + 16777216 * d) ≡ a ∷ b ∷ c ∷ d ∷ []
+unfolding leBytes
+le-sum-4 a b c d la lb lc ld =
+    let m3 : ℕ = d + 256 * 0 in
+    let m2 : ℕ = c + 256 * m3 in
+    let m1 : ℕ = b + 256 * m2 in
+    let q : a + 256 * b + 65536 * c + 16777216 * d ≡ a + 256 * m1 = omega arith in
+    ap (leBytes 4) q
+    ∙ le-cons 3 a m1 la
+    ∙ ap (λ (t : List ℕ). a ∷ t) (le-cons 2 b m2 lb
+    ∙ ap (λ (t : List ℕ). b ∷ t) (le-cons 1 c m3 lc
+    ∙ ap (λ (t : List ℕ). c ∷ t) (le-cons 0 d 0 ld)))
+
+-- two halves of four bytes
+pub le-halves : (a b : ℕ) → a < 4294967296 → leBytes 8 (a + 4294967296 * b) ≡ leBytes 4 a ++ leBytes 4 b
+le-halves a b h =
+    let w : ℕ = a + 4294967296 * b in
+    let e : w % 256 ≡ a % 256 = omega arith in
+    let f1 : w / 256 ≡ a / 256 + 16777216 * b = omega arith in
+    let f2 : (a / 256 + 16777216 * b) % 256 ≡ a / 256 % 256 = omega arith in
+    let g1 : w / 65536 ≡ a / 65536 + 65536 * b = omega arith in
+    let g2 : (a / 65536 + 65536 * b) % 256 ≡ a / 65536 % 256 = omega arith in
+    let i1 : w / 16777216 ≡ a / 16777216 + 256 * b = omega arith in
+    let i2 : (a / 16777216 + 256 * b) % 256 ≡ a / 16777216 % 256 = omega arith in
+    let q : w / 4294967296 ≡ b = omega arith in
+    let low : leBytes 4 w ≡ leBytes 4 a = le-4 w ∙ rw (e, f1, f2, g1, g2, i1, i2) (sym (le-4 a)) in
+    le-add 4 4 w ∙ rw (low, q)
+
+-- one byte n times, as the bytes of a word
+take-replicate : (n m x : ℕ) → n ≤ m → take n (replicate m x) ≡ replicate n x
+take-replicate zero m x h = refl
+take-replicate (suc n) zero x h = let bad : ⊥ = omega arith in absurd bad
+take-replicate (suc n) (suc m) x h = ap (λ (l : List ℕ). x ∷ l) (take-replicate n m x (omega arith))
+
+pub le-repeated : (n x : ℕ) → n ≤ 8 → x < 256 → leBytes n (x * 0x0101010101010101) ≡ replicate n x
+le-repeated n x h b =
+    let e : x * 0x0101010101010101 ≡ x + 256 * x + 65536 * x + 16777216 * x + 4294967296 * x + 1099511627776 * x + 281474976710656 * x + 72057594037927936 * x = omega arith in
+    sym (take-le n 8 (x * 0x0101010101010101) h) ∙ ap (take n) (ap (leBytes 8) e ∙ le-sum x x x x x x x x b b b b b b b b) ∙ take-replicate n 8 x h

@@ -25,7 +25,7 @@ pub fn put_two(buf: &mut [u8], pos: usize, x: u8, y: u8) -> usize
     requires { ⌜ pos ≤ limit ⌝ }
     ensures { λ r. ⌜ Wrote (now (buf .entry)) (now (buf .exit)) pos r (x ∷ y ∷ []) ⌝ }
 {
-    if pos + 2 <= buf.len() {
+    if pos + 1 < buf.len() {
         buf[pos] = x;
         buf[pos + 1] = y;
         return pos + 2;
@@ -44,51 +44,31 @@ fn copy_2(buf: &mut [u8], pos: usize, s: &[u8], from: usize)
     buf[pos + 1] = s[from + 1];
 }
 
-fn wide(x: u8) -> u32
-    ensures { λ r. ⌜ (r ≡ x) × (r < 256) ⌝ }
-{
-    x as u32
-}
-
-// Four bytes as one number, the lowest first.
-fn joined(a: u8, b: u8, c: u8, d: u8) -> u32
-    ensures { λ r. ⌜ (r % 256 ≡ a) × (r / 256 % 256 ≡ b) × (r / 65536 % 256 ≡ c) × (r / 16777216 % 256 ≡ d) ⌝ }
-{
-    wide(a) + 256 * wide(b) + 65536 * wide(c) + 16777216 * wide(d)
-}
-
-// Four bytes: the compiler loads and stores them at once.
-fn copy_4(buf: &mut [u8], pos: usize, s: &[u8], from: usize)
-    requires { ⌜ pos + 4 ≤ length (now buf) ⌝ }
-    requires { ⌜ from + 4 ≤ length (now s) ⌝ }
-    ensures { λ _. ⌜ now (buf .exit) ≡ sets (now (buf .entry)) pos (take 4 (drop from (now (s .entry)))) ⌝ }
-{
-    let n = joined(s[from], s[from + 1], s[from + 2], s[from + 3]);
-    buf[pos] = (n % 256) as u8;
-    buf[pos + 1] = (n / 256 % 256) as u8;
-    buf[pos + 2] = (n / 65536 % 256) as u8;
-    buf[pos + 3] = (n / 16777216 % 256) as u8;
-}
-
-fn wide64(x: u8) -> u64
+fn wide(x: u8) -> u64
     ensures { λ r. ⌜ (r ≡ x) × (r < 256) ⌝ }
 {
     x as u64
 }
 
-// Eight bytes of s from a place on, as one number, the lowest first: the compiler loads them at once.
+// Four bytes of s from a place on, as one number, the lowest first: the compiler loads them at once.
+fn half_at(s: &[u8], from: usize) -> u64
+    requires { ⌜ from + 4 ≤ length (now s) ⌝ }
+    ensures { λ r. ⌜ (leBytes 4 r ≡ take 4 (drop from (now (s .entry)))) × (r < 4294967296) ⌝ }
+{
+    wide(s[from])
+        + 256 * wide(s[from + 1])
+        + 65536 * wide(s[from + 2])
+        + 16777216 * wide(s[from + 3])
+}
+
+// Eight bytes of s from a place on, as one number, the lowest first. By halves: of a sum of eight the compiler makes one load
+// only where no part of it is used by itself.
 pub fn word_at(s: &[u8], from: usize) -> u64
     requires { ⌜ from + 8 ≤ length (now s) ⌝ }
     ensures { λ r. ⌜ leBytes 8 r ≡ take 8 (drop from (now (s .entry))) ⌝ }
 {
-    wide64(s[from])
-        + 256 * wide64(s[from + 1])
-        + 65536 * wide64(s[from + 2])
-        + 16777216 * wide64(s[from + 3])
-        + 4294967296 * wide64(s[from + 4])
-        + 1099511627776 * wide64(s[from + 5])
-        + 281474976710656 * wide64(s[from + 6])
-        + 72057594037927936 * wide64(s[from + 7])
+    let t = &s[from..from + 8];
+    half_at(t, 0) + 4294967296 * half_at(t, 4)
 }
 
 // The two, four and eight lowest bytes of w, for which there is room: one store.
@@ -124,7 +104,15 @@ pub fn store_8(buf: &mut [u8], pos: usize, w: u64)
     buf[pos + 7] = (w / 72057594037927936 % 256) as u8;
 }
 
-// Eight and sixteen bytes of s from a place on.
+// Four, eight and sixteen bytes of s from a place on.
+fn copy_4(buf: &mut [u8], pos: usize, s: &[u8], from: usize)
+    requires { ⌜ pos + 4 ≤ length (now buf) ⌝ }
+    requires { ⌜ from + 4 ≤ length (now s) ⌝ }
+    ensures { λ _. ⌜ now (buf .exit) ≡ sets (now (buf .entry)) pos (take 4 (drop from (now (s .entry)))) ⌝ }
+{
+    store_4(buf, pos, half_at(s, from));
+}
+
 fn copy_8(buf: &mut [u8], pos: usize, s: &[u8], from: usize)
     requires { ⌜ pos + 8 ≤ length (now buf) ⌝ }
     requires { ⌜ from + 8 ≤ length (now s) ⌝ }
@@ -247,14 +235,11 @@ fn repeat_clipped(buf: &mut [u8], pos: usize, x: u8, n: usize) -> usize
     p
 }
 
-// The byte x, n times, which is mostly not at all.
-pub fn put_repeated(buf: &mut [u8], pos: usize, x: u8, n: usize) -> usize
+// The byte x, n times: all at once where there is room.
+fn repeat_long(buf: &mut [u8], pos: usize, x: u8, n: usize) -> usize
     requires { ⌜ pos ≤ limit ⌝ }
     ensures { λ r. ⌜ Wrote (now (buf .entry)) (now (buf .exit)) pos r (replicate n x) ⌝ }
 {
-    if n == 0 {
-        return pos;
-    }
     if pos <= buf.len() {
         if n <= buf.len() - pos {
             fill_at(buf, pos, x, n);
@@ -262,6 +247,20 @@ pub fn put_repeated(buf: &mut [u8], pos: usize, x: u8, n: usize) -> usize
         }
     }
     repeat_clipped(buf, pos, x, n)
+}
+
+// The byte x, n times. A few are the bytes of a word.
+pub fn put_repeated(buf: &mut [u8], pos: usize, x: u8, n: usize) -> usize
+    requires { ⌜ pos ≤ limit ⌝ }
+    ensures { λ r. ⌜ Wrote (now (buf .entry)) (now (buf .exit)) pos r (replicate n x) ⌝ }
+{
+    if n == 2 {
+        return put_two(buf, pos, x, x);
+    }
+    if n <= 8 {
+        return put_le(buf, pos, wide(x) * 0x0101_0101_0101_0101, n);
+    }
+    repeat_long(buf, pos, x, n)
 }
 
 // The n lowest bytes of w, eight at most, for which there is room: two stores that overlap.
@@ -309,8 +308,8 @@ pub fn put_le(buf: &mut [u8], pos: usize, n: u64, width: usize) -> usize
     requires { ⌜ pos ≤ limit ⌝ }
     ensures { λ r. ⌜ Wrote (now (buf .entry)) (now (buf .exit)) pos r (leBytes width n) ⌝ }
 {
-    if width <= 8 {
-        if pos + width <= buf.len() {
+    if width < 9 {
+        if pos + 7 < buf.len() {
             store_low(buf, pos, n, width);
             return pos + width;
         }

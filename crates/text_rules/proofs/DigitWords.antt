@@ -224,7 +224,7 @@ first-digits k c v n h e =
     ∙ ap (λ (t : List ℕ). t ++ leBytes k (v / 2 ^ (8 * k) / 256 ^ c)) l
 
 -- what stands behind a text is overwritten by what is longer
-sets-behind : (l s j t : List ℕ) (p : ℕ) → length j ≤ length t → sets (sets l p (s ++ j)) (p + length s) t ≡ sets l p (s ++ t)
+pub sets-behind : (l s j t : List ℕ) (p : ℕ) → length j ≤ length t → sets (sets l p (s ++ j)) (p + length s) t ≡ sets l p (s ++ t)
 sets-behind l s j t p h =
     let k = length j in
     let e : length j ≡ length (take k t) = simp length-take (omega arith) in

@@ -291,6 +291,19 @@ pub keyword-none : (n x : ℕ) → (n ≡ 3 → ⊥) → (n ≡ 4 → ⊥) → (
 unfolding isKeyword
 keyword-none n x h3 h4 h5 = rw (other-length (ascii "true") n x h4, other-length (ascii "false") n x h5, other-length (ascii "nan") n x h3, other-length (ascii "null") n x h4)
 
+-- a text whose first byte is none of a keyword: of `t`, `f` and `n` the five lowest bits are 20, 6 and 14
+pub keyword-start : (x n : ℕ) → 0x104040 / 2 ^ (x % 32) % 2 ≡ 0 → isKeyword (leBytes n x) ≡ false
+unfolding isKeyword leBytes same strip
+keyword-start x zero h = refl
+keyword-start x (suc n) h =
+    let t : eqb (x % 256) (byte "t") ≡ false = ne-eqb _ _ (λ (e : x % 256 ≡ byte "t"). let b : x % 32 ≡ 20 = omega arith in odd (rw b at h)) in
+    let f : eqb (x % 256) (byte "f") ≡ false = ne-eqb _ _ (λ (e : x % 256 ≡ byte "f"). let b : x % 32 ≡ 6 = omega arith in odd (rw b at h)) in
+    let m : eqb (x % 256) (byte "n") ≡ false = ne-eqb _ _ (λ (e : x % 256 ≡ byte "n"). let b : x % 32 ≡ 14 = omega arith in odd (rw b at h)) in
+    rw (t, f, m)
+  where
+    odd : _≡_ {A = ℕ} 1 0 → ⊥
+    odd e = omega arith
+
 -- the n lowest bytes as a number
 pub masked : (x m n : ℕ) → m ≡ 2 ^ (8 * n) - 1 → bitAnd x m ≡ x % 256 ^ n
 masked x m n e = ap (bitAnd x) e ∙ and-mask x (8 * n) ∙ ap (λ (k : ℕ). x % k) (pow-bytes n)

@@ -153,7 +153,7 @@ fn eight(buf: &mut [u8], p: usize, x: u64)
 }
 
 // The last c of a word's eight bytes: two stores that overlap.
-fn store_last(buf: &mut [u8], p: usize, w: u64, c: usize)
+pub fn store_last(buf: &mut [u8], p: usize, w: u64, c: usize)
     requires { ⌜ (c ≤ 8) × (p + c ≤ length (now buf)) ⌝ }
     ensures { λ _. ⌜ now (buf .exit) ≡ sets (now (buf .entry)) p (drop (8 - c) (leBytes 8 w)) ⌝ }
 {
@@ -324,7 +324,7 @@ pub fn put_digits(buf: &mut [u8], pos: usize, n: u64) -> usize
     requires { ⌜ pos ≤ limit ⌝ }
     ensures { λ r. ⌜ Wrote (now (buf .entry)) (now (buf .exit)) pos r (digits n) ⌝ }
 {
-    if pos + 20 <= buf.len() {
+    if pos + 19 < buf.len() {
         return put_blocks(buf, pos, n);
     }
     let w = digit_count(n);

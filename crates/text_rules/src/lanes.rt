@@ -1,6 +1,6 @@
 // Tests of the bytes of a word side by side: up to eight bytes at once, the lowest first. A mark is the high bit of a byte's place. Each test
 // may say no too often, never yes too often, unless it says otherwise.
-ghost use Prim.Native.Nat.{_%_, _≤_, _-_, _*_, _^_};
+ghost use Prim.Native.Nat.{ℕ, _%_, _≤_, _-_, _*_, _^_};
 ghost use mathlib.Core.Path.{_≡_};
 ghost use mathlib.Core.Bool.{true, false};
 ghost use Rattle.output.specs.Wrote.{leBytes};
@@ -59,29 +59,14 @@ fn low_bits(n: usize) -> u64
     }
 }
 
-// False only where the n lowest bytes are no keyword. It also takes a keyword with a NUL behind it for one, which `is_plain` has ruled out by
-// then, and is the shorter for it: it is asked of every name.
-fn resembles_keyword(x: u64, n: usize) -> bool
-    requires { ⌜ (1 ≤ n) × (n ≤ 8) ⌝ }
-    ensures { λ r. ⌜ (r ≡ false → isKeyword (leBytes n x) ≡ false) ⌝ }
+// The bits 6, 14 and 20: what the five lowest bits of `f`, `n` and `t` are.
+const KEYWORD_STARTS: u64 = 0x104040;
+
+// No keyword starts with the lowest byte.
+fn starts_no_keyword(x: u64) -> bool
+    ensures { λ r. ⌜ (r ≡ true → (n : ℕ) → isKeyword (leBytes n x) ≡ false) ⌝ }
 {
-    if n < 3 {
-        return false;
-    }
-    if 5 < n {
-        return false;
-    }
-    let y = x & low_bits(n);
-    if y == 0x65757274 {
-        return true;
-    }
-    if y == 0x6C6C756E {
-        return true;
-    }
-    if y == 0x6E616E {
-        return true;
-    }
-    y == 0x65736C6166
+    (KEYWORD_STARTS >> (x % 32)) % 2 == 0
 }
 
 // The n lowest bytes are true, false, nan or null, no more and no less. The bytes come first and then their number, so that the compiler
@@ -120,7 +105,10 @@ pub fn is_plain(x: u64, n: usize) -> bool
     if (!letters(x) | x) & high_bits(n) != 0 {
         return false;
     }
-    !resembles_keyword(x, n)
+    if starts_no_keyword(x) {
+        return true;
+    }
+    !is_keyword_word(x, n)
 }
 
 // The n lowest bytes are written in text as they are. It says no of every byte below hex 20, which keeps the test short.

@@ -2,10 +2,12 @@
 use Prim.Native.Nat.{ℕ, _+_, _-_, _<_, _≤_}
 use mathlib.Core.Path.{_≡_, refl, sym, ap, _∙_}
 use mathlib.Core.List.{List, [], _++_, append-assoc, append-nil}
-use mathlib.Core.Bool.{Bool, true, false}
+use mathlib.Core.Bool.{Bool, true, false, not}
 use mathlib.Core.Option.{Option}
+use native.Mathlib.Decide.{decLe}
 use native.Mathlib.Omega.{arith}
-use lib.Dec.{eqb}
+use borrow.Author.Tests.{lt-ltb, le-ltb, eq-eqb, ne-eqb}
+use lib.Dec.{ltb, eqb}
 use lib.ListN.{length, getD, take, drop}
 use Rattle.output.specs.Logic.{if, ascii}
 use Rattle.tape.specs.Bytes.{part, leNumber}
@@ -36,6 +38,18 @@ module _ (y : ℕ) (w : ℕ) (d : ℕ) (k : Frame) (s : List ℕ) (at e : ℕ) (
       let t = turn-here d k s at e nz h i z in
       ap (items y k w) (t .nodes)
       ∙ ap (λ (b : Bool). (front y w (headAt k (part s at e)) ++ (item y w (nodeAt (d - 1) (part s value e)) ++ ending y k b)) ++ items y k w (walk d k (part s next e) .0)) (left-nil d k s next e nz (t .behind) i (t .fine))
+
+-- a child behind which nothing stands in its body is the last
+pub last-child : (n e : ℕ) → n ≤ e → not (ltb n e) ≡ eqb n e
+last-child n e h = go (decLe e n)
+  where
+    go : Dec (e ≤ n) → not (ltb n e) ≡ eqb n e
+    go (yes g) = let q : n ≡ e = omega arith in rw (le-ltb n e g, eq-eqb n e q)
+    go (no g) = rw (lt-ltb n e (omega arith), ne-eqb n e (λ (q : n ≡ e). omega arith))
+
+pub not-last : (b : Bool) → if b false false ≡ false
+not-last true = refl
+not-last false = refl
 
 -- ---- a value of the walk
 

@@ -167,15 +167,23 @@ module _ (s : List ℕ) (at e : ℕ) (w : at ≤ e) (i : e ≤ length s) (z : na
   name-first : kind m ≡ getD s at 0
   name-first = let r = name-header in part-first s at e (omega arith)
 
+  -- of the kinds 6 and 7, the one that is not below 7
+  kind-seven : 7 ≤ getD s at 0 → kind m ≡ 7
+  kind-seven h = go (decLe (kind m) 7)
+    where
+      go : Dec (kind m ≤ 7) → kind m ≡ 7
+      go (yes g) = let f = name-first in omega arith
+      go (no g) = let six = sym-six m symbol-there (λ q. omega arith) in absurd (omega arith)
+
   module _ (n : ℕ) (j : n ≡ leNumber 4 (drop (at + 1) s)) where
     name-length : lengthOf m ≡ n
     name-length = let r = name-header in part-number s at e 4 1 (omega arith) ∙ sym j
 
-    pub id-name : getD s at 0 ≡ 7 → NameAt s at e (Sym.id n) 5
+    pub id-name : 7 ≤ getD s at 0 → NameAt s at e (Sym.id n) 5
     id-name k =
         record {
           room = name-header;
-          read = named (some (Sym.id (lengthOf m), 5)) (sym-id m (name-first ∙ k) (sym-room m symbol-there)) ∙ ap (λ (i : ℕ). some (some (Sym.id i), 5)) name-length;
+          read = named (some (Sym.id (lengthOf m), 5)) (sym-id m (kind-seven k) (sym-room m symbol-there)) ∙ ap (λ (i : ℕ). some (some (Sym.id i), 5)) name-length;
         }
 
     pub text-name : (getD s at 0 ≡ 7 → ⊥) → NameAt s at e (Sym.text (take n (drop 5 m))) (5 + n)

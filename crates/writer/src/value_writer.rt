@@ -6,7 +6,7 @@ ghost use lib.ListN.{length, getD, take, drop};
 ghost use Rattle.output.specs.Wrote.{Wrote, limit};
 ghost use Rattle.tape.specs.Bytes.{part};
 ghost use mathlib.Core.Option.{some};
-ghost use mathlib.Core.Bool.{true, false};
+ghost use mathlib.Core.Bool.{true, false, not};
 ghost use lib.Dec.{eqb};
 ghost use mathlib.Core.List.{[]};
 ghost use Rattle.tape.specs.Tape.{past, nameOf, notesOf, headOf, scalarOf, walk};
@@ -117,22 +117,17 @@ fn plain_at(tape: &[u8], from: usize, n: usize) -> bool
     false
 }
 
-// The symbol at a place, and `: `.
-fn write_name(buf: &mut [u8], pos: usize, tape: &[u8], at: usize, end: usize) -> Step
+// The symbol at a place, which is text, and `: `.
+fn write_text_name(buf: &mut [u8], pos: usize, tape: &[u8], at: usize, end: usize) -> Step
     requires { ⌜ pos ≤ limit ⌝ }
     requires { ⌜ at ≤ end ⌝ }
     requires { ⌜ end + 8 ≤ length (now tape) ⌝ }
     requires { ⌜ nameOf Struct (part (now tape) at end) ≡ some (nameIn Struct (part (now tape) at end), taken (nameOf Struct (part (now tape) at end))) ⌝ }
+    requires { ⌜ getD (now tape) at 0 < 7 ⌝ }
     ensures text { λ r. ⌜ Wrote (now (buf .entry)) (now (buf .exit)) pos (r .pos) (nameText (nameIn Struct (part (now (tape .entry)) at end))) ⌝ }
     ensures place { λ r. ⌜ r .at ≡ at + taken (nameOf Struct (part (now (tape .entry)) at end)) ⌝ }
 {
-    let i = tape::u32_at(tape, at + 1);
-    if tape[at] == 7 {
-        let p = text_formatter::format_symbol_id(buf, pos, i as u32);
-        let q = write_colon(buf, p);
-        return Step { pos: q, at: at + 5 };
-    }
-    let n = i as usize;
+    let n = tape::u32_at(tape, at + 1) as usize;
     let from = at + 5;
     if plain_at(tape, from, n) {
         let p = output::put_le(buf, pos, output::word_at(tape, from), n);
@@ -148,6 +143,24 @@ fn write_name(buf: &mut [u8], pos: usize, tape: &[u8], at: usize, end: usize) ->
         pos: q,
         at: from + n,
     }
+}
+
+// The symbol at a place, and `: `.
+fn write_name(buf: &mut [u8], pos: usize, tape: &[u8], at: usize, end: usize) -> Step
+    requires { ⌜ pos ≤ limit ⌝ }
+    requires { ⌜ at ≤ end ⌝ }
+    requires { ⌜ end + 8 ≤ length (now tape) ⌝ }
+    requires { ⌜ nameOf Struct (part (now tape) at end) ≡ some (nameIn Struct (part (now tape) at end), taken (nameOf Struct (part (now tape) at end))) ⌝ }
+    ensures text { λ r. ⌜ Wrote (now (buf .entry)) (now (buf .exit)) pos (r .pos) (nameText (nameIn Struct (part (now (tape .entry)) at end))) ⌝ }
+    ensures place { λ r. ⌜ r .at ≡ at + taken (nameOf Struct (part (now (tape .entry)) at end)) ⌝ }
+{
+    if tape[at] < 7 {
+        return write_text_name(buf, pos, tape, at, end);
+    }
+    let i = tape::u32_at(tape, at + 1);
+    let p = text_formatter::format_symbol_id(buf, pos, i as u32);
+    let q = write_colon(buf, p);
+    Step { pos: q, at: at + 5 }
 }
 
 // A field's name, where the child at a place has one.
@@ -242,7 +255,7 @@ fn write_front(
     ensures text { λ r. ⌜ Wrote (now (buf .entry)) (now (buf .exit)) pos (r .pos) (front layout width (headAt frame (part (now (tape .entry)) at end))) ⌝ }
     ensures place { λ r. ⌜ r .at ≡ at + taken (headOf frame (part (now (tape .entry)) at end)) ⌝ }
 {
-    let o = output::put_repeated(buf, pos, b' ', width);
+    let o = whitespace_config::write_blanks(buf, pos, width);
     let n = encode_field_name(buf, o, tape, at, end, frame);
     let from = n.at;
     if tape[from] != 13 {
@@ -261,22 +274,15 @@ fn write_front(
     }
 }
 
-// Whether nothing follows a child: in the tree text, behind the last.
-fn ends_bare(layout: u32, last: bool) -> bool
-    ensures { λ r. ⌜ r ≡ if (eqb layout 3) last false ⌝ }
-{
-    if layout != 3 {
-        return false;
-    }
-    last
-}
-
-// What follows a child; `last`: no other follows it.
-fn write_ending(buf: &mut [u8], pos: usize, layout: u32, s: Separator, last: bool) -> usize
+// What follows a child; `more`: another child follows it. In the tree text nothing stands behind the last.
+fn write_ending(buf: &mut [u8], pos: usize, layout: u32, s: Separator, more: bool) -> usize
     requires { ⌜ pos ≤ limit ⌝ }
-    ensures { λ r. ⌜ Wrote (now (buf .entry)) (now (buf .exit)) pos r (if (if (eqb layout 3) last false) [] (separating s)) ⌝ }
+    ensures { λ r. ⌜ Wrote (now (buf .entry)) (now (buf .exit)) pos r (if (if (eqb layout 3) (not more) false) [] (separating s)) ⌝ }
 {
-    if ends_bare(layout, last) {
+    if more {
+        return whitespace_config::write_separator(buf, pos, s);
+    }
+    if layout == 3 {
         return pos;
     }
     whitespace_config::write_separator(buf, pos, s)
@@ -372,6 +378,9 @@ fn write_close(buf: &mut [u8], pos: usize, width: usize, frame: Frame) -> usize
     requires { ⌜ pos ≤ limit ⌝ }
     ensures { λ r. ⌜ Wrote (now (buf .entry)) (now (buf .exit)) pos r (blanks width ++ closing frame) ⌝ }
 {
+    if width == 0 {
+        return whitespace_config::write_end(buf, pos, frame);
+    }
     let p = output::put_repeated(buf, pos, b' ', width);
     whitespace_config::write_end(buf, p, frame)
 }
@@ -467,7 +476,7 @@ pub fn write_nodes(
     while at < end {
         let f = write_front(buf, p, tape, at, end, frame, layout, width);
         let v = write_value(tape, f.at, end, depth - 1, layout, width, buf, f.pos);
-        p = write_ending(buf, v.pos, layout, s, v.at == end);
+        p = write_ending(buf, v.pos, layout, s, v.at < end);
         at = v.at;
     }
     p

@@ -6,7 +6,7 @@ ghost use lib.Dec.{eqb};
 ghost use Rattle.output.specs.Logic.{if, byte};
 ghost use Rattle.output.specs.Wrote.{Wrote, limit};
 ghost use Rattle.writer.specs.Steps.{separating};
-ghost use Rattle.writer.specs.Text.{separator, broken, deeper, opening, closing};
+ghost use Rattle.writer.specs.Text.{separator, broken, blanks, deeper, opening, closing};
 use tape::Frame;
 
 // What follows a value: `second` alone, or a comma and `second`.
@@ -61,6 +61,18 @@ pub fn write_separator(buf: &mut [u8], pos: usize, s: Separator) -> usize
         return output::put_two(buf, pos, b',', s.second);
     }
     output::put(buf, pos, s.second)
+}
+
+// The blanks before a child, which mostly are none. What writes them is called, here and where a container is closed, so that it stays out of
+// the walk.
+pub fn write_blanks(buf: &mut [u8], pos: usize, width: usize) -> usize
+    requires { ⌜ pos ≤ limit ⌝ }
+    ensures { λ r. ⌜ Wrote (now (buf .entry)) (now (buf .exit)) pos r (blanks width) ⌝ }
+{
+    if width == 0 {
+        return pos;
+    }
+    output::put_repeated(buf, pos, b' ', width)
 }
 
 // How many blanks stand before a child of a container that has `width` before itself.

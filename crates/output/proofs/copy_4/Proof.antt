@@ -1,69 +1,15 @@
 -- `output::copy_4` meets its contract. Assumes nothing.
-use Prim.Native.Nat.{suc, _+_}
-use mathlib.Core.Path.{_≡_}
-use native.Mathlib.Omega.{arith}
-use lib.ListN.{length-set}
-use Rattle.output.proofs.Laws.{take-4}
+use mathlib.Core.Path.{ap, _∙_}
+use lib.Seq.{sets}
 use borrow.Author.Needs.{needs}
 use Rattle.output.proofs.copy_4.Statement.{statement}
 use Rattle.output.proofs.copy_4.Tie as tie
 
-shared-slice-read-joined : tie.Need-shared-slice-read-joined
-shared-slice-read-joined c = search needs
+half-at-requires : tie.Need-half-at-requires
+half-at-requires c κs = search needs
 
-add-joined : tie.Need-add-joined
-add-joined c = search needs
-
-shared-slice-read-joined-2 : tie.Need-shared-slice-read-joined-2
-shared-slice-read-joined-2 c = search needs
-
-add-joined-2 : tie.Need-add-joined-2
-add-joined-2 c = search needs
-
-shared-slice-read-joined-3 : tie.Need-shared-slice-read-joined-3
-shared-slice-read-joined-3 c = search needs
-
-add-joined-3 : tie.Need-add-joined-3
-add-joined-3 c = search needs
-
-shared-slice-read-joined-4 : tie.Need-shared-slice-read-joined-4
-shared-slice-read-joined-4 c = search needs
-
-joined-requires : tie.Need-joined-requires
-joined-requires c κs = search needs
-
-cast-buf : tie.Need-cast-buf
-cast-buf c = search needs
-
-slice-write-buf : tie.Need-slice-write-buf
-slice-write-buf c = search needs
-
-cast-buf-2 : tie.Need-cast-buf-2
-cast-buf-2 c = search needs
-
-add-buf : tie.Need-add-buf
-add-buf c = search needs
-
-slice-write-buf-2 : tie.Need-slice-write-buf-2
-slice-write-buf-2 c = simp length-set (omega arith)
-
-cast-buf-3 : tie.Need-cast-buf-3
-cast-buf-3 c = search needs
-
-add-buf-2 : tie.Need-add-buf-2
-add-buf-2 c = search needs
-
-slice-write-buf-3 : tie.Need-slice-write-buf-3
-slice-write-buf-3 c = simp length-set (omega arith)
-
-cast-buf-4 : tie.Need-cast-buf-4
-cast-buf-4 c = search needs
-
-add-buf-3 : tie.Need-add-buf-3
-add-buf-3 c = search needs
-
-slice-write-buf-4 : tie.Need-slice-write-buf-4
-slice-write-buf-4 c = simp length-set (omega arith)
+store-4-requires : tie.Need-store-4-requires
+store-4-requires c κs = search needs
 
 same-length : tie.Need-same-length
 same-length c = search needs
@@ -71,34 +17,7 @@ same-length c = search needs
 returns : tie.Need-returns
 returns c =
     let a = c .before .before .before .before .before .before .before .args in
-    let e = c .joined .ensures in
-    let p1 : a .pos + 1 ≡ suc (a .pos) = omega arith in
-    let p2 : a .pos + 2 ≡ suc (suc (a .pos)) = omega arith in
-    let p3 : a .pos + 3 ≡ suc (suc (suc (a .pos))) = omega arith in
-    rw (e .0, e .1, e .2, e .3, p1, p2, p3, take-4 (a .s .now) (a .from) (omega arith))
+    c .before .before .store-4 .ensures ∙ ap (sets (a .buf .now) (a .pos)) (c .before .before .before .half-at .ensures .0)
 
 pub copy-4-spec : {M : Type 1} → statement M
-copy-4-spec =
-    tie.close
-    (tie.spec
-    shared-slice-read-joined
-    add-joined
-    shared-slice-read-joined-2
-    add-joined-2
-    shared-slice-read-joined-3
-    add-joined-3
-    shared-slice-read-joined-4
-    joined-requires
-    cast-buf
-    slice-write-buf
-    cast-buf-2
-    add-buf
-    slice-write-buf-2
-    cast-buf-3
-    add-buf-2
-    slice-write-buf-3
-    cast-buf-4
-    add-buf-3
-    slice-write-buf-4
-    same-length
-    returns)
+copy-4-spec = tie.close (tie.spec half-at-requires store-4-requires same-length returns)

@@ -53,6 +53,24 @@ returns-2 c =
     let q = c .before .before .before .before .before .before .before .before .before .pre in
     rw (add-assoc (x .pos) (x .w) 1) (wrote-here (x .w + 1) (c .before .before .pointed-long .ensures) (length-pointed (x .n) (x .w) (x .k) (q .1) (q .4)) (omega arith) (search needs))
 
+pointed-late-requires : tie.Need-pointed-late-requires
+pointed-late-requires c κs = search needs
+
+add-result-5 : tie.Need-add-result-5
+add-result-5 c = search needs
+
+add-result-6 : tie.Need-add-result-6
+add-result-6 c = search needs
+
+same-length-3 : tie.Need-same-length-3
+same-length-3 c = search needs
+
+returns-3 : tie.Need-returns-3
+returns-3 c =
+    let x = c .before .before .before .before .before .before .before .before .before .args in
+    let q = c .before .before .before .before .before .before .before .before .before .pre in
+    rw (add-assoc (x .pos) (x .w) 1) (wrote-here (x .w + 1) (c .before .before .pointed-late .ensures) (length-pointed (x .n) (x .w) (x .k) (q .1) (q .4)) (omega arith) (search needs))
+
 sub-left : tie.Need-sub-left
 sub-left c = search needs
 
@@ -71,11 +89,11 @@ put-requires c κs = search needs
 put-padded-requires : tie.Need-put-padded-requires
 put-padded-requires c κs = search needs
 
-same-length-3 : tie.Need-same-length-3
-same-length-3 c = search needs
+same-length-4 : tie.Need-same-length-4
+same-length-4 c = search needs
 
-returns-3 : tie.Need-returns-3
-returns-3 c =
+returns-4 : tie.Need-returns-4
+returns-4 c =
     let x = c .before .before .before .before .before .before .before .before .before .before .before .before .before .before .before .args in
     let q = c .before .before .before .before .before .before .before .before .before .before .before .before .before .before .before .pre in
     let h : x .k + (x .w - x .k) ≡ x .w = omega (arith, q .4) in
@@ -98,11 +116,16 @@ put-pointed-spec =
     add-result-4
     same-length-2
     returns-2
+    pointed-late-requires
+    add-result-5
+    add-result-6
+    same-length-3
+    returns-3
     sub-left
     pow10-requires
     div-put-digits
     put-digits-requires
     put-requires
     put-padded-requires
-    same-length-3
-    returns-3)
+    same-length-4
+    returns-4)

@@ -12,7 +12,7 @@ use Rattle.tape.proofs.Parts.{part-length}
 use Rattle.writer.specs.Steps.{ending, items}
 use Rattle.writer.proofs.Layouts.{deeper-most}
 use Rattle.writer.proofs.Turning.{head-here, turn-here}
-use Rattle.writer.proofs.Items.{items-turn, value-place, scalar-text, scalar-size, scalar-some, marker-text, marker-length, header-room, container}
+use Rattle.writer.proofs.Items.{last-child, items-turn, value-place, scalar-text, scalar-size, scalar-some, marker-text, marker-length, header-room, container}
 use Rattle.tape.proofs.Parts.{trailed}
 use borrow.Author.Needs.{needs}
 use borrow.Fn.Kinds.{In}
@@ -153,7 +153,7 @@ module _ (t : ℕ) where
       let u = turn-here (a .depth) (a .frame) (now (a .tape)) (l .at) (a .end) nz lt (trailed (s .pre .1 .1 .0)) (l .inv .1) in
       let f = c .before .before .before .before .before .before .before .before .before .before .before .write-front .ensures in
       let v = rw (f .1) at (c .before .before .before .before .before .before .before .write-value .ensures) in
-      let e = rw (v .1, c .before .before .before .before .before .before .before .before .before .before .before .before .before .before .before .separator-of .ensures) at (c .before .before .write-ending .ensures) in (
+      let e = rw (v .1, c .before .before .before .before .before .before .before .before .before .before .before .before .before .before .before .separator-of .ensures, last-child _ _ (u .behind)) at (c .before .before .write-ending .ensures) in (
         rw (v .1) (u .behind),
         rw (v .1) (u .fine),
         rw (v .1) (more (l .inv .2) (wrote-then (f .0) (wrote-then (v .0) e)) (items-turn (a .layout) (a .width) (a .depth) (a .frame) (now (a .tape)) (l .at) (a .end) nz lt (trailed (s .pre .1 .1 .0)) (l .inv .1))),

@@ -13,14 +13,14 @@ use borrow.Author.Needs.{needs}
 use Rattle.writer.proofs.value_writer.write_front.Statement.{statement}
 use Rattle.writer.proofs.value_writer.write_front.Tie as tie
 
-put-repeated-requires : tie.Need-put-repeated-requires
-put-repeated-requires c κs = search needs
+write-blanks-requires : tie.Need-write-blanks-requires
+write-blanks-requires c κs = search needs
 
 encode-field-name-requires : tie.Need-encode-field-name-requires
 encode-field-name-requires c κs =
     let s = c .before .before .before .before .before .before .before in
     let a = s .args in
-    (wrote-bound (c .before .before .before .put-repeated .ensures), (s .pre .1 .0, (s .pre .1 .1 .0, name-there (a .frame) (now (a .tape)) (a .at) (a .end) (s .pre .1 .1 .1 .0))))
+    (wrote-bound (c .before .before .before .write-blanks .ensures), (s .pre .1 .0, (s .pre .1 .1 .0, name-there (a .frame) (now (a .tape)) (a .at) (a .end) (s .pre .1 .1 .1 .0))))
 
 shared-slice-read-if1 : tie.Need-shared-slice-read-if1
 shared-slice-read-if1 c =
@@ -40,7 +40,7 @@ returns c =
     let a = s .args in
     let b = name-before (a .frame) (now (a .tape)) (a .at) (a .end) (s .pre .1 .1 .1 .0) _ (c .before .before .before .before .encode-field-name .ensures .1) in
     let u = s .pre .1 .1 .1 .1 in (
-      rw (bare-front (a .frame) (now (a .tape)) (a .at) (a .end) (s .pre .1 .1 .1 .0) _ (c .before .before .before .before .encode-field-name .ensures .1) (omega arith) (c .if1 .taken) (a .layout) (a .width)) (wrote-then (c .before .before .before .before .before .before .before .before .put-repeated .ensures) (c .before .before .before .before .encode-field-name .ensures .0)),
+      rw (bare-front (a .frame) (now (a .tape)) (a .at) (a .end) (s .pre .1 .1 .1 .0) _ (c .before .before .before .before .encode-field-name .ensures .1) (omega arith) (c .if1 .taken) (a .layout) (a .width)) (wrote-then (c .before .before .before .before .before .before .before .before .write-blanks .ensures) (c .before .before .before .before .encode-field-name .ensures .0)),
       bare-place (a .frame) (now (a .tape)) (a .at) (a .end) (s .pre .1 .1 .1 .0) _ (c .before .before .before .before .encode-field-name .ensures .1) (omega arith) (c .if1 .taken),
     )
 
@@ -88,7 +88,7 @@ returns-3 c =
     let n = name-placed (a .frame) (now (a .tape)) (a .at) (a .end) (s .pre .1 .1 .1 .0) _ (c .before .before .before .before .before .before .before .before .before .before .before .before .before .encode-field-name .ensures .1) in
     let v = head-one (a .frame) (now (a .tape)) (a .at) (a .end) _ n ∙ sym (c .before .before .before .before .before .before .before .before .notes-end .ensures) ∙ c .before .before .before .before .before .before .value .given .1 in
     let z = ap (placeOf (a .at)) (s .pre .1 .1 .1 .0) in (
-      rw (front-parts (a .layout) (a .width) (a .frame) (now (a .tape)) (a .at) (a .end) _ _ n v, eq-eqb _ _ (c .before .before .before .before .if2 .taken)) (wrote-then (wrote-then (c .before .before .before .before .before .before .before .before .before .before .before .before .before .before .before .before .before .put-repeated .ensures) (c .before .before .before .before .before .before .before .before .before .before .before .before .before .encode-field-name .ensures .0)) (c .before .before .write-notes .ensures)),
+      rw (front-parts (a .layout) (a .width) (a .frame) (now (a .tape)) (a .at) (a .end) _ _ n v, eq-eqb _ _ (c .before .before .before .before .if2 .taken)) (wrote-then (wrote-then (c .before .before .before .before .before .before .before .before .before .before .before .before .before .before .before .before .before .write-blanks .ensures) (c .before .before .before .before .before .before .before .before .before .before .before .before .before .encode-field-name .ensures .0)) (c .before .before .write-notes .ensures)),
       cc,
     )
 
@@ -102,7 +102,7 @@ returns-4 c =
     let n = name-placed (a .frame) (now (a .tape)) (a .at) (a .end) (s .pre .1 .1 .1 .0) _ (c .before .before .before .before .before .before .before .before .before .encode-field-name .ensures .1) in
     let v = head-one (a .frame) (now (a .tape)) (a .at) (a .end) _ n ∙ sym (c .before .before .before .before .notes-end .ensures) ∙ c .before .before .value .given .1 in
     let z = ap (placeOf (a .at)) (s .pre .1 .1 .1 .0) in (
-      rw (front-parts (a .layout) (a .width) (a .frame) (now (a .tape)) (a .at) (a .end) _ _ n v, ne-eqb _ _ (c .if2 .left)) (wrote-then (wrote-then (c .before .before .before .before .before .before .before .before .before .before .before .before .before .put-repeated .ensures) (c .before .before .before .before .before .before .before .before .before .encode-field-name .ensures .0)) (wrote-none _ _ (wrote-bound (c .before .before .before .before .before .before .before .before .before .encode-field-name .ensures .0)) (search needs))),
+      rw (front-parts (a .layout) (a .width) (a .frame) (now (a .tape)) (a .at) (a .end) _ _ n v, ne-eqb _ _ (c .if2 .left)) (wrote-then (wrote-then (c .before .before .before .before .before .before .before .before .before .before .before .before .before .write-blanks .ensures) (c .before .before .before .before .before .before .before .before .before .encode-field-name .ensures .0)) (wrote-none _ _ (wrote-bound (c .before .before .before .before .before .before .before .before .before .encode-field-name .ensures .0)) (search needs))),
       cc,
     )
 
@@ -110,7 +110,7 @@ pub write-front-spec : {M : Type 1} → statement M
 write-front-spec =
     tie.close
     (tie.spec
-    put-repeated-requires
+    write-blanks-requires
     encode-field-name-requires
     shared-slice-read-if1
     same-length
