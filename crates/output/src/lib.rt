@@ -1,5 +1,6 @@
 // The output layer: bytes into a lent slice at a position. A byte past the slice's end is counted and not stored, so that the
 // same calls over a slice of no bytes measure. A position stops at LIMIT, which is above the length of every slice.
+// Room is asked for by `<`: of that test the compiler lays the true side next, and of `<=` the other (docs/BENCHMARKS.md).
 ghost use mathlib.Core.Path.{_≡_};
 ghost use mathlib.Core.List.{[], _∷_};
 ghost use Prim.Native.Nat.{_+_, _/_, _%_, _<_, _≤_, min};
@@ -61,8 +62,8 @@ fn half_at(s: &[u8], from: usize) -> u64
         + 16777216 * wide(s[from + 3])
 }
 
-// Eight bytes of s from a place on, as one number, the lowest first. By halves: of a sum of eight the compiler makes one load
-// only where no part of it is used by itself.
+// Eight bytes of s from a place on, as one number, the lowest first. Of two halves of one slice the compiler makes one load here, before any
+// caller uses a part; of a sum of eight it does not.
 pub fn word_at(s: &[u8], from: usize) -> u64
     requires { ⌜ from + 8 ≤ length (now s) ⌝ }
     ensures { λ r. ⌜ leBytes 8 r ≡ take 8 (drop from (now (s .entry))) ⌝ }
@@ -249,7 +250,7 @@ fn repeat_long(buf: &mut [u8], pos: usize, x: u8, n: usize) -> usize
     repeat_clipped(buf, pos, x, n)
 }
 
-// The byte x, n times. A few are the bytes of a word.
+// The byte x, n times. Two are the most frequent, and a few are the bytes of a word.
 pub fn put_repeated(buf: &mut [u8], pos: usize, x: u8, n: usize) -> usize
     requires { ⌜ pos ≤ limit ⌝ }
     ensures { λ r. ⌜ Wrote (now (buf .entry)) (now (buf .exit)) pos r (replicate n x) ⌝ }
@@ -303,7 +304,8 @@ fn le_clipped(buf: &mut [u8], pos: usize, n: u64, width: usize) -> usize
     p
 }
 
-// The lowest bytes of n, as many as the width says, the lowest first.
+// The lowest bytes of n, as many as the width says, the lowest first. Where there is room for eight bytes they are
+// two stores.
 pub fn put_le(buf: &mut [u8], pos: usize, n: u64, width: usize) -> usize
     requires { ⌜ pos ≤ limit ⌝ }
     ensures { λ r. ⌜ Wrote (now (buf .entry)) (now (buf .exit)) pos r (leBytes width n) ⌝ }

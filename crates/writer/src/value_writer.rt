@@ -154,6 +154,7 @@ fn write_name(buf: &mut [u8], pos: usize, tape: &[u8], at: usize, end: usize) ->
     ensures text { λ r. ⌜ Wrote (now (buf .entry)) (now (buf .exit)) pos (r .pos) (nameText (nameIn Struct (part (now (tape .entry)) at end))) ⌝ }
     ensures place { λ r. ⌜ r .at ≡ at + taken (nameOf Struct (part (now (tape .entry)) at end)) ⌝ }
 {
+    // 6 is text, 7 an identifier
     if tape[at] < 7 {
         return write_text_name(buf, pos, tape, at, end);
     }
@@ -274,7 +275,7 @@ fn write_front(
     }
 }
 
-// What follows a child; `more`: another child follows it. In the tree text nothing stands behind the last.
+// What follows a child; `more`: another child follows it. In the tree text nothing follows the last.
 fn write_ending(buf: &mut [u8], pos: usize, layout: u32, s: Separator, more: bool) -> usize
     requires { ⌜ pos ≤ limit ⌝ }
     ensures { λ r. ⌜ Wrote (now (buf .entry)) (now (buf .exit)) pos r (if (if (eqb layout 3) (not more) false) [] (separating s)) ⌝ }
