@@ -14,7 +14,7 @@ use Rattle.reader.specs.Grammar.{skip, closes, sequence, meaning}
 use Rattle.writer.specs.Text.{nameText, separator, blanks, text, streamText}
 use Rattle.claims.proofs.FirstBytes.{first-long}
 use Rattle.claims.proofs.NoteBack.{node-leads}
-use Rattle.claims.proofs.StreamBack.{parts-end, no-notes, three-false, child-back, body-back, sequence-end, stream-back}
+use Rattle.claims.proofs.StreamBack.{parts-end, no-notes, three-false, child-back, body-back, sequence-end}
 use Rattle.claims.proofs.NoLineFeed.{NoLf, no-lf-both, no-lf-name, no-lf-text}
 
 -- the text of a top-level node, without its LF

@@ -1,7 +1,7 @@
 -- Document 01's marked examples (M), under one theorem: `marked`. Assumes nothing.
 use mathlib.Core.Path.{_≡_, refl, ap, sym, _∙_}
 use mathlib.Core.Bool.{true, false}
-use mathlib.Core.List.{List, [], _∷_, _++_}
+use mathlib.Core.List.{List, [], _∷_}
 use mathlib.Core.Option.{none}
 use Prim.Native.Nat.{ℕ}
 use lib.IntN.{ℤ, pos, negsuc}
@@ -14,7 +14,7 @@ use Rattle.text_rules.specs.Text.{symbolText}
 use Rattle.numbers.specs.Decimal.{intText, pointed, scientific, above, below, form, sign, decimalText}
 use Rattle.numbers.specs.Timestamp.{hourAndMinute, offsetText}
 use native.Mathlib.Omega.{arith}
-use Rattle.tape.specs.Tree.{Scalar, Node, Nodes, int, scalar, nest, nil, more, size, encodeHead, encodeName, encodeNotes, encodeScalar, encode, encodes, tape}
+use Rattle.tape.specs.Tree.{Nodes, int, scalar, nest, nil, more, size, encodeHead, encodeName, encodeNotes, encodeScalar, encode, encodes, tape}
 use Rattle.tape.specs.Bytes.{bits}
 use Rattle.output.specs.Wrote.{leBytes}
 use lib.ListN.{length}

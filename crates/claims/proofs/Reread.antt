@@ -23,7 +23,7 @@ use Rattle.tape.specs.declared.answer.Answer.the-variants as A
 use Rattle.reader.specs.Grammar.{meaning}
 use Rattle.reader.specs.Outcome.{fits, zeros, tapeAnswer, tapeLeaves, answer}
 use Rattle.reader.specs.Outcome as read
-use Rattle.writer.specs.Outcome.{laid, refusal, measured, answered, left, streamed, leaves}
+use Rattle.writer.specs.Outcome.{laid, refusal, measured, answered, streamed, leaves}
 use Rattle.writer.specs.Text.{streamText}
 use Rattle.tape.proofs.Walking.{tape-back}
 use Rattle.claims.specs.Back.{backAnswer, backLeaves}

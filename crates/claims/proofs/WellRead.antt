@@ -23,14 +23,11 @@ use Rattle.numbers.specs.Timestamp.{wellFormed}
 use Rattle.numbers.specs.TimestampRead.{timestamp}
 use Rattle.tape.specs.Tree.{Scalar, Head, Node, Nodes, nest, marker, nil, more, encodeSym, encodeSyms, encodeName, encodeNotes, encodeHead, encode, encodes}
 use Rattle.tape.specs.Fine.{Bytes, FineSyms, FineScalar, FineName, FineHead, FineMarker, FineFloat, Inner, Fine, Fines}
-use Rattle.tape.specs.Refusal.{noteds}
 use Rattle.tape.specs.declared.Frame.{Frame}
 use Rattle.tape.specs.declared.Frame.the-variants.{Top, List as ListF, Sexp, Struct}
 use Rattle.reader.specs.Grammar.{taken, skip, opener, opens, closes, gap, note, notes, field, name, head, free, byKind, words, numeralNode, number, numeric, scalar, within, headed, body, sequence, meaning}
-use Rattle.writer.specs.Text.{streamText}
 use Rattle.tape.proofs.Reading.{if-all}
 use Rattle.claims.proofs.TokensRead.{Got, got-none, got, got-then, got-after, got-taken, got-or, SymP, ScalarP, NumeralP, KindP, kind-fits, IsText, word-text, string-text, symbol-got, symbol-scalar, string-scalar, clob-scalar, text-sym, clob-got, null-got, float-got, timestamp-got, numeral-got}
-use Rattle.claims.proofs.StreamBack.{stream-back}
 
 -- ---- heads
 

@@ -2,14 +2,14 @@
 use mathlib.Core.Bool.{Bool, true, false}
 use mathlib.Core.List.{List}
 use mathlib.Core.Option.{Option, none, some}
-use Prim.Native.Nat.{ℕ, zero, suc, _^_, _<_, _≤_, min}
+use Prim.Native.Nat.{ℕ, zero, suc, _^_, _<_, min}
 use mathlib.Core.Path.{_≡_, refl}
 use native.Mathlib.Omega.{arith}
 use lib.Dec.{leb, ltb, eqb}
 use lib.ListN.{length, drop}
 use borrow.Author.Tests.{leb-true}
 use Rattle.output.specs.Logic.{if, on}
-use Rattle.tape.specs.Answer.{Outcome, counted, refused}
+use Rattle.tape.specs.Answer.{counted, refused}
 use Rattle.tape.specs.Tree.{Nodes, tape}
 use Rattle.reader.specs.Grammar.{meaning}
 use Rattle.reader.specs.Outcome.{fits, tapeAnswer, answer}

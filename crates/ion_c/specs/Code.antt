@@ -1,5 +1,5 @@
 -- The number that a call answers across the border. Assumes nothing: these are definitions.
-use Prim.Native.Nat.{ℕ, zero, suc, _^_, _<_}
+use Prim.Native.Nat.{zero, suc, _^_, _<_}
 use lib.IntN.{ℤ, pos, negsuc}
 use Rattle.tape.specs.Answer.{Outcome, counted, ended, refused}
 

@@ -1,7 +1,6 @@
 -- A text and its lines: where it is cut, and what stands before its first and behind its last line feed. Assumes nothing: these are definitions.
 use Prim.Native.Nat.{ℕ, suc}
-use mathlib.Core.List.{List, [], _∷_, _++_}
-use mathlib.Core.Path.{_≡_}
+use mathlib.Core.List.{List, [], _∷_}
 use lib.Dec.{eqb}
 use Rattle.output.specs.Logic.{if, byte}
 

@@ -1,7 +1,7 @@
 -- DEMAND 3: what the calls answer on a written text of which one run of bytes is replaced. Assumes nothing: these are definitions. The grammar
 -- alone is cited, and not the writer: that the Lines text of a tape is written in this sense is a theorem (claims).
 use Prim.Native.Nat.{ℕ, suc}
-use mathlib.Core.List.{List, [], _∷_, _++_, map}
+use mathlib.Core.List.{List, _++_, map}
 use lib.ListN.{take, drop}
 use Rattle.line_reader.specs.Cut.{linesOf, lfs, toFirst, fromLast}
 use Rattle.line_reader.specs.Book.{Turn, success, byBook}

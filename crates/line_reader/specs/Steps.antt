@@ -9,7 +9,6 @@ use Rattle.tape.specs.Answer.{Outcome, refused, outcome}
 use Rattle.tape.specs.declared.answer.Answer.{Answer}
 use Rattle.line_reader.specs.Cut.{toFirst}
 use Rattle.line_reader.specs.Book.{Call, Turn, endMark, byBook}
-use Rattle.line_reader.specs.declared.Called.{Called}
 
 -- "A call at an offset past the text gives 10", which keeps the offset and the buffer
 unfoldable pub past : Turn

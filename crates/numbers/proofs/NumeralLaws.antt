@@ -2,7 +2,7 @@
 use mathlib.Core.Path.{_≡_, refl}
 use mathlib.Core.Bool.{Bool, true, false, not, _&&_}
 use mathlib.Core.List.{List}
-use mathlib.Core.Option.{Option, none, some}
+use mathlib.Core.Option.{none, some}
 use Prim.Native.Nat.{ℕ, zero, suc, _+_, _-_, _^_, _≤_, _<_}
 use native.Mathlib.Decide.{decLe}
 use native.Mathlib.Omega.{arith}
@@ -14,7 +14,6 @@ use borrow.Author.Tests.{lt-ltb, le-ltb, le-leb, lt-leb, ne-eqb}
 use Rattle.output.specs.Logic.{if, byte}
 use Rattle.text_rules.specs.Digits.{run, number, whole}
 use Rattle.text_rules.specs.Texts.{starts}
-use Rattle.text_rules.specs.Reading.{Ends, Reads}
 use Rattle.text_rules.proofs.DigitLaws.{number-more, number-small, whole-run}
 use Rattle.text_rules.proofs.Places.{byte-at}
 use Rattle.numbers.specs.Numeral.{Numeral, Read, signed, intOf, shifted, decimalOf, powerOf, behindD, behindPoint, behindWhole, unsigned}

@@ -12,7 +12,6 @@ use lib.ListN.{length, drop, getD}
 use borrow.Author.Tests.{leb-true}
 use Rattle.output.specs.Logic.{if, then, on}
 use Rattle.text_rules.specs.Digits.{isDigit, run, number}
-use Rattle.text_rules.specs.Reading.{Ends, Reads}
 use Rattle.text_rules.proofs.Places.{byte-at, end-at}
 use Rattle.text_rules.proofs.DigitLaws.{Digits, digits-run, digit-range}
 use Rattle.numbers.specs.TimestampRead.{joined, clock, minutes}

@@ -1,12 +1,7 @@
 -- What the contracts of the readers of numbers say. Assumes nothing: these are definitions.
-use Prim.Native.Nat.{ℕ, _<_}
+use Prim.Native.Nat.{ℕ}
 use lib.IntN.{ℤ}
-use mathlib.Core.Path.{_≡_}
-use mathlib.Core.Bool.{Bool, true}
-use mathlib.Core.List.{List}
 use mathlib.Core.Option.{Option, none, some}
-use lib.ListN.{length, drop}
-use Rattle.text_rules.specs.Texts.{starts}
 use Rattle.numbers.specs.Numeral.{Numeral}
 use Rattle.numbers.specs.declared.numeral.Shift.{Shift}
 use Rattle.numbers.specs.declared.numeral.Shift.the-variants.{By, Out}

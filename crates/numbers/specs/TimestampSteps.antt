@@ -1,14 +1,11 @@
 -- What inner functions on timestamps, reading and writing, say in the terms of the rules. Assumes nothing: these are definitions.
-use Prim.Native.Nat.{ℕ, _<_}
-use mathlib.Core.Path.{_≡_}
+use Prim.Native.Nat.{ℕ}
 use mathlib.Core.Bool.{Bool, true, false}
 use mathlib.Core.List.{List, _∷_, _++_}
 use mathlib.Core.Option.{Option, none, some}
-use lib.ListN.{length, drop}
 use lib.IntN.{ℤ, pos, negsuc}
 use Rattle.output.specs.Logic.{byte}
 use Rattle.text_rules.specs.Digits.{pad}
-use Rattle.text_rules.specs.Texts.{starts}
 use Rattle.numbers.specs.Timestamp.{dateHourAndMinute}
 use Rattle.numbers.specs.declared.timestamp.Timestamp.{Timestamp}
 use Rattle.numbers.specs.declared.timestamp.TimestampRead.{TimestampRead}

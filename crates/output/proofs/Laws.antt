@@ -153,17 +153,6 @@ take-4 s i h =
     ∙ ap (λ (t : List ℕ). getD s i 0 ∷ getD s (i + 1) 0 ∷ t) (take-2 s (i + 2) (omega arith))
     ∙ rw e
 
-pub take-8 : (s : List ℕ) (i : ℕ) → i + 8 ≤ length s → take 8 (drop i s) ≡ getD s i 0 ∷ getD s (i + 1) 0 ∷ getD s (i + 2) 0 ∷ getD s (i + 3) 0 ∷ getD s (i + 4) 0 ∷ getD s (i + 5) 0 ∷ getD s (i + 6) 0 ∷ getD s (i + 7) 0 ∷ []
-take-8 s i h =
-    let e : i + 4 + 1 ≡ i + 5 = omega arith in
-    let f : i + 4 + 2 ≡ i + 6 = omega arith in
-    let g : i + 4 + 3 ≡ i + 7 = omega arith in
-    take-add 4 4 (drop i s)
-    ∙ ap (λ (t : List ℕ). t ++ take 4 (drop 4 (drop i s))) (take-4 s i (omega arith))
-    ∙ ap (λ (t : List ℕ). getD s i 0 ∷ getD s (i + 1) 0 ∷ getD s (i + 2) 0 ∷ getD s (i + 3) 0 ∷ take 4 t) (drop-drop 4 i s)
-    ∙ ap (λ (t : List ℕ). getD s i 0 ∷ getD s (i + 1) 0 ∷ getD s (i + 2) 0 ∷ getD s (i + 3) 0 ∷ t) (take-4 s (i + 4) (omega arith))
-    ∙ rw (e, f, g)
-
 -- ---- a loop that writes: what it wrote so far, and what is left of the whole
 
 pub record Progress (a b : List ℕ) (pos p : ℕ) (whole left : List ℕ) : Type 0 where

@@ -1,9 +1,10 @@
 // The output layer: bytes into a lent slice at a position. A byte past the slice's end is counted and not stored, so that the
 // same calls over a slice of no bytes measure. A position stops at LIMIT, which is above the length of every slice.
-// Room is asked for by `<`: of that test the compiler lays the true side next, and of `<=` the other (docs/BENCHMARKS.md).
+// Where there mostly is room it is asked for by `<`: of that test the compiler lays the true side next, and of `<=` the other
+// (docs/BENCHMARKS.md).
 ghost use mathlib.Core.Path.{_≡_};
 ghost use mathlib.Core.List.{[], _∷_};
-ghost use Prim.Native.Nat.{_+_, _/_, _%_, _<_, _≤_, min};
+ghost use Prim.Native.Nat.{_+_, _<_, _≤_, min};
 ghost use lib.ListN.{length, take, drop, replicate};
 ghost use lib.Seq.{sets};
 ghost use Rattle.output.specs.Wrote.{Wrote, limit, leBytes};
@@ -250,7 +251,7 @@ fn repeat_long(buf: &mut [u8], pos: usize, x: u8, n: usize) -> usize
     repeat_clipped(buf, pos, x, n)
 }
 
-// The byte x, n times. Two are the most frequent, and a few are the bytes of a word.
+// The byte x, n times. Two are the most frequent; eight at most are the bytes of a word.
 pub fn put_repeated(buf: &mut [u8], pos: usize, x: u8, n: usize) -> usize
     requires { ⌜ pos ≤ limit ⌝ }
     ensures { λ r. ⌜ Wrote (now (buf .entry)) (now (buf .exit)) pos r (replicate n x) ⌝ }
@@ -304,8 +305,8 @@ fn le_clipped(buf: &mut [u8], pos: usize, n: u64, width: usize) -> usize
     p
 }
 
-// The lowest bytes of n, as many as the width says, the lowest first. Where there is room for eight bytes they are
-// two stores.
+// The lowest bytes of n, as many as the width says, the lowest first. Up to eight are two stores at most, where there is
+// room for eight.
 pub fn put_le(buf: &mut [u8], pos: usize, n: u64, width: usize) -> usize
     requires { ⌜ pos ≤ limit ⌝ }
     ensures { λ r. ⌜ Wrote (now (buf .entry)) (now (buf .exit)) pos r (leBytes width n) ⌝ }

@@ -2,11 +2,10 @@
 use Prim.Native.Nat.{ℕ, min}
 use mathlib.Core.List.{List, _++_}
 use mathlib.Core.Bool.{Bool}
-use mathlib.Core.Option.{Option, none, some}
 use lib.ListN.{length, drop, replicate}
 use lib.Dec.{leb}
 use Rattle.output.specs.Logic.{if, on}
-use Rattle.tape.specs.Tree.{Nodes, tape}
+use Rattle.tape.specs.Tree.{tape}
 use Rattle.tape.specs.Answer.{Outcome, counted, refused}
 use Rattle.reader.specs.Grammar.{meaning}
 

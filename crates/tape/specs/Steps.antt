@@ -1,8 +1,8 @@
 -- What the contracts of the tape's functions say of their answers. Assumes nothing: these are definitions.
-use Prim.Native.Nat.{ℕ, zero, suc, _+_, _-_, _<_, _≤_}
+use Prim.Native.Nat.{ℕ, _+_, _-_, _<_, _≤_}
 use mathlib.Core.Path.{_≡_}
-use mathlib.Core.List.{List, [], _∷_}
-use mathlib.Core.Bool.{Bool, true, false}
+use mathlib.Core.List.{List, []}
+use mathlib.Core.Bool.{Bool}
 use mathlib.Core.Option.{Option, none, some}
 use lib.ListN.{length, take, drop}
 use lib.Dec.{leb}
@@ -10,8 +10,8 @@ use lib.Ieee.{Float}
 use Rattle.output.specs.Logic.{if}
 use Rattle.text_rules.specs.Text.{Sym}
 use Rattle.tape.specs.Bytes.{part}
-use Rattle.tape.specs.Tree.{Scalar, Head, Node, Nodes, null, bool, int, float, decimal, timestamp, symbol, string, clob, scalar, nest, marker, nil, more, size}
-use Rattle.tape.specs.Tape.{past, lengthOf, headOf, Value, absent, leaf, body, valueOf, Child, bad, single, tree, childOf, Walked, walk}
+use Rattle.tape.specs.Tree.{Scalar, Head, null, bool, int, float, decimal, timestamp, symbol, string, clob, scalar, marker}
+use Rattle.tape.specs.Tape.{past, lengthOf, headOf, Value, absent, leaf, body, bad, single, tree, childOf}
 use Rattle.tape.specs.declared.Frame.{Frame}
 use Rattle.tape.specs.declared.Scalar.{Scalar as ScalarC}
 use Rattle.tape.specs.declared.Scalar.the-variants as C

@@ -2,7 +2,7 @@
 -- Assumes nothing: these are definitions.
 use Prim.Native.Nat.{ℕ, _+_, _-_}
 use mathlib.Core.List.{List}
-use mathlib.Core.Bool.{Bool, true, false, _||_, not}
+use mathlib.Core.Bool.{Bool, _||_, not}
 use lib.ListN.{length, drop}
 use lib.Dec.{ltb, eqb}
 use Rattle.output.specs.Logic.{if}

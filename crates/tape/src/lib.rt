@@ -6,7 +6,7 @@ ghost use mathlib.Core.Path.{_≡_};
 ghost use lib.Dec.{eqb};
 ghost use Prim.Native.Nat.{ℕ, _+_, _-_, _<_, _≤_};
 ghost use mathlib.Core.List.{List};
-ghost use lib.ListN.{length, take, drop};
+ghost use lib.ListN.{length, drop};
 ghost use Rattle.tape.specs.Bytes.{leNumber, signed, part};
 ghost use Rattle.tape.specs.Tree.{null, bool, string, clob};
 ghost use Rattle.tape.specs.Tape.{symOf, symsOf, nameOf, notesOf, headOf, byteOf, intOf, floatAs, floatOf, decimalOf, timestampAs, timestampOf, symbolOf, sizedOf, scalarOf, openOf, valueOf, free};

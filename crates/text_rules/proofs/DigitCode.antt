@@ -1,21 +1,20 @@
 -- What the code of digits cites: counts by powers of ten, and digits in blocks. Assumes nothing.
-use mathlib.Core.Path.{_≡_, refl, sym, ap, subst, _∙_}
-use mathlib.Core.Bool.{Bool, true, false}
+use mathlib.Core.Path.{_≡_, refl, sym, ap, _∙_}
 use mathlib.Core.List.{List, [], _∷_, _++_}
 use Prim.Native.Nat.{ℕ, zero, suc, _+_, _-_, _*_, _/_, _%_, _^_, _≤_, _<_}
-use native.Mathlib.Nat.{le-of-lt, pow-suc, pow-le-pow-right, mod-eq-of-lt, div-eq-of-lt, div-le-self, le-div-iff-mul-le, div-lt-iff-lt-mul}
-use native.Mathlib.Decide.{decLe, decLt}
+use native.Mathlib.Nat.{le-of-lt, pow-suc, pow-le-pow-right, div-eq-of-lt, div-le-self, le-div-iff-mul-le, div-lt-iff-lt-mul}
+use native.Mathlib.Decide.{decLe}
 use native.Mathlib.Omega.{arith}
-use lib.Dec.{lit<, lit≤}
+use lib.Dec.{lit<}
 use lib.Arith.{mod-mul}
 use lib.Pow.{pow-add}
-use lib.ListN.{length, set, replicate, length-append, length-replicate}
-use lib.Seq.{sets, length-sets, set-comm}
+use lib.ListN.{length, set, replicate}
+use lib.Seq.{sets, set-comm}
 use Rattle.output.specs.Logic.{byte}
 use Rattle.output.proofs.Laws.{sets-append, set-sets-behind}
 use Rattle.text_rules.specs.Digits.{digit, pad, count, digits, zeroPadded}
 use Rattle.text_rules.specs.DigitSteps.{Led}
-use Rattle.text_rules.proofs.DigitLaws.{pow-pos10, length-pad, pad-split, pad-zero, count-most, count-some, count-enough, length-digits, digits-some, digits-most}
+use Rattle.text_rules.proofs.DigitLaws.{pow-pos10, length-pad, pad-split, pad-zero, count-most, count-some, count-enough, length-digits}
 
 -- the w lowest digits are those of the remainder
 pub pad-mod : (w n : ℕ) → pad w (n % 10 ^ w) ≡ pad w n

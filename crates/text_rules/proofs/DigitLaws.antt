@@ -1,19 +1,18 @@
 -- Laws of digits. Assumes nothing.
-use mathlib.Core.Path.{_≡_, refl, sym, ap, subst, _∙_}
+use mathlib.Core.Path.{_≡_, refl, sym, ap, _∙_}
 use mathlib.Core.Bool.{Bool, true, false, _&&_, not}
 use mathlib.Core.List.{List, [], _∷_, _++_, append-assoc, append-nil}
 use Prim.Native.Nat.{ℕ, zero, suc, _+_, _-_, _*_, _/_, _%_, _^_, _≤_, _<_}
 use native.Mathlib.Nat.{pow-suc, pow-succ', mul-assoc, mod-eq-of-lt, add-zero, add-suc, div-one, div-div-eq-div-mul, mul-le-mul-right, pow-le-pow-right}
-use native.Mathlib.Decide.{decLe}
 use native.Mathlib.Numerals.{add-one, one-add}
 use native.Mathlib.Omega.{arith}
 use lib.Dec.{ltb, leb, eqb, lit<, lit≤}
 use lib.Arith.{mod-mul}
 use lib.ListN.{length, take, drop, replicate, length-append, replicate-append-replicate}
 use lib.Seq.{take-at, drop-at}
-use borrow.Author.Tests.{lt-ltb, le-ltb, le-leb, lt-leb, ltb-true, ltb-false, leb-true, ne-eqb}
+use borrow.Author.Tests.{lt-ltb, le-leb, ltb-true, ltb-false, leb-true, ne-eqb}
 use Rattle.output.specs.Logic.{if, byte}
-use Rattle.text_rules.specs.Digits.{digit, pad, count, digits, zeroPadded, isDigit, run, past, number, whole}
+use Rattle.text_rules.specs.Digits.{pad, count, digits, isDigit, run, past, number, whole}
 
 pub never : {A : Type 0} → true ≡ false → A
 never h = let n : _≡_ {A = ℕ} 0 1 = cc in let bad : ⊥ = omega arith in absurd bad

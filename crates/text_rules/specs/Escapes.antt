@@ -1,12 +1,12 @@
 -- Escapes: the letters, hex digits, and the kind of each byte in the table. Assumes nothing: these are definitions.
 use Prim.Native.Nat.{ℕ, zero, suc, _+_, _-_, _*_, _/_, _%_, _<_}
-use mathlib.Core.Bool.{Bool, true, false, _&&_, _||_}
+use mathlib.Core.Bool.{Bool, _&&_, _||_}
 use mathlib.Core.List.{List, [], _∷_, _++_}
 use mathlib.Core.Option.{Option, none, some}
 use mathlib.Core.Path.{_≡_}
 use lib.Dec.{leb, ltb, eqb}
 use lib.ListN.{getD}
-use Rattle.output.specs.Logic.{if, then, byte, ascii}
+use Rattle.output.specs.Logic.{if, then, byte}
 
 -- The short letters: NUL `\0`, 7 `\a`, 8 `\b`, tab `\t`, LF `\n`, 11 `\v`, 12 `\f`, CR `\r`; backslash and the quote marks stand for themselves
 unfoldable pub letterOf : ℕ → ℕ

@@ -4,7 +4,6 @@ ghost use mathlib.Core.List.{_++_};
 ghost use Prim.Native.Nat.{_+_, _-_, _/_, _%_, _^_, _≤_, _<_};
 ghost use lib.ListN.{length, drop};
 ghost use lib.Seq.{sets};
-ghost use Rattle.output.specs.Logic.{byte};
 ghost use Rattle.output.specs.Wrote.{Wrote, limit, leBytes};
 ghost use Rattle.text_rules.specs.Digits.{digit, pad, count, digits, zeroPadded, isDigit};
 ghost use Rattle.text_rules.specs.DigitSteps.{Led, Ahead, Ran, Lanes, Split, Zeros, wordOf};

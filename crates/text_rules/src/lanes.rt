@@ -69,8 +69,7 @@ fn starts_no_keyword(x: u64) -> bool
     (KEYWORD_STARTS >> (x % 32)) % 2 == 0
 }
 
-// The n lowest bytes are true, false, nan or null, no more and no less. The bytes come first and then their number, so that the compiler
-// does not load parts of the word.
+// The n lowest bytes are true, false, nan or null, no more and no less.
 pub fn is_keyword_word(x: u64, n: usize) -> bool
     requires { ⌜ (1 ≤ n) × (n ≤ 8) ⌝ }
     ensures { λ r. ⌜ r ≡ isKeyword (leBytes n x) ⌝ }

@@ -2,24 +2,23 @@
 -- Assumes nothing.
 use Prim.Native.Nat.{ℕ, zero, suc, _+_, _≤_, _<_}
 use mathlib.Core.Path.{_≡_, refl, sym, ap, subst, _∙_}
-use mathlib.Core.Bool.{Bool, true, false, _&&_, _||_}
+use mathlib.Core.Bool.{Bool, true, false, _||_}
 use mathlib.Core.List.{List, [], _∷_, _++_, append-assoc}
-use mathlib.Core.Option.{Option, none, some}
+use mathlib.Core.Option.{none, some}
 use native.Mathlib.Omega.{arith}
-use lib.Dec.{eqb, leb, ltb}
+use lib.Dec.{eqb, ltb}
 use lib.ListN.{length, take, drop, length-append}
-use lib.Seq.{take-append-seam, drop-append-seam}
 use borrow.Author.Tests.{eq-eqb, ne-eqb, le-leb, lt-leb, ltb-true, ltb-false, leb-true}
-use Rattle.output.specs.Logic.{if, then, byte}
+use Rattle.output.specs.Logic.{if, byte}
 use Rattle.text_rules.specs.Texts.{starts}
 use Rattle.text_rules.specs.Utf8.{leadOf, isCont, ok2, ok3, ok4, charOf, charAt, after, valid}
 use Rattle.text_rules.specs.Escapes.{letterOf, hasLetter, textEscape, textBody, letter}
 use Rattle.tokens.specs.Quoted.{quote, letterEscape, escape, isRaw, raw, character, quoted, string}
 use Rattle.text_rules.specs.Text.{stringText}
 use Rattle.text_rules.proofs.Table.{same}
-use Rattle.text_rules.proofs.Utf8Chars.{and-left, and-second, and-third, stop}
-use Rattle.text_rules.proofs.Utf8View.{Char, one, two, three, four, char-at, char-some, valid-char, View, view}
-use Rattle.tokens.proofs.QuotedMany.{Read, prefix, many, many-end, many-more, characters-many}
+use Rattle.text_rules.proofs.Utf8Chars.{and-left, and-second, and-third}
+use Rattle.text_rules.proofs.Utf8View.{Char, one, two, three, four, char-at, char-some, valid-char, view}
+use Rattle.tokens.proofs.QuotedMany.{Read, many, many-end, many-more, characters-many}
 
 -- ---- reading up to the mark, with any fuel that is enough
 

@@ -11,7 +11,7 @@ use lib.Dec.{eqb, leb, ltb}
 use borrow.Author.Tests.{ltb-true, eq-eqb, ne-eqb, not-true}
 use lib.ListN.{length, take, drop, getD, length-drop, drop-of-length-le}
 use lib.Seq.{drop-cons}
-use Rattle.output.specs.Logic.{if, then, on, byte}
+use Rattle.output.specs.Logic.{then, on, byte}
 use Rattle.output.specs.Wrote.{Wrote, limit}
 use Rattle.output.proofs.Laws.{wrote-none, wrote-then, wrote-length}
 use Rattle.text_rules.specs.Texts.{starts}

@@ -1,8 +1,8 @@
 -- The steps of reading quoted text and clobs at a place of a text. Assumes nothing.
-use Prim.Native.Nat.{ℕ, zero, suc, _+_, _-_, _*_, _^_, _≤_, _<_}
-use mathlib.Core.Path.{_≡_, refl, sym, ap, subst, _∙_}
+use Prim.Native.Nat.{ℕ, suc, _+_, _-_, _*_, _^_, _≤_, _<_}
+use mathlib.Core.Path.{_≡_, refl, _∙_}
 use mathlib.Core.Bool.{Bool, true, false, not, _&&_}
-use mathlib.Core.List.{List, [], _∷_, _++_}
+use mathlib.Core.List.{List, [], _∷_}
 use mathlib.Core.Option.{Option, none, some}
 use native.Mathlib.Nat.{add-zero, pow-suc, pow-le-pow-right}
 use native.Mathlib.Numerals.{add-one}
@@ -15,7 +15,7 @@ use borrow.Author.Tests.{lt-ltb, le-leb, lt-leb, eq-eqb, ne-eqb}
 use Rattle.output.specs.Logic.{if, then, byte}
 use Rattle.text_rules.specs.Texts.{starts, strip}
 use Rattle.text_rules.specs.Utf8.{charAt, isScalar, utf8}
-use Rattle.text_rules.specs.Escapes.{letter, hexValue, hex}
+use Rattle.text_rules.specs.Escapes.{hexValue, hex}
 use Rattle.tokens.specs.Quoted.{scalarEscape, letterEscape, escape, isRaw, raw, character, byteEscape, rawByte, clobByte}
 use Rattle.tokens.specs.Steps.{Copies, isPlain, RunTo}
 use Rattle.tokens.specs.declared.quoted.Step.{Step}

@@ -1,13 +1,13 @@
 -- What reading gives, of any text: quoted text is valid UTF-8, and a clob is bytes below 256. Assumes nothing.
 use Prim.Native.Nat.{ℕ, zero, suc, _+_, _*_, _^_, _≤_, _<_}
 use mathlib.Core.Path.{_≡_, refl, sym, ap, subst, _∙_}
-use mathlib.Core.Bool.{Bool, true, false, _&&_, _||_}
+use mathlib.Core.Bool.{Bool, true, false, _&&_}
 use mathlib.Core.List.{List, [], _∷_, _++_}
 use mathlib.Core.Option.{Option, none, some}
 use native.Mathlib.Nat.{mul-assoc, pow-succ'}
 use native.Mathlib.Decide.{decLe}
 use native.Mathlib.Omega.{arith}
-use lib.Dec.{eqb, leb, ltb}
+use lib.Dec.{leb, ltb}
 use lib.ListN.{length, take, drop, getD}
 use lib.Seq.{take-append-seam}
 use borrow.Author.Tests.{ne-eqb, le-leb, lt-leb, ltb-true, leb-true}
@@ -15,7 +15,7 @@ use Rattle.output.specs.Logic.{if, then, on, byte, ascii}
 use Rattle.text_rules.specs.Texts.{starts, strip}
 use Rattle.text_rules.specs.Utf8.{charAt, isScalar, after, valid, utf8}
 use Rattle.text_rules.specs.Escapes.{letter, hexValue, hex}
-use Rattle.tokens.specs.Quoted.{quote, scalarEscape, letterEscape, escape, isRaw, raw, character, characters, quoted, string, byteEscape, rawByte, clobByte, clobBytes, clob}
+use Rattle.tokens.specs.Quoted.{quote, scalarEscape, letterEscape, escape, isRaw, raw, character, quoted, string, byteEscape, rawByte, clobByte, clobBytes, clob}
 use Rattle.text_rules.proofs.Table.{same}
 use Rattle.text_rules.proofs.Utf8View.{Char, char-at, valid-char, View, view, utf8-char, ascii-char}
 use Rattle.tokens.proofs.QuotedMany.{Read, prefix, many, characters-many, clob-many}

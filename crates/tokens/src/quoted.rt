@@ -1,11 +1,10 @@
 // Quoted text and clobs, read: the bytes that they mean are written as they are read.
 ghost use mathlib.Core.Path.{_≡_};
-ghost use mathlib.Core.Bool.{true};
 ghost use mathlib.Core.List.{[], _∷_};
-ghost use mathlib.Core.Option.{none, some};
+ghost use mathlib.Core.Option.{some};
 ghost use Prim.Native.Nat.{suc, _+_, _≤_, _<_};
 ghost use lib.ListN.{length, drop};
-ghost use Rattle.output.specs.Logic.{then, ascii};
+ghost use Rattle.output.specs.Logic.{then};
 ghost use Rattle.output.specs.Wrote.{Wrote, limit};
 ghost use Rattle.text_rules.specs.Utf8.{utf8};
 ghost use Rattle.text_rules.specs.Escapes.{letter, hexValue, hex};

@@ -1,12 +1,12 @@
 -- What the walk writes in its layout 3 is the tree text of one node. Assumes nothing.
 use Prim.Native.Nat.{ℕ, zero, suc}
-use mathlib.Core.Path.{_≡_, refl, sym, ap, _∙_}
-use mathlib.Core.List.{List, [], _∷_, _++_, append-assoc, append-nil}
-use mathlib.Core.Bool.{Bool, true, false}
+use mathlib.Core.Path.{_≡_, refl, ap, _∙_}
+use mathlib.Core.List.{List, [], _++_, append-assoc, append-nil}
+use mathlib.Core.Bool.{true, false}
 use native.Mathlib.Omega.{arith}
 use Rattle.text_rules.specs.Text.{Sym}
-use Rattle.tape.specs.Tree.{Head, Node, Nodes, scalar, nest, marker, nil, more, size}
-use Rattle.tape.specs.Fine.{Inner, FineHead, Fine, Fines}
+use Rattle.tape.specs.Tree.{Node, Nodes, scalar, nest, marker, nil, more, size}
+use Rattle.tape.specs.Fine.{Inner, Fine, Fines}
 use Rattle.tape.specs.declared.Frame.{Frame}
 use Rattle.tape.specs.declared.Frame.the-variants.{Top, List as ListF, Sexp, Struct}
 use Rattle.writer.specs.Text.{nameText, notesText, opening, closing, separator, broken, deeper}

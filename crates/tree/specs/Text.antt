@@ -1,6 +1,6 @@
 -- The tree text of nodes: `format_element`'s, compact, without trailing separators. Assumes nothing: these are definitions.
 use Prim.Native.Nat.{ℕ}
-use mathlib.Core.List.{List, [], _∷_, _++_}
+use mathlib.Core.List.{List, [], _++_}
 use mathlib.Core.Bool.{Bool, true, false}
 use Rattle.output.specs.Logic.{ascii}
 use Rattle.tape.specs.Tree.{Node, Nodes, scalar, nest, marker, nil, more}

@@ -5,7 +5,7 @@ use mathlib.Core.List.{List, [], _∷_}
 use mathlib.Core.Bool.{Bool, true, false}
 use native.Mathlib.Omega.{arith}
 use lib.Dec.{eqb}
-use Rattle.output.specs.Logic.{if, byte, ascii}
+use Rattle.output.specs.Logic.{if, byte}
 use Rattle.tape.specs.declared.Frame.the-variants.{Top, List as ListF, Sexp, Struct}
 use Rattle.writer.specs.Text.{separator, deeper}
 use Rattle.writer.specs.Steps.{separating}

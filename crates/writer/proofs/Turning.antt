@@ -1,5 +1,5 @@
 -- A turn of the walk over nodes without a problem: the head of a child, its value, and what is left behind it. Assumes nothing.
-use Prim.Native.Nat.{ℕ, zero, suc, _+_, _-_, _<_, _≤_}
+use Prim.Native.Nat.{ℕ, _+_, _-_, _<_, _≤_}
 use mathlib.Core.Path.{_≡_, refl, sym, ap, _∙_}
 use mathlib.Core.List.{List, []}
 use mathlib.Core.Bool.{Bool, true, false}
@@ -10,21 +10,21 @@ use native.Mathlib.Decide.{decLe}
 use lib.Dec.{eqb, leb}
 use lib.ListN.{length, take, drop}
 use Rattle.output.specs.Logic.{if}
-use Rattle.tape.specs.Bytes.{part, first}
-use Rattle.tape.specs.Tree.{Scalar, Head, Node, Nodes, scalar, nest, marker, nil, more}
-use Rattle.tape.specs.Tape.{past, kind, lengthOf, headOf, scalarOf, Value, absent, leaf, body, openOf, valueOf, free, childOf, bad, single, behind, headFault, fault, Walked, join, walk}
+use Rattle.tape.specs.Bytes.{part}
+use Rattle.tape.specs.Tree.{Scalar, Head, Node, scalar, nest, marker, more}
+use Rattle.tape.specs.Tape.{past, kind, lengthOf, headOf, scalarOf, Value, absent, leaf, body, openOf, valueOf, free, single, behind, headFault, fault, Walked, walk}
 use Rattle.tape.specs.Steps.{placeOf, headAt, ChildAt}
 use Rattle.tape.specs.CheckSteps.{frameOf}
 use Rattle.tape.specs.declared.Frame.{Frame}
 use Rattle.tape.specs.declared.Child.the-variants.{Bad as NoChild, Open as OpenC}
-use Rattle.tape.specs.declared.Place.the-variants.{Bad as Nowhere, At}
+use Rattle.tape.specs.declared.Place.the-variants.{At}
 use Rattle.tape.proofs.Parts.{part-length, part-inner}
 use Rattle.tape.proofs.Reading.{SoundV, a-leaf, a-body, value-sound}
 use Rattle.tape.proofs.CodeReading.{value-marker, value-scalar, scalar-other}
 use Rattle.tape.proofs.CodeFacts.{value-open}
 use Rattle.tape.proofs.CodeChild.{head-within, child-headless, child-is, child-from, behind-open}
 use Rattle.tape.proofs.Walking.{walk-end, join-zero}
-use Rattle.tape.proofs.Turns.{TreeTurn, bad-turn, single-step, tree-turn}
+use Rattle.tape.proofs.Turns.{bad-turn, single-step, tree-turn}
 use Rattle.writer.specs.Steps.{taken, isNil, nodeIs, sizeIs, problemIs, nodeAt, sizeAt, problemAt}
 
 -- ---- a value, by its kind

@@ -1,7 +1,6 @@
 -- What `write_stream` answers and what it leaves in the buffer, for every layout number, tape and buffer. Assumes nothing: these are definitions.
 use Prim.Native.Nat.{ℕ, zero, suc}
 use mathlib.Core.List.{List, _++_}
-use mathlib.Core.Bool.{Bool}
 use lib.ListN.{length, take, drop}
 use lib.Dec.{leb, ltb}
 use Rattle.output.specs.Logic.{if}

@@ -9,7 +9,7 @@ use lib.Dec.{eqb}
 use lib.ListN.{length, take, drop}
 use Rattle.output.specs.Logic.{if, byte, ascii}
 use Rattle.text_rules.specs.Text.{Sym, symbolText}
-use Rattle.tape.specs.Tree.{Scalar, Head, Node, Nodes, scalar, nest, marker, nil, more}
+use Rattle.tape.specs.Tree.{Head, Node, Nodes, scalar, nest, marker, nil, more}
 use Rattle.tape.specs.Tape.{past, nameOf, notesOf, Value, absent, leaf, body, valueOf, walk}
 use Rattle.tape.specs.declared.Frame.{Frame}
 use Rattle.writer.specs.declared.whitespace_config.Separator.{Separator}

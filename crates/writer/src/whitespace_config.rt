@@ -63,7 +63,7 @@ pub fn write_separator(buf: &mut [u8], pos: usize, s: Separator) -> usize
     output::put(buf, pos, s.second)
 }
 
-// The blanks before a child, which mostly are none. What writes them is called, here and where a container is closed, so that it stays out of
+// The blanks before a child, which mostly are none. `put_repeated` has two callers, here and in `write_close`, so that it is not built into
 // the walk.
 pub fn write_blanks(buf: &mut [u8], pos: usize, width: usize) -> usize
     requires { ⌜ pos ≤ limit ⌝ }

@@ -1,13 +1,13 @@
 -- `claims::write_and_read` meets its contract: a refusal is handed on; a finished text reads back as the tape. Assumes nothing.
-use mathlib.Core.Path.{_≡_, ap, sym, _∙_}
+use mathlib.Core.Path.{ap, sym, _∙_}
 use mathlib.Core.List.{List}
 use Prim.Native.Nat.{ℕ}
 use native.Mathlib.Omega.{arith}
 use lib.ListN.{length, take}
 use lib.Seq.{length-take-le}
 use Rattle.tape.specs.Fine.{Bytes}
-use Rattle.tape.specs.Answer.{outcome, counted}
-use Rattle.writer.specs.Outcome.{streamed, leaves}
+use Rattle.tape.specs.Answer.{outcome}
+use Rattle.writer.specs.Outcome.{leaves}
 use Rattle.reader.specs.Outcome as read
 use Rattle.claims.specs.Back.{backAnswer, backLeaves}
 use Rattle.claims.proofs.Reread.{finished, text-answer, text-leaves, handed-on}

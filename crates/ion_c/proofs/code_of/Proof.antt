@@ -1,5 +1,4 @@
 -- `ion_c::code_of` meets its contract. Assumes nothing.
-use Prim.Native.Nat.{_^_, _<_}
 use mir.Syntax.{w64}
 use mir.ValLaws.{toZ-pos}
 use borrow.Author.Needs.{needs}

@@ -3,7 +3,6 @@ use mathlib.Core.Path.{_≡_, sym, ap}
 use Prim.Native.Nat.{ℕ}
 use native.Mathlib.Omega.{arith}
 use Rattle.tape.specs.Answer.{refused}
-use borrow.Author.Needs.{needs}
 use Rattle.tape.proofs.answer.refusal_of.Statement.{statement}
 use Rattle.tape.proofs.answer.refusal_of.Tie as tie
 

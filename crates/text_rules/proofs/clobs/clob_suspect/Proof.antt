@@ -1,9 +1,7 @@
 -- `clobs::clob_suspect` meets its contract. Assumes nothing.
-use mathlib.Core.Path.{_≡_}
 use native.Mathlib.Omega.{arith}
 use borrow.Author.Tests.{le-leb, lt-leb, ne-eqb}
 use Rattle.text_rules.specs.Escapes.{hasLetter, clobEscape}
-use borrow.Author.Needs.{needs}
 use Rattle.text_rules.proofs.clobs.clob_suspect.Statement.{statement}
 use Rattle.text_rules.proofs.clobs.clob_suspect.Tie as tie
 

@@ -1,7 +1,6 @@
 -- `digits::is_digit` meets its contract. Assumes nothing.
 use borrow.Author.Tests.{le-leb, lt-leb}
 use Rattle.text_rules.specs.Digits.{isDigit}
-use borrow.Author.Needs.{needs}
 use Rattle.text_rules.proofs.digits.is_digit.Statement.{statement}
 use Rattle.text_rules.proofs.digits.is_digit.Tie as tie
 

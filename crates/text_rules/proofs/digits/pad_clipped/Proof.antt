@@ -1,6 +1,6 @@
 -- `digits::pad_clipped` meets its contract. The invariant: the digits written and the k lowest that are left are the whole. Assumes nothing.
 use mathlib.Core.Path.{_≡_, sym, ap, _∙_}
-use mathlib.Core.List.{List, _∷_}
+use mathlib.Core.List.{_∷_}
 use Prim.Native.Nat.{ℕ, suc, _-_}
 use native.Mathlib.Omega.{arith}
 use Rattle.output.proofs.Laws.{Progress, start, more, finish, wrote-length}

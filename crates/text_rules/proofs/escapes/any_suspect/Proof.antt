@@ -1,6 +1,6 @@
 -- `escapes::any_suspect` meets its contract. The invariant: where no flag is set yet, the whole needs no escape if what is left needs none.
 -- Assumes nothing.
-use Prim.Native.Nat.{ℕ, _-_, _≤_, _<_}
+use Prim.Native.Nat.{_-_, _≤_, _<_}
 use mathlib.Core.Path.{_≡_}
 use native.Mathlib.Omega.{arith}
 use lib.ListN.{length, drop}

@@ -1,7 +1,6 @@
 -- `escapes::letter_of` meets its contract. Assumes nothing.
 use borrow.Author.Tests.{ne-eqb}
 use Rattle.text_rules.specs.Escapes.{letterOf}
-use borrow.Author.Needs.{needs}
 use Rattle.text_rules.proofs.escapes.letter_of.Statement.{statement}
 use Rattle.text_rules.proofs.escapes.letter_of.Tie as tie
 

@@ -1,9 +1,9 @@
 -- `escapes::put_text_clipped` meets its contract. Assumes nothing.
-use Prim.Native.Nat.{ℕ, _-_, _≤_, _<_}
-use mathlib.Core.Path.{_≡_, ap, _∙_}
-use mathlib.Core.List.{List, []}
+use Prim.Native.Nat.{_-_, _≤_, _<_}
+use mathlib.Core.Path.{_≡_}
+use mathlib.Core.List.{[]}
 use native.Mathlib.Omega.{arith}
-use lib.ListN.{length, drop, getD, drop-of-length-le}
+use lib.ListN.{length, drop, drop-of-length-le}
 use Rattle.output.proofs.Laws.{Progress, start, more, finish, wrote-length, wrote-bound}
 use Rattle.text_rules.specs.Escapes.{textBody}
 use Rattle.text_rules.proofs.EscapesLaws.{body-step}

@@ -1,9 +1,7 @@
 -- `escapes::suspect` meets its contract. Assumes nothing.
-use mathlib.Core.Path.{_≡_}
 use native.Mathlib.Omega.{arith}
 use borrow.Author.Tests.{le-leb, lt-leb, ne-eqb}
 use Rattle.text_rules.specs.Escapes.{hasLetter, textEscape}
-use borrow.Author.Needs.{needs}
 use Rattle.text_rules.proofs.escapes.suspect.Statement.{statement}
 use Rattle.text_rules.proofs.escapes.suspect.Tie as tie
 

@@ -1,8 +1,5 @@
 -- `lanes::is_ascii` meets its contract. Assumes nothing.
-use mathlib.Core.Path.{_≡_, sym, _∙_}
-use mathlib.Core.Bool.{true}
-use mathlib.Core.List.{[]}
-use Rattle.text_rules.specs.Utf8.{after, valid}
+use mathlib.Core.Path.{sym, _∙_}
 use Rattle.text_rules.proofs.LaneLaws.{lane-self, unmarked}
 use Rattle.text_rules.proofs.LaneTests.{isAscii, ascii-test, ascii-all}
 use borrow.Author.Needs.{needs}

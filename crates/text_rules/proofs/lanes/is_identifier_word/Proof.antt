@@ -1,5 +1,5 @@
 -- `lanes::is_identifier_word` meets its contract. Assumes nothing.
-use mathlib.Core.Path.{_≡_, sym, _∙_}
+use mathlib.Core.Path.{_∙_}
 use native.Mathlib.Omega.{arith}
 use Rattle.text_rules.specs.Lanes.{rep}
 use Rattle.text_rules.specs.Words.{isPart}

@@ -1,5 +1,5 @@
 -- `lanes::is_raw_word` meets its contract. Assumes nothing.
-use mathlib.Core.Path.{_≡_, sym, _∙_}
+use mathlib.Core.Path.{sym, _∙_}
 use native.Mathlib.Omega.{arith}
 use Rattle.text_rules.specs.Lanes.{rep}
 use Rattle.text_rules.proofs.LaneLaws.{lane-self, lane-and, lane-or, lane-not, lane-lt, low-add, other-add, unmarked}

@@ -1,7 +1,6 @@
 -- `utf8::is_scalar` meets its contract. Assumes nothing.
 use borrow.Author.Tests.{lt-ltb, le-ltb, le-leb, lt-leb}
 use Rattle.text_rules.specs.Utf8.{isScalar}
-use borrow.Author.Needs.{needs}
 use Rattle.text_rules.proofs.utf8.is_scalar.Statement.{statement}
 use Rattle.text_rules.proofs.utf8.is_scalar.Tie as tie
 

@@ -1,9 +1,8 @@
 -- `utf8::lead` meets its contract: by the leading ones, as `ones-lead` has it for each byte.
 -- Assumes nothing.
-use mathlib.Core.Path.{_≡_}
 use Prim.Native.Nat.{_-_}
 use native.Mathlib.Omega.{arith}
-use lib.Count.{leadingZeros, leading-le}
+use lib.Count.{leading-le}
 use borrow.Author.Tests.{eq-eqb, ne-eqb, le-leb, lt-leb}
 use Rattle.text_rules.proofs.Utf8Ones.{ones-lead}
 use Rattle.text_rules.proofs.utf8.lead.Statement.{statement}

@@ -4,7 +4,7 @@ use mathlib.Core.List.{List}
 use Prim.Native.Nat.{ℕ, _+_, _-_, _≤_, _<_}
 use native.Mathlib.Omega.{arith}
 use lib.ListN.{length, drop, drop-of-length-le}
-use Rattle.text_rules.specs.Utf8.{charAt, after, valid}
+use Rattle.text_rules.specs.Utf8.{after, valid}
 use Rattle.text_rules.proofs.Utf8Chars.{char-in, step, stop}
 use Rattle.text_rules.proofs.utf8.valid_chars.Statement.{statement}
 use Rattle.text_rules.proofs.utf8.valid_chars.Tie as tie

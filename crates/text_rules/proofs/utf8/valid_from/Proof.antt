@@ -1,5 +1,5 @@
 -- `utf8::valid_from` meets its contract. Assumes nothing.
-use mathlib.Core.Path.{_≡_, sym, _∙_}
+use mathlib.Core.Path.{sym, _∙_}
 use Rattle.text_rules.proofs.LaneTests.{last-word}
 use borrow.Author.Needs.{needs}
 use Rattle.text_rules.proofs.utf8.valid_from.Statement.{statement}

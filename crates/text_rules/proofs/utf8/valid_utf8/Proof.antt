@@ -1,8 +1,7 @@
 -- `utf8::valid_utf8` meets its contract. Assumes nothing.
-use mathlib.Core.Path.{_≡_, sym, ap, _∙_}
+use mathlib.Core.Path.{sym, ap, _∙_}
 use mathlib.Core.List.{List}
 use Prim.Native.Nat.{ℕ}
-use lib.ListN.{length, drop}
 use lib.Seq.{drop-length}
 use Rattle.text_rules.specs.Utf8.{after, valid}
 use borrow.Author.Needs.{needs}

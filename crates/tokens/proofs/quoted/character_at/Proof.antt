@@ -1,5 +1,4 @@
 -- `quoted::character_at` meets its contract. Assumes nothing.
-use mathlib.Core.Path.{refl}
 use native.Mathlib.Omega.{arith}
 use Rattle.tokens.proofs.QuotedSteps.{copies-as, character-escape, character-raw}
 use borrow.Author.Needs.{needs}

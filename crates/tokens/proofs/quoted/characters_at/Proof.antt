@@ -1,16 +1,15 @@
 -- `quoted::characters_at` meets its contract. The invariant: what is said of the rest from i on holds of the whole. Assumes nothing.
-use Prim.Native.Nat.{ℕ, suc, _-_, _≤_, _<_}
-use mathlib.Core.Path.{_≡_, refl, sym, _∙_}
+use Prim.Native.Nat.{ℕ, _-_, _≤_}
+use mathlib.Core.Path.{_≡_, refl, _∙_}
 use mathlib.Core.List.{List}
 use native.Mathlib.Omega.{arith}
 use lib.ListN.{length}
-use Rattle.output.specs.Logic.{byte}
 use Rattle.output.specs.Wrote.{limit}
 use Rattle.output.proofs.Laws.{wrote-length, wrote-bound}
 use Rattle.text_rules.specs.Texts.{starts}
-use Rattle.tokens.specs.Quoted.{raw, rawByte, character, clobByte}
+use Rattle.tokens.specs.Quoted.{raw, character}
 use Rattle.tokens.specs.declared.quoted.Step.{Step}
-use Rattle.tokens.proofs.QuotedMany.{ManyAt, at-mark, at-wrong, at-end, at-piece, at-run, plain-text, plain-byte, quoted-at}
+use Rattle.tokens.proofs.QuotedMany.{ManyAt, at-mark, at-wrong, at-end, at-piece, at-run, plain-text, quoted-at}
 use borrow.Author.Needs.{needs}
 use Rattle.tokens.proofs.quoted.characters_at.Statement.{statement}
 use Rattle.tokens.proofs.quoted.characters_at.Tie as tie

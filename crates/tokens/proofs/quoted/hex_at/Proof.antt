@@ -1,12 +1,12 @@
 -- `quoted::hex_at` meets its contract. The invariant: the digits that are left, joined behind the number so far, are the whole. Assumes nothing.
 use Prim.Native.Nat.{ℕ, suc, _+_, _-_, _*_, _^_, _≤_, _<_}
 use mathlib.Core.Path.{_≡_, ap, _∙_}
-use mathlib.Core.Option.{none, some}
+use mathlib.Core.Option.{some}
 use native.Mathlib.Nat.{add-zero, sub-zero, add-assoc}
 use native.Mathlib.Omega.{arith}
-use lib.ListN.{length, drop, getD}
+use lib.ListN.{length, drop}
 use borrow.Author.Tests.{lt-ltb, le-ltb}
-use Rattle.text_rules.specs.Escapes.{hexValue, hex}
+use Rattle.text_rules.specs.Escapes.{hex}
 use Rattle.tokens.proofs.QuotedSteps.{hex-more, hex-other, hex-short, hex-grows, hex-fits}
 use borrow.Author.Needs.{needs}
 use Rattle.tokens.proofs.quoted.hex_at.Statement.{statement}

@@ -4,7 +4,6 @@ use borrow.Author.Tests.{le-ltb}
 use Rattle.tokens.specs.Quoted.{isRaw}
 use Rattle.tokens.specs.Steps.{isPlain}
 use Rattle.tokens.proofs.QuotedSteps.{plain-last}
-use borrow.Author.Needs.{needs}
 use Rattle.tokens.proofs.quoted.is_plain.Statement.{statement}
 use Rattle.tokens.proofs.quoted.is_plain.Tie as tie
 

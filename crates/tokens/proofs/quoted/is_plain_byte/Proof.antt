@@ -1,7 +1,6 @@
 -- `quoted::is_plain_byte` meets its contract. Assumes nothing.
 use borrow.Author.Tests.{le-leb, lt-leb, ne-eqb}
 use Rattle.tokens.specs.Steps.{isPlainByte}
-use borrow.Author.Needs.{needs}
 use Rattle.tokens.proofs.quoted.is_plain_byte.Statement.{statement}
 use Rattle.tokens.proofs.quoted.is_plain_byte.Tie as tie
 

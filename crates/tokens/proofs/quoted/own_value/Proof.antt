@@ -1,7 +1,6 @@
 -- `quoted::own_value` meets its contract. Assumes nothing.
 use borrow.Author.Tests.{ne-eqb}
 use Rattle.tokens.specs.Steps.{ownLetter}
-use borrow.Author.Needs.{needs}
 use Rattle.tokens.proofs.quoted.own_value.Statement.{statement}
 use Rattle.tokens.proofs.quoted.own_value.Tie as tie
 

@@ -1,9 +1,9 @@
 -- `quoted::raw_at` meets its contract. Assumes nothing.
-use Prim.Native.Nat.{_+_, _-_, _≤_}
-use mathlib.Core.Path.{_≡_, refl, sym, ap, _∙_}
+use Prim.Native.Nat.{_+_, _-_}
+use mathlib.Core.Path.{_≡_, refl, sym, _∙_}
 use native.Mathlib.Omega.{arith}
-use lib.ListN.{length, take, drop}
-use borrow.Author.Tests.{eq-eqb, ne-eqb, le-leb, lt-leb}
+use lib.ListN.{take, drop}
+use borrow.Author.Tests.{ne-eqb, le-leb}
 use Rattle.tokens.specs.Quoted.{isRaw}
 use Rattle.text_rules.proofs.Utf8Chars.{char-in}
 use Rattle.tokens.proofs.QuotedSteps.{raw-at}

@@ -1,7 +1,6 @@
 -- `writer::write_stream` meets its contract: the layout, the tape's own refusals, annotations, then the text and its measure. Assumes nothing.
 use denote.Ref.{now}
-use mathlib.Core.Path.{_≡_, sym, _∙_}
-use Prim.Native.Nat.{_≤_}
+use mathlib.Core.Path.{sym, _∙_}
 use native.Mathlib.Omega.{arith}
 use Rattle.output.proofs.Laws.{wrote-length}
 use Rattle.tape.proofs.Walking.{verdict-told}
