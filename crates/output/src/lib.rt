@@ -1,6 +1,6 @@
 // The output layer: bytes into a lent slice at a position. A byte past the slice's end is counted and not stored, so that the
 // same calls over a slice of no bytes measure. A position stops at LIMIT, which is above the length of every slice.
-// Where there mostly is room it is asked for by `<`: of that test the compiler lays the true side next, and of `<=` the other
+// On the frequent paths room is asked for by `<`: of that test the compiler lays the true side next, of `<=` between two variables the other
 // (docs/BENCHMARKS.md).
 ghost use mathlib.Core.Path.{_≡_};
 ghost use mathlib.Core.List.{[], _∷_};
