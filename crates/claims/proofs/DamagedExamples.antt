@@ -12,9 +12,9 @@ use lib.ListN.{length, drop}
 use borrow.Author.Tests.{ltb-true}
 use Rattle.output.specs.Logic.{if, ascii}
 use Rattle.output.specs.Wrote.{leBytes}
-use Rattle.text_rules.specs.Digits.{pad, count, digits, isDigit, run, past}
+use Rattle.text_rules.specs.Digits.{pad, count, digits, isDigit, run, behindDigits}
 use Rattle.text_rules.specs.Texts.{starts, strip, same}
-use Rattle.text_rules.specs.Words.{isStart, isPart, behind, allDigits, isKeyword, resemblesSymbolId, version, resemblesVersionMarker, isIdentifier}
+use Rattle.text_rules.specs.Words.{isStart, isPart, behindWord, allDigits, isKeyword, resemblesSymbolId, version, resemblesVersionMarker, isIdentifier}
 use Rattle.text_rules.specs.Utf8.{leadOf, charOf, after, valid}
 use Rattle.text_rules.specs.Text.{Sym, symbolText}
 use Rattle.numbers.specs.Decimal.{intText}
@@ -27,8 +27,8 @@ use Rattle.tape.specs.Answer.{Outcome, counted, ended}
 use Rattle.tape.specs.declared.Frame.the-variants.{Top}
 use Rattle.line_reader.specs.Cut.{grow, linesOf, lfs, toFirst, fromLast}
 use Rattle.line_reader.specs.Book.{Call, success, endMark, lineTape, room, byBook, play}
-use Rattle.line_reader.specs.Damage.{Written, asWritten, before, between, behind as behindRun, damaged}
-use Rattle.line_reader.specs.Steps.{calls}
+use Rattle.line_reader.specs.Damage.{Written, asWritten, before, between, behindRun, damaged}
+use Rattle.line_reader.specs.Calls.{calls}
 use Rattle.writer.specs.Outcome.{refusal}
 use Rattle.writer.specs.Text.{symText, scalarText, nameText, separator, text, texts, streamText}
 use Rattle.text_rules.proofs.DigitLaws.{never}
@@ -122,7 +122,7 @@ text-fine s b h v = record { plain = record { bytes = bytes-told s b; short = h 
 
 symbols-read : (at : ℕ) (buf : List ℕ) → 15 ≤ length buf
     → (byBook (ascii "x\n") at buf ≡ success (ascii "x\n") xTape at buf) × (byBook (ascii "x3\n") at buf ≡ success (ascii "x3\n") x3Tape at buf)
-unfolding valid after charOf leadOf line lineBody nameText text scalarText symText symbolText isKeyword resemblesSymbolId resemblesVersionMarker version isIdentifier allDigits isStart isPart behind isDigit run past starts strip same tape encode encodeHead encodeName encodeNotes encodeScalar encodeSym sized size leBytes
+unfolding valid after charOf leadOf line lineBody nameText text scalarText symText symbolText isKeyword resemblesSymbolId resemblesVersionMarker version isIdentifier allDigits isStart isPart behindWord isDigit run behindDigits starts strip same tape encode encodeHead encodeName encodeNotes encodeScalar encodeSym sized size leBytes
 symbols-read at buf h = (
   symbol-read (ascii "x") (ascii "x\n") xTape at buf (text-fine (ascii "x") refl (omega arith) refl) refl refl (omega arith) (omega arith),
   symbol-read (ascii "x3") (ascii "x3\n") x3Tape at buf (text-fine (ascii "x3") refl (omega arith) refl) refl refl h (omega arith),

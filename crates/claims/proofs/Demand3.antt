@@ -15,8 +15,8 @@ use Rattle.tape.specs.declared.Frame.the-variants.{Top}
 use Rattle.reader.specs.Outcome.{fits}
 use Rattle.line_reader.specs.Cut.{lf, linesOf, lfs, toFirst, fromLast}
 use Rattle.line_reader.specs.Book.{single, lineTape, play, book}
-use Rattle.line_reader.specs.Damage.{Written, asWritten, before, behind, damaged}
-use Rattle.line_reader.specs.Steps.{calls, Ran}
+use Rattle.line_reader.specs.Damage.{Written, asWritten, before, behindRun, damaged}
+use Rattle.line_reader.specs.Calls.{calls, Ran}
 use Rattle.tape.specs.declared.answer.Answer.{Answer}
 use Rattle.writer.specs.Outcome.{refusal}
 use Rattle.writer.specs.Text.{streamText}
@@ -25,7 +25,7 @@ use Rattle.tape.proofs.FineBack.{tape-fine}
 use Rattle.line_reader.proofs.CutLaws.{cut-line, lfs-last}
 use Rattle.line_reader.proofs.BookLaws.{line-tape, calls-book}
 use Rattle.line_reader.proofs.Demand.{Reads, All, joined, before-behind, undamaged, demand}
-use Rattle.claims.specs.Demand3.{writtenAs, linesEach, textOf}
+use Rattle.claims.specs.Demand3.{writtenAs, linesEach, joinedText}
 use Rattle.claims.proofs.LineBack.{lineBody, line, lines-more, lines-none, line-alone, alone-first, alone-rest, line-body, line-body-back}
 use Rattle.claims.proofs.TapeBack.{through, first-shorter}
 
@@ -136,9 +136,9 @@ demand-3-ran t head run new tail buf last answers at b e s l r = rw (← demand-
 
 -- Which lines these are: before, joined, the head up to its last LF; behind, joined, the tail from behind its first.
 pub before-and-behind : (t head run tail : List ℕ) → Bytes t → refusal 1 t ≡ 0 → streamText 1 (nodesOf t) ≡ head ++ run ++ tail
-    → (textOf (before (writtenAs (linesOf (head ++ run ++ tail)) (nodesOf t)) head) ++ fromLast head ≡ head)
+    → (joinedText (before (writtenAs (linesOf (head ++ run ++ tail)) (nodesOf t)) head) ++ fromLast head ≡ head)
     × (lfs (fromLast head) ≡ 0)
-    × (toFirst tail ++ textOf (behind (writtenAs (linesOf (head ++ run ++ tail)) (nodesOf t)) head run) ≡ tail)
+    × (toFirst tail ++ joinedText (behindRun (writtenAs (linesOf (head ++ run ++ tail)) (nodesOf t)) head run) ≡ tail)
 before-and-behind t head run tail b e s =
     let w = lines-of t (length t) b e (omega arith) in
     let p = before-behind (length t) (written (nodesOf t)) (w .reads) head run tail (w .text ∙ s) in

@@ -12,10 +12,10 @@ use borrow.Author.Tests.{eqb-true, ne-eqb, leb-true, lt-leb}
 use Rattle.output.specs.Logic.{if, byte}
 use Rattle.text_rules.specs.Digits.{isDigit}
 use Rattle.text_rules.specs.Texts.{starts, strip, blank}
-use Rattle.text_rules.specs.Words.{isStart, isPart, behind}
+use Rattle.text_rules.specs.Words.{isStart, isPart, behindWord}
 use Rattle.tape.specs.declared.Frame.{Frame}
 use Rattle.tape.specs.declared.Frame.the-variants.{Top, List as ListF, Sexp, Struct}
-use Rattle.reader.specs.Grammar.{skip, opener, opens, closes, number, numeric, words, scalar}
+use Rattle.reader.specs.Grammar.{skip, opener, opens, closes, numbers, numeric, words, scalar}
 use Rattle.text_rules.proofs.DigitLaws.{never}
 
 -- ---- a first byte of some kind
@@ -148,7 +148,7 @@ pub word-opens : (t : List ℕ) → First isStart t → opens t ≡ none
 unfolding isStart
 word-opens t f = no-opens isStart refl refl refl t f
 
-number-here : (m : Bool) (c : ℕ) (u : List ℕ) → numeric c ≡ true → scalar m (c ∷ u) ≡ number (c ∷ u)
+number-here : (m : Bool) (c : ℕ) (u : List ℕ) → numeric c ≡ true → scalar m (c ∷ u) ≡ numbers (c ∷ u)
 unfolding scalar
 number-here m c u h =
     let a : eqb c 34 ≡ false = other numeric c 34 h (unfold numeric isDigit in refl) in
@@ -156,8 +156,8 @@ number-here m c u h =
     let d : eqb c 123 ≡ false = other numeric c 123 h (unfold numeric isDigit in refl) in
     rw (a, b, d, h)
 
-pub scalar-number : (m : Bool) (t : List ℕ) → First numeric t → scalar m t ≡ number t
-scalar-number m t f = ap (scalar m) (f .is) ∙ number-here m (f .byte₀) (f .rest) (f .tells) ∙ ap number (sym (f .is))
+pub scalar-number : (m : Bool) (t : List ℕ) → First numeric t → scalar m t ≡ numbers t
+scalar-number m t f = ap (scalar m) (f .is) ∙ number-here m (f .byte₀) (f .rest) (f .tells) ∙ ap numbers (sym (f .is))
 
 digit-low : (c : ℕ) → 48 ≤ c → c ≤ 57 → isStart c ≡ false
 unfolding isStart
@@ -197,10 +197,10 @@ first-long [] f = absurd (let z : _≡_ {A = List ℕ} [] (f .byte₀ ∷ f .res
 first-long (c ∷ t) f = omega arith
 
 -- what holds of nothing, and of a text with one more byte of a word in front, holds of a whole word
-pub word-all : (P : List ℕ → Type 0) → P [] → ((c : ℕ) (w : List ℕ) → isPart c ≡ true → P w → P (c ∷ w)) → (w : List ℕ) → behind w ≡ [] → P w
+pub word-all : (P : List ℕ → Type 0) → P [] → ((c : ℕ) (w : List ℕ) → isPart c ≡ true → P w → P (c ∷ w)) → (w : List ℕ) → behindWord w ≡ [] → P w
 word-all P z s [] h = z
-word-all P z s (c ∷ w) h = go (isPart c) refl (λ k. word-all P z s w k) (unfold behind in h)
+word-all P z s (c ∷ w) h = go (isPart c) refl (λ k. word-all P z s w k) (unfold behindWord in h)
   where
-    go : (b : Bool) → isPart c ≡ b → (behind w ≡ [] → P w) → if b (behind w) (c ∷ w) ≡ [] → P (c ∷ w)
+    go : (b : Bool) → isPart c ≡ b → (behindWord w ≡ [] → P w) → if b (behindWord w) (c ∷ w) ≡ [] → P (c ∷ w)
     go true e f k = s c w e (f k)
     go false e f k = absurd (let y : _≡_ {A = ℕ} 0 1 = cc in omega arith)

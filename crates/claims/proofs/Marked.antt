@@ -7,8 +7,8 @@ use Prim.Native.Nat.{ℕ}
 use lib.IntN.{ℤ, pos, negsuc}
 use Rattle.output.specs.Logic.{ascii}
 use Rattle.text_rules.specs.Texts.{starts, strip, same}
-use Rattle.text_rules.specs.Digits.{pad, count, digits, isDigit, run, past}
-use Rattle.text_rules.specs.Words.{isStart, isPart, behind, allDigits, isKeyword, resemblesSymbolId, version, resemblesVersionMarker, isIdentifier}
+use Rattle.text_rules.specs.Digits.{pad, count, digits, isDigit, run, behindDigits}
+use Rattle.text_rules.specs.Words.{isStart, isPart, behindWord, allDigits, isKeyword, resemblesSymbolId, version, resemblesVersionMarker, isIdentifier}
 use Rattle.text_rules.specs.Escapes.{textBody, textEscape, hasLetter, letterOf}
 use Rattle.text_rules.specs.Text.{symbolText}
 use Rattle.numbers.specs.Decimal.{intText, pointed, scientific, above, below, form, sign, decimalText}
@@ -72,7 +72,7 @@ unfolding noted
 list-answer n = ap (λ (t : List ℕ). streamed 0 t n) (sym list-tape) ∙ tree-written 0 list n (omega arith) list-fine refl (rw list-tape (omega arith))
 
 pub marked : Marked
-unfolding symbolText textBody textEscape hasLetter letterOf isKeyword resemblesSymbolId resemblesVersionMarker version isIdentifier allDigits isStart isPart behind isDigit run past starts strip same pad count digits intText pointed scientific above below form sign decimalText hourAndMinute offsetText scalarText nameText opening closing separator broken deeper text texts streamText
+unfolding symbolText textBody textEscape hasLetter letterOf isKeyword resemblesSymbolId resemblesVersionMarker version isIdentifier allDigits isStart isPart behindWord isDigit run behindDigits starts strip same pad count digits intText pointed scientific above below form sign decimalText hourAndMinute offsetText scalarText nameText opening closing separator broken deeper text texts streamText
 marked = record {
   empty-symbol = refl;
   keyword = refl;

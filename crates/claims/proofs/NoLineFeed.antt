@@ -12,7 +12,7 @@ use lib.ListN.{length, take, drop, replicate}
 use borrow.Author.Tests.{eqb-true, ne-eqb}
 use Rattle.output.specs.Logic.{if, byte, ascii}
 use Rattle.text_rules.specs.Digits.{isDigit, digits, pad}
-use Rattle.text_rules.specs.Words.{isStart, isPart, behind}
+use Rattle.text_rules.specs.Words.{isStart, isPart, behindWord}
 use Rattle.text_rules.specs.WordSteps.{isBare}
 use Rattle.text_rules.specs.Escapes.{hasLetter, letterOf, hexDigit, textEscape, textBody, clobEscape, clobBody}
 use Rattle.text_rules.specs.Text.{Sym, marked, symbolText, symbolIdText, stringText, clobText, typeName, nullText, boolText, bitsText, floatText}
@@ -66,7 +66,7 @@ no-lf-pad w n = no-lf-digits (pad w n) (digits-pad w n)
 no-lf-number : (n : ℕ) → NoLf (digits n)
 no-lf-number n = no-lf-digits (digits n) (digits-digits n)
 
-no-lf-word : (w : List ℕ) → behind w ≡ [] → NoLf w
+no-lf-word : (w : List ℕ) → behindWord w ≡ [] → NoLf w
 no-lf-word w h = word-all NoLf no-lf-nil (λ c v e n. no-lf-byte c (unlike c 10 e (unfold isPart isStart isDigit in refl)) n) w h
 
 -- ---- escapes: LF is written as a backslash and a letter

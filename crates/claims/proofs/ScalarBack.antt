@@ -13,16 +13,16 @@ use lib.ListN.{length, length-append}
 use mir.Syntax.{w32, w64}
 use mir.Val.{SFits}
 use Rattle.output.specs.Logic.{if, then, byte, ascii}
-use Rattle.text_rules.specs.Digits.{isDigit, run, past}
+use Rattle.text_rules.specs.Digits.{isDigit, run, behindDigits}
 use Rattle.text_rules.specs.Texts.{starts, strip, same, ended}
-use Rattle.text_rules.specs.Words.{isStart, isPart, word, behind, kindOf, isIdentifier, isKeyword, resemblesSymbolId, resemblesVersionMarker, version, allDigits}
+use Rattle.text_rules.specs.Words.{isStart, isPart, word, behindWord, kindOf, isIdentifier, isKeyword, resemblesSymbolId, resemblesVersionMarker, version, allDigits}
 use Rattle.text_rules.specs.WordSteps.{isBare}
 use Rattle.text_rules.specs.Utf8.{valid}
 use Rattle.text_rules.specs.Text.{Sym, marked, symbolText, symbolIdText, stringText, clobText, typeName, nullText, boolText, bitsText, floatText}
 use Rattle.text_rules.specs.declared.words.Kind.{Kind}
 use Rattle.text_rules.specs.declared.words.Kind.the-variants.{Null, True, False, Nan, Marker, Refused}
 use Rattle.tokens.specs.Quoted.{string, clob}
-use Rattle.tokens.specs.Token.{symbolOf, bareSymbol, symbol, nullBehind, null as nullToken, float as floatToken}
+use Rattle.tokens.specs.Token.{wordSymbol, bareSymbol, symbol, nullBehind, null as nullToken, float as floatToken}
 use Rattle.numbers.specs.Decimal.{intText, decimalText}
 use Rattle.numbers.specs.declared.timestamp.Timestamp.{Timestamp}
 use Rattle.numbers.specs.Timestamp.{timestampText, wellFormed}
@@ -31,7 +31,7 @@ use Rattle.numbers.specs.TimestampRead.{timestamp as timestampToken}
 use Rattle.tape.specs.Tree.{Scalar, Node}
 use Rattle.tape.specs.Tree.{null, bool, int, float, decimal, timestamp}
 use Rattle.tape.specs.Fine.{FineBytes, FineFloat, FineScalar}
-use Rattle.reader.specs.Grammar.{taken, opener, opens, byKind, words, numeralNode, number, numeric, scalar}
+use Rattle.reader.specs.Grammar.{taken, opener, opens, byKind, words, numeralNode, numbers, numeric, scalar}
 use Rattle.writer.specs.Text.{symText, scalarText}
 use Rattle.text_rules.proofs.DigitLaws.{never}
 use Rattle.text_rules.proofs.WordsLaws.{kind-nothing}
@@ -76,11 +76,11 @@ no-symbol c t h e = rw (e, refused)
     refused = unfold word in go (isPart c)
 
 -- a word that is no symbol
-word-symbol : (c : ℕ) (u : List ℕ) (k : Kind) → isStart c ≡ true → kindOf (word (c ∷ u)) ≡ k → symbolOf k (word (c ∷ u)) ≡ none → symbol (c ∷ u) ≡ none
+word-symbol : (c : ℕ) (u : List ℕ) (k : Kind) → isStart c ≡ true → kindOf (word (c ∷ u)) ≡ k → wordSymbol k (word (c ∷ u)) ≡ none → symbol (c ∷ u) ≡ none
 unfolding symbol starts bareSymbol
 word-symbol c u k i g j = rw (other isStart c 39 i (unfold isStart in refl), g, j)
 
-keyword-symbol : (t : List ℕ) (k : Kind) → First isStart t → kindOf (word t) ≡ k → ((w : List ℕ) → symbolOf k w ≡ none) → symbol t ≡ none
+keyword-symbol : (t : List ℕ) (k : Kind) → First isStart t → kindOf (word t) ≡ k → ((w : List ℕ) → wordSymbol k w ≡ none) → symbol t ≡ none
 keyword-symbol t k f e h = ap symbol (f .is) ∙ word-symbol (f .byte₀) (f .rest) k (f .tells) (ap (λ (x : List ℕ). kindOf (word x)) (sym (f .is)) ∙ e) (h (word (f .byte₀ ∷ f .rest)))
 
 pub number-symbol : (t : List ℕ) → First numeric t → symbol t ≡ none
@@ -90,24 +90,24 @@ number-symbol t f = ap symbol (f .is) ∙ no-symbol (f .byte₀) (f .rest) (nume
 
 -- a word by itself: it is one, of this kind
 record Word (w : List ℕ) (k : Kind) : Type 0 where
-  all : behind w ≡ []
+  all : behindWord w ≡ []
   is : kindOf w ≡ k
   first : First isStart w
 
 true-is : Word (ascii "true") True
-unfolding behind isPart isStart kindOf same strip
+unfolding behindWord isPart isStart kindOf same strip
 true-is = record { all = refl; is = refl; first = record { byte₀ = byte "t"; rest = ascii "rue"; is = refl; tells = refl } }
 
 false-is : Word (ascii "false") False
-unfolding behind isPart isStart kindOf same strip
+unfolding behindWord isPart isStart kindOf same strip
 false-is = record { all = refl; is = refl; first = record { byte₀ = byte "f"; rest = ascii "alse"; is = refl; tells = refl } }
 
 nan-is : Word (ascii "nan") Nan
-unfolding behind isPart isStart
+unfolding behindWord isPart isStart
 nan-is = record { all = refl; is = nan-kind; first = record { byte₀ = byte "n"; rest = ascii "an"; is = refl; tells = refl } }
 
 marker-is : Word (ascii "$ion_1_0") Marker
-unfolding behind isPart isStart isDigit kindOf same strip isKeyword resemblesVersionMarker version run past starts allDigits
+unfolding behindWord isPart isStart isDigit kindOf same strip isKeyword resemblesVersionMarker version run behindDigits starts allDigits
 marker-is = record { all = refl; is = refl; first = record { byte₀ = byte "$"; rest = ascii "ion_1_0"; is = refl; tells = refl } }
 
 -- behind it stands what ends it: it is a value, and no symbol
@@ -115,11 +115,11 @@ module _ (w r : List ℕ) (k : Kind) (i : Word w k) (e : ended r ≡ true) where
   word-kind : kindOf (word (w ++ r)) ≡ k
   word-kind = ap kindOf (word-back w r (i .all) (stops r e)) ∙ i .is
 
-  word-value : (m : Bool) (n : Node) → byKind m k (w ++ r) ≡ some (n, behind (w ++ r)) → words m (w ++ r) ≡ some (n, r)
+  word-value : (m : Bool) (n : Node) → byKind m k (w ++ r) ≡ some (n, behindWord (w ++ r)) → words m (w ++ r) ≡ some (n, r)
   unfolding words
   word-value m n h = rw (word-kind, h, behind-back w r (i .all) (stops r e))
 
-  word-none : ((v : List ℕ) → symbolOf k v ≡ none) → symbol (w ++ r) ≡ none
+  word-none : ((v : List ℕ) → wordSymbol k v ≡ none) → symbol (w ++ r) ≡ none
   word-none h = keyword-symbol (w ++ r) k (first-more r (i .first)) word-kind h
 
 null-first : (t : ℕ) → First isStart (nullText t)
@@ -136,8 +136,8 @@ null-words m t r h e =
     word-is : same (ascii "null") (word (nullText t ++ r)) ≡ true
     word-is = rw (null-kind t r e .0) (unfold same strip in refl)
 
-    read : nullBehind (behind (nullText t ++ r)) ≡ some (t, r)
-    read = let k : if (same (ascii "null") (word (nullText t ++ r))) (nullBehind (behind (nullText t ++ r))) none ≡ some (t, r) = unfold nullToken in null-back t r h e in rw word-is at k
+    read : nullBehind (behindWord (nullText t ++ r)) ≡ some (t, r)
+    read = let k : if (same (ascii "null") (word (nullText t ++ r))) (nullBehind (behindWord (nullText t ++ r))) none ≡ some (t, r) = unfold nullToken in null-back t r h e in rw word-is at k
 
 null-symbol : (t : ℕ) (r : List ℕ) → ended r ≡ true → symbol (nullText t ++ r) ≡ none
 null-symbol t r e = let k = null-kind t r e in keyword-symbol (nullText t ++ r) Null (first-more r (null-first t)) (ap kindOf (k .0) ∙ k .1) (λ w. refl)
@@ -193,7 +193,7 @@ word-told m s t r x f h y =
       symbol-is = y;
     }
 
-number-told : (m : Bool) (s : Scalar) (t r : List ℕ) → First numeric (t ++ r) → number (t ++ r) ≡ some (Node.scalar s, r) → Told m s t r
+number-told : (m : Bool) (s : Scalar) (t r : List ℕ) → First numeric (t ++ r) → numbers (t ++ r) ≡ some (Node.scalar s, r) → Told m s t r
 number-told m s t r f h = record {
   reads = scalar-number m (t ++ r) f ∙ h;
   no-bracket = number-opens (t ++ r) f;
@@ -203,7 +203,7 @@ number-told m s t r f h = record {
 }
 
 -- a whole word that is no symbol
-keyword-told : (m : Bool) (s : Scalar) (w r : List ℕ) (k : Kind) → Word w k → ended r ≡ true → byKind m k (w ++ r) ≡ some (Node.scalar s, behind (w ++ r)) → ((v : List ℕ) → symbolOf k v ≡ none) → Told m s w r
+keyword-told : (m : Bool) (s : Scalar) (w r : List ℕ) (k : Kind) → Word w k → ended r ≡ true → byKind m k (w ++ r) ≡ some (Node.scalar s, behindWord (w ++ r)) → ((v : List ℕ) → wordSymbol k v ≡ none) → Told m s w r
 keyword-told m s w r k i e h g = word-told m s w r none (i .first) (word-value w r k i e m (Node.scalar s) h) (word-none w r k i e g)
 
 symbol-told : (m : Bool) (s r : List ℕ) → valid s ≡ true → ended r ≡ true → Told m (Scalar.symbol (Sym.text s)) (symbolText s) r
@@ -255,8 +255,8 @@ clob-told m s r h = record {
 
 -- ---- numbers
 
-plain-number : (t : List ℕ) → Plain t → number t ≡ taken numeralNode (numeral t)
-unfolding number
+plain-number : (t : List ℕ) → Plain t → numbers t ≡ taken numeralNode (numeral t)
+unfolding numbers
 plain-number t p = rw (number-float (p .number), p .no-timestamp)
 
 int-told : (m : Bool) (n : ℤ) (r : List ℕ) → SFits w64 n → ended r ≡ true → Told m (int n) (intText n) r
@@ -269,8 +269,8 @@ decimal-told m neg k x r h f e =
     let p = decimal-plain neg k x r in
     number-told m (decimal neg k x) (decimalText neg k x) r (number-first (p .number)) (plain-number (decimalText neg k x ++ r) p ∙ ap (taken numeralNode) (decimal-back neg k x r h f e))
 
-timestamp-number-back : (x : Timestamp) (t r : List ℕ) → floatToken t ≡ none → timestampToken t ≡ some (x, r) → number t ≡ some (Node.scalar (timestamp x), r)
-unfolding number
+timestamp-number-back : (x : Timestamp) (t r : List ℕ) → floatToken t ≡ none → timestampToken t ≡ some (x, r) → numbers t ≡ some (Node.scalar (timestamp x), r)
+unfolding numbers
 timestamp-number-back x t r h e = rw (h, e)
 
 timestamp-told : (m : Bool) (x : Timestamp) (r : List ℕ) → wellFormed x ≡ true → ended r ≡ true → Told m (timestamp x) (timestampText x) r
@@ -278,8 +278,8 @@ timestamp-told m x r h e =
     let n = timestamp-number x r in
     number-told m (timestamp x) (timestampText x) r (number-first n) (timestamp-number-back x (timestampText x ++ r) r (number-float n) (timestamp-back x r h e))
 
-float-number : (x : Float) (t r : List ℕ) → floatToken t ≡ some (x, r) → number t ≡ some (Node.scalar (float x), r)
-unfolding number
+float-number : (x : Float) (t r : List ℕ) → floatToken t ≡ some (x, r) → numbers t ≡ some (Node.scalar (float x), r)
+unfolding numbers
 float-number x t r h = rw h
 
 -- the infinities and the zeros, by computation

@@ -14,13 +14,13 @@ use Rattle.output.specs.Logic.{if, then, or, byte, ascii}
 use Rattle.output.specs.Wrote.{leBytes}
 use Rattle.text_rules.specs.Digits.{isDigit, number, whole}
 use Rattle.text_rules.specs.Texts.{starts, strip, same}
-use Rattle.text_rules.specs.Words.{isStart, isPart, word, behind, isIdentifier, resemblesVersionMarker, resemblesSymbolId, symbolId, kindOf}
+use Rattle.text_rules.specs.Words.{isStart, isPart, word, behindWord, isIdentifier, resemblesVersionMarker, resemblesSymbolId, symbolId, kindOf}
 use Rattle.text_rules.specs.Utf8.{leadOf, isCont, ok2, ok3, ok4, valid}
 use Rattle.text_rules.specs.Text.{Sym}
 use Rattle.text_rules.specs.declared.words.Kind.{Kind}
 use Rattle.text_rules.specs.declared.words.Kind.the-variants.{Null, True, False, Nan, Marker, Number, Text, Refused}
 use Rattle.tokens.specs.Quoted.{character, quoted, string, clob}
-use Rattle.tokens.specs.Token.{symbolOf, bareSymbol, quotedSymbol, symbol, typeOf, nullBehind, nanWord, spelled, float}
+use Rattle.tokens.specs.Token.{wordSymbol, bareSymbol, quotedSymbol, symbol, typeOf, nullBehind, nanWord, spelled, float}
 use Rattle.numbers.specs.Timestamp.{wellFormed}
 use Rattle.numbers.specs.Numeral.{Numeral, numeral}
 use Rattle.numbers.specs.TimestampRead.{timestamp}
@@ -155,7 +155,7 @@ part-low c h = go (decLt c 128)
     go (yes l) = l
     go (no l) = never (sym h ∙ high (omega arith))
 
-ascii-text : (w : List ℕ) → behind w ≡ [] → IsText w
+ascii-text : (w : List ℕ) → behindWord w ≡ [] → IsText w
 ascii-text w h = word-all IsText record { bytes = bytes-none; utf8 = valid-nothing } more w h
   where
     more : (c : ℕ) (v : List ℕ) → isPart c ≡ true → IsText v → IsText (c ∷ v)
@@ -217,7 +217,7 @@ bare-got : (t : List ℕ) → Got SymP (bareSymbol t)
 unfolding bareSymbol
 bare-got t = go (kindOf (word t)) (kind-fits (word t))
   where
-    go : (k : Kind) → KindP k → Got SymP (then (symbolOf k (word t)) (λ s. some (s, behind t)))
+    go : (k : Kind) → KindP k → Got SymP (then (wordSymbol k (word t)) (λ s. some (s, behindWord t)))
     go Text h = got (text-sym (word t) (word-text t))
     go (Number n) h = got (λ _. h)
     go Null h = got-none
@@ -280,7 +280,7 @@ pub null-got : (t : List ℕ) → Got (λ k. k ≤ 12) (nullBehind t)
 unfolding nullBehind
 null-got t = if-all (Got (λ k. k ≤ 12)) {b = starts (byte ".") t} (λ _. go (typeOf (word (drop 1 t))) (type-small (word (drop 1 t)))) (λ _. got (omega arith))
   where
-    go : (o : Option ℕ) → Type12 o → Got (λ k. k ≤ 12) (then o (λ k. some (k, behind (drop 1 t))))
+    go : (o : Option ℕ) → Type12 o → Got (λ k. k ≤ 12) (then o (λ k. some (k, behindWord (drop 1 t))))
     go none h = got-none
     go (some k) h = got h
 

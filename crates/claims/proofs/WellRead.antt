@@ -12,7 +12,7 @@ use lib.ListN.{length, drop, length-append}
 use Rattle.output.specs.Logic.{if, then, on, byte, ascii}
 use Rattle.output.specs.Wrote.{leBytes}
 use Rattle.text_rules.specs.Texts.{starts, strip}
-use Rattle.text_rules.specs.Words.{word, behind, kindOf}
+use Rattle.text_rules.specs.Words.{word, behindWord, kindOf}
 use Rattle.text_rules.specs.Text.{Sym}
 use Rattle.text_rules.specs.declared.words.Kind.{Kind}
 use Rattle.text_rules.specs.declared.words.Kind.the-variants.{Null, True, False, Nan, Marker, Number, Text, Refused}
@@ -25,7 +25,7 @@ use Rattle.tape.specs.Tree.{Scalar, Head, Node, Nodes, nest, marker, nil, more,
 use Rattle.tape.specs.Fine.{Bytes, FineSyms, FineScalar, FineName, FineHead, FineMarker, FineFloat, Inner, Fine, Fines}
 use Rattle.tape.specs.declared.Frame.{Frame}
 use Rattle.tape.specs.declared.Frame.the-variants.{Top, List as ListF, Sexp, Struct}
-use Rattle.reader.specs.Grammar.{taken, skip, opener, opens, closes, gap, note, notes, field, name, head, free, byKind, words, numeralNode, number, numeric, scalar, within, headed, body, sequence, meaning}
+use Rattle.reader.specs.Grammar.{taken, skip, opener, opens, closes, gap, note, notes, field, name, head, free, byKind, words, numeralNode, numbers, numeric, scalar, within, headed, body, sequence, meaning}
 use Rattle.tape.proofs.Reading.{if-all}
 use Rattle.claims.proofs.TokensRead.{Got, got-none, got, got-then, got-after, got-taken, got-or, SymP, ScalarP, NumeralP, KindP, kind-fits, IsText, word-text, string-text, symbol-got, symbol-scalar, string-scalar, clob-scalar, text-sym, clob-got, null-got, float-got, timestamp-got, numeral-got}
 
@@ -112,8 +112,8 @@ module _ (d : ℕ) (k : Frame) (ss : List Sym) where
   token-node : {A : Type 0} (P : A → Type 0) (f : A → Scalar) → ((a : A) → P a → FineScalar (f a)) → (o : Option (A × List ℕ)) → Got P o → Got (NodeP d k ss) (taken (λ x. Node.scalar (f x)) o)
   token-node P f h o g = got-taken P (NodeP d k ss) (λ x. Node.scalar (f x)) (λ a p. scalar-node (f a) (λ _. h a p)) o g
 
-  number-got : (t : List ℕ) → Got (NodeP d k ss) (number t)
-  unfolding number
+  number-got : (t : List ℕ) → Got (NodeP d k ss) (numbers t)
+  unfolding numbers
   number-got t =
       got-or _ _ (token-node FineFloat Scalar.float (λ a p. p) (float t) (float-got t))
       (got-or _ _ (token-node (λ x. wellFormed x ≡ true) Scalar.timestamp (λ a p. p) (timestamp t) (timestamp-got t))
@@ -128,12 +128,12 @@ module _ (d : ℕ) (k : Frame) (ss : List Sym) where
   unfolding words
   words-got m t h = go (kindOf (word t)) (kind-fits (word t))
     where
-      mark : (b : Bool) → (b ≡ true → FineMarker k ss) → Got (NodeP d k ss) (if b (some (Node.marker, behind t)) none)
+      mark : (b : Bool) → (b ≡ true → FineMarker k ss) → Got (NodeP d k ss) (if b (some (Node.marker, behindWord t)) none)
       mark true f = unfold Fine in got (λ _. f refl)
       mark false f = got-none
 
       go : (w : Kind) → KindP w → Got (NodeP d k ss) (byKind m w t)
-      go Null p = token-node (λ j. j ≤ 12) Scalar.null (λ a q. q) (nullBehind (behind t)) (null-got (behind t))
+      go Null p = token-node (λ j. j ≤ 12) Scalar.null (λ a q. q) (nullBehind (behindWord t)) (null-got (behindWord t))
       go True p = got (scalar-node (Scalar.bool true) (λ _. tt))
       go False p = got (scalar-node (Scalar.bool false) (λ _. tt))
       go Nan p = got (scalar-node (Scalar.float nan) (λ _. tt))

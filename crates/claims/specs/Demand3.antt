@@ -17,5 +17,5 @@ linesEach nil = []
 linesEach (more h n ns) = streamText 1 (more h n nil) ∷ linesEach ns
 
 -- the text of written values: their lines joined
-abbrev pub textOf : List Written → List ℕ
-textOf ws = flatten (map (λ (w : Written). w .line) ws)
+abbrev pub joinedText : List Written → List ℕ
+joinedText ws = flatten (map (λ (w : Written). w .line) ws)

@@ -21,7 +21,7 @@ use Rattle.tree.specs.Outcome as tree
 use Rattle.tape.specs.Tape.{nodesOf}
 use Rattle.line_reader.specs.Cut.{toFirst}
 use Rattle.line_reader.specs.Book.{success, failure, endMark, lineTape, room, byBook}
-use Rattle.line_reader.specs.Steps.{past, step}
+use Rattle.line_reader.specs.Calls.{pastText, step}
 use Rattle.ion_c.specs.Code.{Small}
 
 measured-small : (s : List ℕ) (n : ℕ) → n < 2 ^ 63 → Small (measured s n)
@@ -75,10 +75,10 @@ line-small line at buf = go (lineTape line)
     go (some t) = held t (leb (length t) (min (length buf) 1_048_576)) refl
 
 pub step-small : (text : List ℕ) (at : ℕ) (buf : List ℕ) → Small (step text at buf .answer)
-unfolding step past endMark
+unfolding step pastText endMark
 step-small text at buf = go (ltb (length text) at) (eqb at (length text))
   where
-    go : (a b : Bool) → Small (if a (past at buf) (if b (endMark at buf) (byBook (toFirst (drop at text)) at buf)) .answer)
+    go : (a b : Bool) → Small (if a (pastText at buf) (if b (endMark at buf) (byBook (toFirst (drop at text)) at buf)) .answer)
     go true b = tt
     go false true = tt
     go false false = line-small (toFirst (drop at text)) at buf

@@ -6,7 +6,7 @@ ghost use Rattle.tape.specs.Answer.{outcome};
 ghost use Rattle.writer.specs.Outcome.{streamed, leaves};
 ghost use Rattle.tree.specs.Outcome as tree;
 ghost use Rattle.reader.specs.Outcome as read;
-ghost use Rattle.line_reader.specs.Steps.{step};
+ghost use Rattle.line_reader.specs.Calls.{step};
 ghost use Rattle.ion_c.specs.Code.{code, Small};
 use tape::answer::Answer;
 

@@ -13,12 +13,12 @@ use Rattle.reader.specs.Grammar.{meaning}
 use Rattle.reader.specs.Outcome.{fits, zeros}
 use Rattle.line_reader.specs.Cut.{lf, linesOf, toFirst}
 use Rattle.line_reader.specs.Book.{Call, success, failure, endMark, endsInLf, single, lineTape, room, byBook, play, book}
-use Rattle.line_reader.specs.Steps.{past, step, calls}
+use Rattle.line_reader.specs.Calls.{pastText, step, calls}
 use Rattle.line_reader.proofs.CutLaws.{afterFirst, cut-first, first-after}
 
 -- ---- one call, by its three ways
 
-pub step-past : (text : List ℕ) (at : ℕ) (buf : List ℕ) → length text < at → step text at buf ≡ past at buf
+pub step-past : (text : List ℕ) (at : ℕ) (buf : List ℕ) → length text < at → step text at buf ≡ pastText at buf
 unfolding step
 step-past text at buf h = rw (lt-ltb (length text) at h)
 

@@ -8,7 +8,7 @@ use lib.ListN.{length, take, drop}
 use Rattle.reader.specs.Outcome.{fits}
 use Rattle.line_reader.specs.Cut.{lf, linesOf, lfs, toFirst, fromLast}
 use Rattle.line_reader.specs.Book.{Call, Turn, lineTape, room, byBook, play, book}
-use Rattle.line_reader.specs.Damage.{Written, asWritten, before, between, behind, damaged}
+use Rattle.line_reader.specs.Damage.{Written, asWritten, before, between, behindRun, damaged}
 use Rattle.line_reader.proofs.CutLaws.{cut-line, cut-damaged, lines-lie, lines-follow}
 use Rattle.line_reader.proofs.BookLaws.{book-length}
 
@@ -64,8 +64,8 @@ cut-joined n (w ∷ ws) a =
 
 -- The lines before, joined, are the head up to its last LF; those behind are the tail from behind its first.
 pub before-behind : (n : ℕ) (ws : List Written) → All (Reads n) ws → (head run tail : List ℕ) → joined ws ≡ head ++ run ++ tail
-    → (joined (before ws head) ++ fromLast head ≡ head) × (toFirst tail ++ joined (behind ws head run) ≡ tail)
-unfolding before behind
+    → (joined (before ws head) ++ fromLast head ≡ head) × (toFirst tail ++ joined (behindRun ws head run) ≡ tail)
+unfolding before behindRun
 before-behind n ws a head run tail e =
     let lines : map lineOf ws ≡ linesOf (head ++ run ++ tail) = sym (cut-joined n ws a) ∙ ap linesOf e in (
       rw (← map-take lineOf (lfs head) ws, lines, append-assoc head run tail) (lines-lie head (run ++ tail)),
@@ -117,7 +117,7 @@ undamaged ws buf a n = rw (cut-joined (length buf) ws a) (play-like n 0 buf refl
 -- Of a text of written values one run is replaced: every list of calls is answered, by the book, as `damaged` says.
 pub demand : (ws : List Written) (buf : List ℕ) → All (Reads (length buf)) ws → (head run new tail : List ℕ) → joined ws ≡ head ++ run ++ tail
     → (n : ℕ) → book n (head ++ new ++ tail) buf ≡ play n (damaged ws head run new tail) 0 buf
-unfolding book damaged before between behind
+unfolding book damaged before between behindRun
 demand ws buf a head run new tail e n =
     let m : ℕ = length buf in
     let k : ℕ = lfs head in

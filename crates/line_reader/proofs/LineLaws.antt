@@ -18,7 +18,7 @@ use Rattle.reader.specs.Steps.{Laid}
 use Rattle.reader.proofs.Whole.{tape-long, tape-fits}
 use Rattle.line_reader.specs.Cut.{lf, toFirst}
 use Rattle.line_reader.specs.Book.{success, failure, endsInLf, single, lineTape, room, byBook}
-use Rattle.line_reader.specs.Steps.{called, step}
+use Rattle.line_reader.specs.Calls.{called, step}
 use Rattle.line_reader.proofs.CutLaws.{take-first}
 use Rattle.line_reader.proofs.BookLaws.{step-line}
 

@@ -10,7 +10,7 @@ use Rattle.tape.specs.Answer.{Outcome, outcome}
 use Rattle.tape.specs.declared.answer.Answer.{Answer}
 use Rattle.tape.specs.declared.answer.Answer.the-variants.{End}
 use Rattle.line_reader.specs.Book.{Call, book}
-use Rattle.line_reader.specs.Steps.{step, calls, called, answerOf, lastAt, lastBuf, Ran}
+use Rattle.line_reader.specs.Calls.{step, calls, called, answerOf, lastAt, lastBuf, Ran}
 use Rattle.line_reader.proofs.BookLaws.{calls-book}
 
 -- one call more is made from what the calls before it left

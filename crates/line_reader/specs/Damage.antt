@@ -24,10 +24,10 @@ unfoldable pub between : List ℕ → List ℕ → List ℕ → List (List ℕ)
 between head new tail = linesOf (fromLast head ++ new ++ toFirst tail)
 
 -- "behind it those that start right after an LF of the tail": all but those that end before it, and the line in which the tail begins
-unfoldable pub behind : List Written → List ℕ → List ℕ → List Written
-behind ws head run = drop (suc (lfs (head ++ run))) ws
+unfoldable pub behindRun : List Written → List ℕ → List ℕ → List Written
+behindRun ws head run = drop (suc (lfs (head ++ run))) ws
 
 -- the turns of a text that was head, run and tail, with `new` in the run's place: before as written, between by the book on their own bytes,
 -- behind as written
 unfoldable pub damaged : List Written → List ℕ → List ℕ → List ℕ → List ℕ → List Turn
-damaged ws head run new tail = map asWritten (before ws head) ++ map byBook (between head new tail) ++ map asWritten (behind ws head run)
+damaged ws head run new tail = map asWritten (before ws head) ++ map byBook (between head new tail) ++ map asWritten (behindRun ws head run)

@@ -1,4 +1,4 @@
 pub mod Cut
 pub mod Book
 pub mod Damage
-pub mod Steps
+pub mod Calls

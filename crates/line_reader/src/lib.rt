@@ -6,7 +6,7 @@ ghost use Prim.Native.Nat.{ℕ, _+_, _≤_};
 ghost use lib.ListN.{length, drop};
 ghost use Rattle.line_reader.specs.Cut.{toFirst};
 ghost use Rattle.line_reader.specs.Book.{endsInLf, byBook, book};
-ghost use Rattle.line_reader.specs.Steps.{step, called, Ran};
+ghost use Rattle.line_reader.specs.Calls.{step, called, Ran};
 
 // What a call answers, and the next offset.
 pub struct Called {

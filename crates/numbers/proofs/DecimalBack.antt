@@ -12,11 +12,11 @@ use mir.Val.{SFits}
 use lib.ListN.{length, take, drop, replicate, length-append, length-replicate, length-drop, take-append-drop}
 use borrow.Author.Tests.{le-leb, lt-leb, ltb-true, ltb-false, eqb-true, ne-eqb}
 use Rattle.output.specs.Logic.{if, then, byte}
-use Rattle.text_rules.specs.Digits.{digit, digits, isDigit, run, past, number, whole}
+use Rattle.text_rules.specs.Digits.{digit, digits, isDigit, run, behindDigits, number, whole}
 use Rattle.text_rules.specs.Texts.{starts, blank, delimiter, ended}
 use Rattle.text_rules.proofs.DigitLaws.{Digits, NoDigit, digits-append, digits-take, digits-drop, digits-zeros, run-digits, past-digits, number-append, number-zeros, number-digits, digits-digits, digits-some, digits-most, whole-digits, whole-take, digit-range, never}
 use Rattle.numbers.specs.Decimal.{intText, pointed, scientific, above, below, form, sign, decimalText}
-use Rattle.numbers.specs.Numeral.{Numeral, Read, signed, held, intOf, shifted, decimalOf, powerOf, behindD, behindPoint, behindWhole, unsigned, numeral}
+use Rattle.numbers.specs.Numeral.{Numeral, ReadNumeral, withSign, held, rangedInt, shifted, rangedDecimal, powerOf, behindD, behindPoint, behindWhole, unsigned, numeral}
 use Rattle.numbers.proofs.Signed.{held-fits, held-some, minus-minus, plus-minus, zero-minus, minus-zero}
 use Rattle.numbers.proofs.NumeralLaws.{decimal-some, int-some, int-some-below}
 
@@ -69,13 +69,13 @@ starts-digits b (c ∷ s) r h p d = ne-eqb c b (λ (e : c ≡ b). never (sym (d 
 -- ---- the parts of a token
 
 -- the written exponent z less n digits after the point is e
-decimal-made : (neg : Bool) (m n : ℕ) (z e : ℤ) (r : List ℕ) → m < 2 ^ 64 → z -ℤ pos n ≡ e → SFits w32 e → decimalOf neg m n z r ≡ some (Numeral.decimal neg m e, r)
+decimal-made : (neg : Bool) (m n : ℕ) (z e : ℤ) (r : List ℕ) → m < 2 ^ 64 → z -ℤ pos n ≡ e → SFits w32 e → rangedDecimal neg m n z r ≡ some (Numeral.decimal neg m e, r)
 unfolding shifted
 decimal-made neg m n z e r h64 hz f = decimal-some neg m n z e r h64 (ap (held w32) hz ∙ held-fits w32 e f)
 
 -- the digits of a written exponent
-power-digits : (neg : Bool) (m n : ℕ) (minus : Bool) (k : ℕ) (r : List ℕ) (o : Read) → k < 10 ^ 10 → NoDigit r → decimalOf neg m n (signed minus k) r ≡ o
-    → powerOf neg m n minus (run (digits k ++ r)) (past (digits k ++ r)) ≡ o
+power-digits : (neg : Bool) (m n : ℕ) (minus : Bool) (k : ℕ) (r : List ℕ) (o : ReadNumeral) → k < 10 ^ 10 → NoDigit r → rangedDecimal neg m n (withSign minus k) r ≡ o
+    → powerOf neg m n minus (run (digits k ++ r)) (behindDigits (digits k ++ r)) ≡ o
 unfolding powerOf
 power-digits neg m n minus k r o h hr ho =
     rw (
@@ -263,7 +263,7 @@ lone-digit false d e r h he hr = signless _ _ (with-point false d e r h he hr) �
 
 -- ---- ints, by the same scanner
 
-int-unsigned : (neg : Bool) (m : ℕ) (r : List ℕ) → m < 2 ^ 64 → ended r ≡ true → unsigned neg (digits m ++ r) ≡ intOf neg m r
+int-unsigned : (neg : Bool) (m : ℕ) (r : List ℕ) → m < 2 ^ 64 → ended r ≡ true → unsigned neg (digits m ++ r) ≡ rangedInt neg m r
 unfolding unsigned behindWhole
 int-unsigned neg m r h hr =
     rw (
@@ -286,21 +286,21 @@ abbrev Ranged : Numeral → Type 0
 Ranged (Numeral.int z) = SFits w64 z
 Ranged (Numeral.decimal neg m e) = (m < 2 ^ 64) × SFits w32 e
 
-record InRange (o : Read) : Type 0 where
+record InRange (o : ReadNumeral) : Type 0 where
   all : (v : Numeral × List ℕ) → o ≡ some v → Ranged (v .0)
 
 range-none : InRange none
 range-none = record { all = λ v h. let n : _≡_ {A = ℕ} 0 1 = cc in let bad : ⊥ = omega arith in absurd bad }
 
-range-if : (b : Bool) (o o′ : Read) → InRange o → InRange o′ → InRange (if b o o′)
+range-if : (b : Bool) (o o′ : ReadNumeral) → InRange o → InRange o′ → InRange (if b o o′)
 range-if true o o′ h g = h
 range-if false o o′ h g = g
 
 range-some : (a : Numeral) (r : List ℕ) → Ranged a → InRange (some (a, r))
 range-some a r h = record { all = λ v e. let q : a ≡ v .0 = cc in subst Ranged q h }
 
-range-decimal : (neg : Bool) (m n : ℕ) (z : ℤ) (r : List ℕ) → InRange (decimalOf neg m n z r)
-unfolding decimalOf shifted
+range-decimal : (neg : Bool) (m n : ℕ) (z : ℤ) (r : List ℕ) → InRange (rangedDecimal neg m n z r)
+unfolding rangedDecimal shifted
 range-decimal neg m n z r = go (ltb m (2 ^ 64)) refl (held w32 (z -ℤ pos n)) refl
   where
     go : (b : Bool) → ltb m (2 ^ 64) ≡ b → (o : Option ℤ) → held w32 (z -ℤ pos n) ≡ o → InRange (if b (then o (λ x. some (Numeral.decimal neg m x, r))) none)
@@ -308,18 +308,18 @@ range-decimal neg m n z r = go (ltb m (2 ^ 64)) refl (held w32 (z -ℤ pos n)) r
     go true e none h = range-none
     go true e (some x) h = range-some (Numeral.decimal neg m x) r (ltb-true m (2 ^ 64) e, held-some w32 (z -ℤ pos n) x h .1)
 
-range-int : (neg : Bool) (m : ℕ) (r : List ℕ) → InRange (intOf neg m r)
-unfolding intOf
-range-int neg m r = go (neg && eqb m 0) (held w64 (signed neg m)) refl
+range-int : (neg : Bool) (m : ℕ) (r : List ℕ) → InRange (rangedInt neg m r)
+unfolding rangedInt
+range-int neg m r = go (neg && eqb m 0) (held w64 (withSign neg m)) refl
   where
-    go : (b : Bool) (o : Option ℤ) → held w64 (signed neg m) ≡ o → InRange (if b none (then o (λ z. some (Numeral.int z, r))))
+    go : (b : Bool) (o : Option ℤ) → held w64 (withSign neg m) ≡ o → InRange (if b none (then o (λ z. some (Numeral.int z, r))))
     go true o h = range-none
     go false none h = range-none
-    go false (some z) h = range-some (Numeral.int z) r (held-some w64 (signed neg m) z h .1)
+    go false (some z) h = range-some (Numeral.int z) r (held-some w64 (withSign neg m) z h .1)
 
 range-power : (neg : Bool) (m n : ℕ) (minus : Bool) (es r : List ℕ) → InRange (powerOf neg m n minus es r)
 unfolding powerOf
-range-power neg m n minus es r = range-if (leb 1 (length es) && leb (length es) 10) _ _ (range-decimal neg m n (signed minus (number 0 es)) r) range-none
+range-power neg m n minus es r = range-if (leb 1 (length es) && leb (length es) 10) _ _ (range-decimal neg m n (withSign minus (number 0 es)) r) range-none
 
 range-d : (neg : Bool) (m n : ℕ) (t : List ℕ) → InRange (behindD neg m n t)
 unfolding behindD

@@ -5,10 +5,10 @@ use mathlib.Core.List.{[]}
 use mathlib.Core.Option.{none, some}
 use lib.IntN.{pos, negsuc}
 use Rattle.output.specs.Logic.{ascii}
-use Rattle.text_rules.specs.Digits.{digits, pad, count, isDigit, run, past, number, whole}
+use Rattle.text_rules.specs.Digits.{digits, pad, count, isDigit, run, behindDigits, number, whole}
 use Rattle.text_rules.specs.Texts.{starts}
 use Rattle.numbers.specs.Decimal.{intText, pointed, scientific, above, below, form, sign, decimalText}
-use Rattle.numbers.specs.Numeral.{Numeral, numeral, unsigned, behindWhole, behindPoint, behindD, powerOf, decimalOf, shifted, held, intOf}
+use Rattle.numbers.specs.Numeral.{Numeral, numeral, unsigned, behindWhole, behindPoint, behindD, powerOf, rangedDecimal, shifted, held, rangedInt}
 
 -- 123456 e 0, 1234567 e 0, 116 e -8, 116 e -9, -0 e 0
 pub marked :
@@ -56,5 +56,5 @@ reads :
     × (numeral (ascii ".5") ≡ none)
     × (numeral (ascii "1.5") ≡ some (Numeral.decimal false 15 (negsuc 0), []))
     × (numeral (ascii "0.0000000000000000000000001") ≡ some (Numeral.decimal false 1 (negsuc 24), []))
-unfolding numeral unsigned behindWhole behindPoint behindD powerOf decimalOf shifted held intOf run past starts whole isDigit number
+unfolding numeral unsigned behindWhole behindPoint behindD powerOf rangedDecimal shifted held rangedInt run behindDigits starts whole isDigit number
 reads = (refl, refl, refl, refl, refl, refl, refl, refl, refl, refl, refl, refl, refl, refl, refl, refl, refl, refl, refl, refl, refl)

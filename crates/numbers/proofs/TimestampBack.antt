@@ -11,25 +11,25 @@ use lib.IntN.{ℤ, pos, negsuc}
 use lib.ListN.{length, drop}
 use borrow.Author.Tests.{le-leb, lt-leb, ltb-true, leb-true, eqb-true, eq-eqb, ne-eqb}
 use Rattle.output.specs.Logic.{if, then, byte, ascii}
-use Rattle.text_rules.specs.Digits.{pad, isDigit, run, past, number}
+use Rattle.text_rules.specs.Digits.{pad, isDigit, run, behindDigits, number}
 use Rattle.text_rules.specs.Texts.{starts, blank, delimiter, ended}
 use Rattle.text_rules.proofs.DigitLaws.{never, Digits, NoDigit, digit-range, run-digits, past-digits, number-pad, length-pad, digits-pad}
 use Rattle.numbers.specs.declared.timestamp.Timestamp.{Timestamp}
-use Rattle.numbers.specs.Timestamp.{unknown, isLeap, daysIn, field, dateWell, timeWell, offsetWell, fractionWell, wellFormed, yearAndMonth, date, hourAndMinute, dateHourAndMinute, fractionalSeconds, offsetText, timestampText}
-use Rattle.numbers.specs.TimestampRead.{Read, joined, fixed, startsDigit, clock, dated, timed, zoned, checked, minutes, offsetOf, fractionOf, secondOf, timeOf, dayOf, behindMonth, behindYear, timestamp}
+use Rattle.numbers.specs.Timestamp.{unknown, isLeap, daysIn, fieldWell, dateWell, timeWell, offsetWell, fractionWell, wellFormed, yearAndMonth, date, hourAndMinute, dateHourAndMinute, fractionalSeconds, offsetText, timestampText}
+use Rattle.numbers.specs.TimestampRead.{ReadTimestamp, joined, fixed, startsDigit, clock, dated, timed, zoned, checked, minutes, offsetOf, fractionOf, secondOf, timeOf, dayOf, behindMonth, behindYear, timestamp}
 use Rattle.numbers.proofs.TimestampPlaces.{joined-digits}
 
 -- ---- what is read is well formed
 
-abbrev Well : Read → Type 0
+abbrev Well : ReadTimestamp → Type 0
 Well none = Unit
 Well (some v) = wellFormed (v .0) ≡ true
 
-well-if : (b : Bool) (o p : Read) → Well o → Well p → Well (if b o p)
+well-if : (b : Bool) (o p : ReadTimestamp) → Well o → Well p → Well (if b o p)
 well-if true o p h g = h
 well-if false o p h g = g
 
-well-then : {A : Type 0} (o : Option A) (f : A → Read) → ((a : A) → Well (f a)) → Well (then o f)
+well-then : {A : Type 0} (o : Option A) (f : A → ReadTimestamp) → ((a : A) → Well (f a)) → Well (then o f)
 well-then none f h = tt
 well-then (some a) f h = h a
 
@@ -143,7 +143,7 @@ sign-no-digit (pos m) r = go (eqb m unknown)
     go false = refl
 
 fraction-back : (x : Timestamp) (h m s n f : ℕ) (r : List ℕ) → 1 ≤ n → n ≤ 9 → f < 10 ^ n → NoDigit r
-    → fractionOf x h m s (run (pad n f ++ r)) (past (pad n f ++ r)) ≡ offsetOf (timed 4 x h m s n f) r
+    → fractionOf x h m s (run (pad n f ++ r)) (behindDigits (pad n f ++ r)) ≡ offsetOf (timed 4 x h m s n f) r
 unfolding fractionOf
 fraction-back x h m s n f r lo hi hf hr =
     let k : f % 10 ^ n ≡ f = mod-eq-of-lt hf in
@@ -208,14 +208,14 @@ module _ (y m d : ℕ) (hy : y < 10000) (hm : m < 100) (hd : d < 100) where
 
 pub record Fields (x : Timestamp) : Type 0 where
   pub precision : leb (x .precision) 4 ≡ true
-  pub year : field true 1 9999 (x .year) ≡ true
-  pub month : field (leb 1 (x .precision)) 1 12 (x .month) ≡ true
-  pub day : field (leb 2 (x .precision)) 1 (daysIn (x .year) (x .month)) (x .day) ≡ true
-  pub hour : field (leb 3 (x .precision)) 0 23 (x .hour) ≡ true
-  pub minute : field (leb 3 (x .precision)) 0 59 (x .minute) ≡ true
-  pub second : field (leb 4 (x .precision)) 0 59 (x .second) ≡ true
+  pub year : fieldWell true 1 9999 (x .year) ≡ true
+  pub month : fieldWell (leb 1 (x .precision)) 1 12 (x .month) ≡ true
+  pub day : fieldWell (leb 2 (x .precision)) 1 (daysIn (x .year) (x .month)) (x .day) ≡ true
+  pub hour : fieldWell (leb 3 (x .precision)) 0 23 (x .hour) ≡ true
+  pub minute : fieldWell (leb 3 (x .precision)) 0 59 (x .minute) ≡ true
+  pub second : fieldWell (leb 4 (x .precision)) 0 59 (x .second) ≡ true
   pub offset : offsetWell (x .precision) (x .offset) ≡ true
-  pub digits : field (leb 4 (x .precision)) 0 9 (x .digits) ≡ true
+  pub digits : fieldWell (leb 4 (x .precision)) 0 9 (x .digits) ≡ true
   pub fraction : ltb (x .fraction) (10 ^ x .digits) ≡ true
 
 four : (a b c d : Bool) → a && b && c && d ≡ true → (a ≡ true) × (b ≡ true) × (c ≡ true) × (d ≡ true)
@@ -230,9 +230,9 @@ fields x h =
     let w =
     four (dateWell p (x .year) (x .month) (x .day)) (timeWell p (x .hour) (x .minute) (x .second)) (offsetWell p (x .offset)) (fractionWell p (x .digits) (x .fraction)) h in
     let a =
-    four (leb p 4) (field true 1 9999 (x .year)) (field (leb 1 p) 1 12 (x .month)) (field (leb 2 p) 1 (daysIn (x .year) (x .month)) (x .day)) (w .0) in
-    let b = four true (field (leb 3 p) 0 23 (x .hour)) (field (leb 3 p) 0 59 (x .minute)) (field (leb 4 p) 0 59 (x .second)) (w .1) in
-    let f = both (field (leb 4 p) 0 9 (x .digits)) (ltb (x .fraction) (10 ^ x .digits)) (w .3) in
+    four (leb p 4) (fieldWell true 1 9999 (x .year)) (fieldWell (leb 1 p) 1 12 (x .month)) (fieldWell (leb 2 p) 1 (daysIn (x .year) (x .month)) (x .day)) (w .0) in
+    let b = four true (fieldWell (leb 3 p) 0 23 (x .hour)) (fieldWell (leb 3 p) 0 59 (x .minute)) (fieldWell (leb 4 p) 0 59 (x .second)) (w .1) in
+    let f = both (fieldWell (leb 4 p) 0 9 (x .digits)) (ltb (x .fraction) (10 ^ x .digits)) (w .3) in
     record {
       precision = a .0;
       year = a .1;
@@ -262,13 +262,13 @@ same x y p ye m d h mi s o n f = λ i. record {
 }
 
 -- a field is at most its highest; one that is finer than the precision is 0
-most : (b : Bool) (lo hi n : ℕ) → field b lo hi n ≡ true → n ≤ hi
-unfolding field
+most : (b : Bool) (lo hi n : ℕ) → fieldWell b lo hi n ≡ true → n ≤ hi
+unfolding fieldWell
 most true lo hi n h = leb-true n hi (both (leb lo n) (leb n hi) h .1)
 most false lo hi n h = let e = eqb-true n 0 h in omega arith
 
-finer : (k p lo hi n : ℕ) → p < k → field (leb k p) lo hi n ≡ true → n ≡ 0
-unfolding field
+finer : (k p lo hi n : ℕ) → p < k → fieldWell (leb k p) lo hi n ≡ true → n ≡ 0
+unfolding fieldWell
 finer k p lo hi n l h = eqb-true n 0 (rw (lt-leb k p l) at h)
 
 days-most : (y m : ℕ) → daysIn y m ≤ 31

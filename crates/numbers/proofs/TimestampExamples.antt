@@ -5,10 +5,10 @@ use mathlib.Core.List.{[]}
 use mathlib.Core.Option.{none, some}
 use lib.IntN.{ℤ, pos, negsuc}
 use Rattle.output.specs.Logic.{ascii}
-use Rattle.text_rules.specs.Digits.{pad, isDigit, run, past, number}
+use Rattle.text_rules.specs.Digits.{pad, isDigit, run, behindDigits, number}
 use Rattle.text_rules.specs.Texts.{starts}
 use Rattle.numbers.specs.declared.timestamp.Timestamp.{Timestamp}
-use Rattle.numbers.specs.Timestamp.{unknown, isLeap, daysIn, field, dateWell, timeWell, offsetWell, fractionWell, wellFormed, yearAndMonth, date, hourAndMinute, dateHourAndMinute, fractionalSeconds, offsetText, timestampText}
+use Rattle.numbers.specs.Timestamp.{unknown, isLeap, daysIn, fieldWell, dateWell, timeWell, offsetWell, fractionWell, wellFormed, yearAndMonth, date, hourAndMinute, dateHourAndMinute, fractionalSeconds, offsetText, timestampText}
 use Rattle.numbers.specs.TimestampRead.{joined, startsDigit, clock, dated, timed, zoned, checked, minutes, offsetOf, fractionOf, secondOf, timeOf, dayOf, behindMonth, behindYear, timestamp}
 
 -- to the minute, with an offset
@@ -44,7 +44,7 @@ calendar :
     × (wellFormed (dated 2 2024 4 31) ≡ false)
     × (wellFormed (dated 1 2024 13 0) ≡ false)
     × (wellFormed (dated 0 0 0 0) ≡ false)
-unfolding wellFormed dateWell timeWell offsetWell fractionWell field daysIn isLeap
+unfolding wellFormed dateWell timeWell offsetWell fractionWell fieldWell daysIn isLeap
 calendar = (refl, refl, refl, refl, refl, refl, refl)
 
 -- `Z` and `-00:00`; without `T`, a point without digits, 10 digits, `+24:00`, `+00:60`, `z`, `t` and no real date are refused
@@ -63,5 +63,5 @@ reads :
     × (timestamp (ascii "2020-08-01T12:34z") ≡ none)
     × (timestamp (ascii "2020-08-01t12:34Z") ≡ none)
     × (timestamp (ascii "1900-02-29T") ≡ none)
-unfolding timestamp behindYear behindMonth dayOf timeOf secondOf fractionOf offsetOf minutes clock checked joined startsDigit starts run past number isDigit wellFormed dateWell timeWell offsetWell fractionWell field daysIn isLeap
+unfolding timestamp behindYear behindMonth dayOf timeOf secondOf fractionOf offsetOf minutes clock checked joined startsDigit starts run behindDigits number isDigit wellFormed dateWell timeWell offsetWell fractionWell fieldWell daysIn isLeap
 reads = (refl, refl, refl, refl, refl, refl, refl, refl, refl, refl, refl, refl, refl, refl)

@@ -12,7 +12,7 @@ use mathlib.Core.Option.{Option, none, some}
 use lib.ListN.{length, drop}
 use lib.Dec.{eqb, leb, ltb}
 use Rattle.output.specs.Logic.{if, then, byte}
-use Rattle.text_rules.specs.Digits.{run, past, number, whole}
+use Rattle.text_rules.specs.Digits.{run, behindDigits, number, whole}
 use Rattle.text_rules.specs.Texts.{starts}
 
 -- an int; a decimal, by sign, magnitude and exponent
@@ -20,56 +20,56 @@ pub data Numeral : Type 0 where
   int : ℤ → Numeral
   decimal : Bool → ℕ → ℤ → Numeral
 
-abbrev pub Read : Type 0
-Read = Option (Numeral × List ℕ)
+abbrev pub ReadNumeral : Type 0
+ReadNumeral = Option (Numeral × List ℕ)
 
 -- the number of this magnitude, with a minus or not
-abbrev pub signed : Bool → ℕ → ℤ
-signed true n = negℤ (pos n)
-signed false n = pos n
+abbrev pub withSign : Bool → ℕ → ℤ
+withSign true n = negℤ (pos n)
+withSign false n = pos n
 
 -- z, in i64 or i32: `mag` is n both for n and for -(n + 1), and has a bit less than the width
 unfoldable pub held : Width → ℤ → Option ℤ
 held w z = if (ltb (mag z) (2 ^ hbits w)) (some z) none
 
 -- Int: 0, or optional minus and digits not starting with 0 (so no `-0`), in i64
-unfoldable pub intOf : Bool → ℕ → List ℕ → Read
-intOf neg m r = if (neg && eqb m 0) none (then (held w64 (signed neg m)) (λ z. some (Numeral.int z, r)))
+unfoldable pub rangedInt : Bool → ℕ → List ℕ → ReadNumeral
+rangedInt neg m r = if (neg && eqb m 0) none (then (held w64 (withSign neg m)) (λ z. some (Numeral.int z, r)))
 
 -- Exponent: the written one e (else 0) less the n digits after the point, in i32
 unfoldable pub shifted : ℕ → ℤ → Option ℤ
 shifted n e = held w32 (e -ℤ pos n)
 
 -- Magnitude: all digits joined are m, in u64; n of them stood after the point
-unfoldable pub decimalOf : Bool → ℕ → ℕ → ℤ → List ℕ → Read
-decimalOf neg m n e r = if (ltb m (2 ^ 64)) (then (shifted n e) (λ x. some (Numeral.decimal neg m x, r))) none
+unfoldable pub rangedDecimal : Bool → ℕ → ℕ → ℤ → List ℕ → ReadNumeral
+rangedDecimal neg m n e r = if (ltb m (2 ^ 64)) (then (shifted n e) (λ x. some (Numeral.decimal neg m x, r))) none
 
 -- the written exponent's digits es: 1 to 10
-unfoldable pub powerOf : Bool → ℕ → ℕ → Bool → List ℕ → List ℕ → Read
-powerOf neg m n minus es r = if (leb 1 (length es) && leb (length es) 10) (decimalOf neg m n (signed minus (number 0 es)) r) none
+unfoldable pub powerOf : Bool → ℕ → ℕ → Bool → List ℕ → List ℕ → ReadNumeral
+powerOf neg m n minus es r = if (leb 1 (length es) && leb (length es) 10) (rangedDecimal neg m n (withSign minus (number 0 es)) r) none
 
 -- behind `d`: an optional sign, and digits
-unfoldable pub behindD : Bool → ℕ → ℕ → List ℕ → Read
+unfoldable pub behindD : Bool → ℕ → ℕ → List ℕ → ReadNumeral
 behindD neg m n t =
-    if (starts (byte "-") t) (powerOf neg m n true (run (drop 1 t)) (past (drop 1 t)))
-    (if (starts (byte "+") t) (powerOf neg m n false (run (drop 1 t)) (past (drop 1 t)))
-    (powerOf neg m n false (run t) (past t)))
+    if (starts (byte "-") t) (powerOf neg m n true (run (drop 1 t)) (behindDigits (drop 1 t)))
+    (if (starts (byte "+") t) (powerOf neg m n false (run (drop 1 t)) (behindDigits (drop 1 t)))
+    (powerOf neg m n false (run t) (behindDigits t)))
 
 -- behind a point and its n digits: `d`, or the end
-unfoldable pub behindPoint : Bool → ℕ → ℕ → List ℕ → Read
-behindPoint neg m n t = if (starts (byte "d") t) (behindD neg m n (drop 1 t)) (decimalOf neg m n (pos 0) t)
+unfoldable pub behindPoint : Bool → ℕ → ℕ → List ℕ → ReadNumeral
+behindPoint neg m n t = if (starts (byte "d") t) (behindD neg m n (drop 1 t)) (rangedDecimal neg m n (pos 0) t)
 
 -- behind the first digits, which are m: a point with zero or more digits, `d`, or the end of an int
-unfoldable pub behindWhole : Bool → ℕ → List ℕ → Read
+unfoldable pub behindWhole : Bool → ℕ → List ℕ → ReadNumeral
 behindWhole neg m t =
-    if (starts (byte ".") t) (behindPoint neg (number m (run (drop 1 t))) (length (run (drop 1 t))) (past (drop 1 t)))
+    if (starts (byte ".") t) (behindPoint neg (number m (run (drop 1 t))) (length (run (drop 1 t))) (behindDigits (drop 1 t)))
     (if (starts (byte "d") t) (behindD neg m 0 (drop 1 t))
-    (intOf neg m t))
+    (rangedInt neg m t))
 
 -- 0 or digits without leading zero, and what stands behind them
-unfoldable pub unsigned : Bool → List ℕ → Read
-unsigned neg t = if (whole (run t)) (behindWhole neg (number 0 (run t)) (past t)) none
+unfoldable pub unsigned : Bool → List ℕ → ReadNumeral
+unsigned neg t = if (whole (run t)) (behindWhole neg (number 0 (run t)) (behindDigits t)) none
 
 -- an optional minus
-unfoldable pub numeral : List ℕ → Read
+unfoldable pub numeral : List ℕ → ReadNumeral
 numeral t = if (starts (byte "-") t) (unsigned true (drop 1 t)) (unsigned false t)

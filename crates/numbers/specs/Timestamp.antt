@@ -20,22 +20,22 @@ daysIn year month =
     (if (eqb month 4 || eqb month 6 || eqb month 9 || eqb month 11) 30 31)
 
 -- A field that the precision reaches lies from lo to hi. Fields finer than the precision are 0.
-unfoldable pub field : Bool → ℕ → ℕ → ℕ → Bool
-field reached lo hi n = if reached (leb lo n && leb n hi) (eqb n 0)
+unfoldable pub fieldWell : Bool → ℕ → ℕ → ℕ → Bool
+fieldWell reached lo hi n = if reached (leb lo n && leb n hi) (eqb n 0)
 
 -- Precision 0 year, 1 month, 2 day, 3 minute, 4 second; year 1..9999. Calendar dates are real.
 unfoldable pub dateWell : ℕ → ℕ → ℕ → ℕ → Bool
 dateWell precision year month day =
-    leb precision 4 && field true 1 9999 year && field (leb 1 precision) 1 12 month && field (leb 2 precision) 1 (daysIn year month) day
+    leb precision 4 && fieldWell true 1 9999 year && fieldWell (leb 1 precision) 1 12 month && fieldWell (leb 2 precision) 1 (daysIn year month) day
 
 -- Hours stop at 23, minutes and seconds at 59.
 unfoldable pub timeWell : ℕ → ℕ → ℕ → ℕ → Bool
 timeWell precision hour minute second =
-    field (leb 3 precision) 0 23 hour && field (leb 3 precision) 0 59 minute && field (leb 4 precision) 0 59 second
+    fieldWell (leb 3 precision) 0 23 hour && fieldWell (leb 3 precision) 0 59 minute && fieldWell (leb 4 precision) 0 59 second
 
 -- digit count 0..9; fraction below ten to that count
 unfoldable pub fractionWell : ℕ → ℕ → ℕ → Bool
-fractionWell precision digits fraction = field (leb 4 precision) 0 9 digits && ltb fraction (10 ^ digits)
+fractionWell precision digits fraction = fieldWell (leb 4 precision) 0 9 digits && ltb fraction (10 ^ digits)
 
 -- the offset that stands for unknown
 abbrev pub unknown : ℕ

@@ -8,13 +8,13 @@ use mathlib.Core.Option.{Option, none, some}
 use lib.ListN.{length, drop}
 use lib.Dec.{leb}
 use Rattle.output.specs.Logic.{if, then, byte}
-use Rattle.text_rules.specs.Digits.{isDigit, run, past, number}
+use Rattle.text_rules.specs.Digits.{isDigit, run, behindDigits, number}
 use Rattle.text_rules.specs.Texts.{starts}
 use Rattle.numbers.specs.declared.timestamp.Timestamp.{Timestamp}
 use Rattle.numbers.specs.Timestamp.{unknown, wellFormed}
 
-abbrev pub Read : Type 0
-Read = Option (Timestamp × List ℕ)
+abbrev pub ReadTimestamp : Type 0
+ReadTimestamp = Option (Timestamp × List ℕ)
 
 -- exactly w digits more, behind those whose number is a: the number of all of them
 unfoldable pub joined : ℕ → ℕ → List ℕ → Option (ℕ × List ℕ)
@@ -86,7 +86,7 @@ zoned x o = record {
 -- ---- the rules, from the end of a timestamp to its start
 
 -- the ranges of values bind here too
-unfoldable pub checked : Timestamp → List ℕ → Read
+unfoldable pub checked : Timestamp → List ℕ → ReadTimestamp
 checked x t = if (wellFormed x) (some (x, t)) none
 
 -- `hh:mm` of an offset, in minutes
@@ -99,48 +99,48 @@ west zero = pos unknown
 west (suc m) = negsuc m
 
 -- the offset: `Z` is 0; sign, `hh:mm`
-unfoldable pub offsetOf : Timestamp → List ℕ → Read
+unfoldable pub offsetOf : Timestamp → List ℕ → ReadTimestamp
 offsetOf x t =
     if (starts (byte "Z") t) (checked (zoned x (pos 0)) (drop 1 t))
     (if (starts (byte "+") t) (then (minutes (drop 1 t)) (λ m. checked (zoned x (pos (m .0))) (m .1)))
     (if (starts (byte "-") t) (then (minutes (drop 1 t)) (λ m. checked (zoned x (west (m .0))) (m .1))) none))
 
 -- behind a point: 1 to 9 digits ds, and the offset
-unfoldable pub fractionOf : Timestamp → ℕ → ℕ → ℕ → List ℕ → List ℕ → Read
+unfoldable pub fractionOf : Timestamp → ℕ → ℕ → ℕ → List ℕ → List ℕ → ReadTimestamp
 fractionOf x h m s ds t = if (leb 1 (length ds) && leb (length ds) 9) (offsetOf (timed 4 x h m s (length ds) (number 0 ds)) t) none
 
 -- behind `hh:mm:`, the seconds, a point and digits or none, and the offset
-unfoldable pub secondOf : Timestamp → ℕ → ℕ → List ℕ → Read
+unfoldable pub secondOf : Timestamp → ℕ → ℕ → List ℕ → ReadTimestamp
 secondOf x h m t =
     then (fixed 2 t) (λ s.
-    if (starts (byte ".") (s .1)) (fractionOf x h m (s .0) (run (drop 1 (s .1))) (past (drop 1 (s .1))))
+    if (starts (byte ".") (s .1)) (fractionOf x h m (s .0) (run (drop 1 (s .1))) (behindDigits (drop 1 (s .1))))
     (offsetOf (timed 4 x h m (s .0) 0 0) (s .1)))
 
 -- the time of a day: `hh:mm` or `hh:mm:ss` and so on
-unfoldable pub timeOf : Timestamp → List ℕ → Read
+unfoldable pub timeOf : Timestamp → List ℕ → ReadTimestamp
 timeOf x t =
     then (clock t) (λ c.
     if (starts (byte ":") (c .1)) (secondOf x (c .0 .0) (c .0 .1) (drop 1 (c .1)))
     (offsetOf (timed 3 x (c .0 .0) (c .0 .1) 0 0 0) (c .1)))
 
 -- behind `YYYY-MM-DDT`: a time, if a digit follows
-unfoldable pub dayOf : Timestamp → List ℕ → Read
+unfoldable pub dayOf : Timestamp → List ℕ → ReadTimestamp
 dayOf x t = if (startsDigit t) (timeOf x t) (checked x t)
 
 -- behind `YYYY-MM-`
-unfoldable pub behindMonth : ℕ → ℕ → List ℕ → Read
+unfoldable pub behindMonth : ℕ → ℕ → List ℕ → ReadTimestamp
 behindMonth year month t =
     then (fixed 2 t) (λ d.
     if (starts (byte "T") (d .1)) (dayOf (dated 2 year month (d .0)) (drop 1 (d .1))) none)
 
 -- behind `YYYY-`
-unfoldable pub behindYear : ℕ → List ℕ → Read
+unfoldable pub behindYear : ℕ → List ℕ → ReadTimestamp
 behindYear year t =
     then (fixed 2 t) (λ m.
     if (starts (byte "T") (m .1)) (checked (dated 1 year (m .0) 0) (drop 1 (m .1)))
     (if (starts (byte "-") (m .1)) (behindMonth year (m .0) (drop 1 (m .1))) none))
 
-unfoldable pub timestamp : List ℕ → Read
+unfoldable pub timestamp : List ℕ → ReadTimestamp
 timestamp t =
     then (fixed 4 t) (λ y.
     if (starts (byte "T") (y .1)) (checked (dated 0 (y .0) 0 0) (drop 1 (y .1)))

@@ -10,9 +10,9 @@ ghost use mathlib.Core.List.{List};
 ghost use lib.ListN.{length, drop};
 ghost use mir.Syntax.{w32};
 ghost use Rattle.output.specs.Wrote.{limit};
-ghost use Rattle.text_rules.specs.Digits.{run, past};
+ghost use Rattle.text_rules.specs.Digits.{run, behindDigits};
 ghost use Rattle.text_rules.specs.Reading.{Reads};
-ghost use Rattle.numbers.specs.Numeral.{signed, held, intOf, shifted, decimalOf, powerOf, behindD, behindPoint, behindWhole, unsigned, numeral};
+ghost use Rattle.numbers.specs.Numeral.{withSign, held, rangedInt, shifted, rangedDecimal, powerOf, behindD, behindPoint, behindWhole, unsigned, numeral};
 ghost use Rattle.numbers.specs.NumeralSteps.{shift, numeralRead};
 
 // A number, and the place behind it: an int, or a decimal by sign, magnitude and exponent.
@@ -54,7 +54,7 @@ fn exponent_below(k: u64) -> Shift
 // The written exponent, e or -e, less the digits after the point: both of 64 bits before the one is taken from the other.
 fn exponent_of(n: usize, minus: bool, e: u64) -> Shift
     requires { ⌜ (n ≤ limit) × (e < 10000000000) ⌝ }
-    ensures { λ r. ⌜ shift r ≡ shifted n (signed minus e) ⌝ }
+    ensures { λ r. ⌜ shift r ≡ shifted n (withSign minus e) ⌝ }
 {
     let k = int::far(n);
     if minus {
@@ -68,7 +68,7 @@ fn exponent_of(n: usize, minus: bool, e: u64) -> Shift
 
 fn decimal_of(negative: bool, m: u64, n: usize, minus: bool, e: u64, end: usize) -> NumeralRead
     requires { ⌜ (n ≤ limit) × (e < 10000000000) ⌝ }
-    ensures { λ r. ⌜ ((text : List ℕ) → end ≤ length text → Reads text end (decimalOf negative m n (signed minus e) (drop end text)) (numeralRead r)) ⌝ }
+    ensures { λ r. ⌜ ((text : List ℕ) → end ≤ length text → Reads text end (rangedDecimal negative m n (withSign minus e) (drop end text)) (numeralRead r)) ⌝ }
 {
     match exponent_of(n, minus, e) {
         Shift::By(x) => NumeralRead::Decimal(negative, m, x, end),
@@ -77,7 +77,7 @@ fn decimal_of(negative: bool, m: u64, n: usize, minus: bool, e: u64, end: usize)
 }
 
 fn int_of(negative: bool, m: u64, end: usize) -> NumeralRead
-    ensures { λ r. ⌜ ((text : List ℕ) → end ≤ length text → Reads text end (intOf negative m (drop end text)) (numeralRead r)) ⌝ }
+    ensures { λ r. ⌜ ((text : List ℕ) → end ≤ length text → Reads text end (rangedInt negative m (drop end text)) (numeralRead r)) ⌝ }
 {
     if negative {
         if m == 0 {
@@ -96,7 +96,7 @@ fn int_of(negative: bool, m: u64, end: usize) -> NumeralRead
 
 fn power_at(text: &[u8], at: usize, negative: bool, m: u64, n: usize, minus: bool) -> NumeralRead
     requires { ⌜ (at ≤ length (now text)) × (n ≤ limit) ⌝ }
-    ensures { λ r. ⌜ Reads (now (text .entry)) at (powerOf negative m n minus (run (drop at (now (text .entry)))) (past (drop at (now (text .entry))))) (numeralRead r) ⌝ }
+    ensures { λ r. ⌜ Reads (now (text .entry)) at (powerOf negative m n minus (run (drop at (now (text .entry)))) (behindDigits (drop at (now (text .entry))))) (numeralRead r) ⌝ }
 {
     match text_rules::digits::digits_at(text, at, 0) {
         Joined::Digits(e, end) => {

@@ -11,9 +11,9 @@ ghost use lib.ListN.{length, drop};
 ghost use lib.Seq.{sets};
 ghost use Rattle.output.specs.Logic.{byte};
 ghost use Rattle.output.specs.Wrote.{Wrote, limit, leBytes};
-ghost use Rattle.text_rules.specs.Digits.{run, past};
+ghost use Rattle.text_rules.specs.Digits.{run, behindDigits};
 ghost use Rattle.text_rules.specs.Reading.{Reads};
-ghost use Rattle.numbers.specs.Timestamp.{isLeap, daysIn, field, dateWell, timeWell, fractionWell, offsetWell, wellFormed, yearAndMonth, date, hourAndMinute, dateHourAndMinute, fractionalSeconds, offsetText, timestampText};
+ghost use Rattle.numbers.specs.Timestamp.{isLeap, daysIn, fieldWell, dateWell, timeWell, fractionWell, offsetWell, wellFormed, yearAndMonth, date, hourAndMinute, dateHourAndMinute, fractionalSeconds, offsetText, timestampText};
 ghost use Rattle.numbers.specs.TimestampRead.{fixed, startsDigit, clock, dated, timed, zoned, checked, minutes, west, offsetOf, fractionOf, secondOf, timeOf, behindMonth, behindYear, timestamp};
 ghost use Rattle.numbers.specs.TimestampSteps.{negative, timestampRead, numberRead, clockRead, toSecond};
 
@@ -92,7 +92,7 @@ fn days_in_month(year: u16, month: u8) -> u8
 
 // A field lies within its bounds, or is 0 where it is finer than the precision.
 fn is_field(reached: bool, lo: u16, hi: u16, n: u16) -> bool
-    ensures { λ r. ⌜ r ≡ field reached lo hi n ⌝ }
+    ensures { λ r. ⌜ r ≡ fieldWell reached lo hi n ⌝ }
 {
     if reached {
         if lo <= n {
@@ -569,7 +569,7 @@ fn offset_at(text: &[u8], at: usize, t: Timestamp) -> TimestampRead
 // Behind the point: digits, and the offset.
 fn fraction_at(text: &[u8], at: usize, t: Timestamp, h: u8, m: u8, s: u8) -> TimestampRead
     requires { ⌜ at ≤ length (now text) ⌝ }
-    ensures { λ r. ⌜ Reads (now (text .entry)) at (fractionOf t h m s (run (drop at (now (text .entry)))) (past (drop at (now (text .entry))))) (timestampRead r) ⌝ }
+    ensures { λ r. ⌜ Reads (now (text .entry)) at (fractionOf t h m s (run (drop at (now (text .entry)))) (behindDigits (drop at (now (text .entry))))) (timestampRead r) ⌝ }
 {
     let Joined::Digits(f, e) = digits::digits_at(text, at, 0) else {
         return TimestampRead::Bad;

@@ -15,7 +15,7 @@ use Rattle.tokens.specs.declared.quoted.Step.the-variants.{Next, Bad}
 use Rattle.tape.specs.Tree.{Head, Node, Nodes, size, tag, sized, encodeHead, encode, encodes}
 use Rattle.tape.specs.declared.Frame.{Frame}
 use Rattle.reader.specs.Grammar.{opens, scalar, closes, gap, head, free, body, value, sequence}
-use Rattle.reader.specs.Steps.{Skipped, Read, Counted, notesOf, freeBy, BodyAt, ValueAt, RunAt}
+use Rattle.reader.specs.Steps.{Skipped, Read, Counted, noteCount, freeBy, BodyAt, ValueAt, RunAt}
 use Rattle.reader.specs.declared.heads.Run.{Run}
 use Rattle.reader.specs.declared.heads.Run.the-variants.{Whole, Broken}
 use Rattle.reader.proofs.Laying.{laid-none, laid-then, laid-sized}
@@ -89,11 +89,11 @@ pub value-at-headless : {text : List ℕ} {at left p : ℕ} {k : Frame} {b b' : 
 value-at-headless {text} {at} {left} {p} {k} h e = record { told = λ f l. (value-headless f k left (drop at text) h, e) }
 
 -- a head, and then what is behind it
-pub value-at-head : {text : List ℕ} {at a c left p q : ℕ} {m : Bool} {k : Frame} {b b1 b' : List ℕ} (r : Step) → Counted encodeHead notesOf text at b b1 p 0 (head k (drop at text)) (Whole a q c) → m ≡ freeBy k c → BodyAt text a m left b1 b' q r → ValueAt text at k left b b' p r
+pub value-at-head : {text : List ℕ} {at a c left p q : ℕ} {m : Bool} {k : Frame} {b b1 b' : List ℕ} (r : Step) → Counted encodeHead noteCount text at b b1 p 0 (head k (drop at text)) (Whole a q c) → m ≡ freeBy k c → BodyAt text a m left b1 b' q r → ValueAt text at k left b b' p r
 value-at-head {text} {at} {a} {c} {left} {p} {q} {m} {k} {b} {b1} {b'} r h w g = go r g
   where
     is : free k (h .0 .1) ≡ m
-    is = let z : notesOf (h .0) ≡ c = omega (arith, h .2) in free-count k (h .0 .1) ∙ ap (freeBy k) z ∙ sym w
+    is = let z : noteCount (h .0) ≡ c = omega (arith, h .2) in free-count k (h .0 .1) ∙ ap (freeBy k) z ∙ sym w
 
     behind : (f : ℕ) (o : Option (Node × List ℕ)) → body f m left (drop a text) ≡ o → body f (free k (h .0 .1)) left (drop a text) ≡ o
     behind f o e = ap (λ (x : Bool). body f x left (drop a text)) is ∙ e

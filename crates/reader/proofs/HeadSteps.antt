@@ -11,13 +11,13 @@ use Rattle.output.specs.Logic.{then, byte, ascii}
 use Rattle.output.specs.Wrote.{Wrote, limit, leBytes}
 use Rattle.text_rules.specs.Text.{Sym}
 use Rattle.text_rules.specs.Texts.{starts, strip}
-use Rattle.text_rules.specs.Words.{isStart, isPart, word, behind, kindOf}
+use Rattle.text_rules.specs.Words.{isStart, isPart, word, behindWord, kindOf}
 use Rattle.text_rules.specs.WordSteps.{Spanned}
 use Rattle.text_rules.specs.declared.words.Kind.the-variants.{Refused}
 use Rattle.text_rules.proofs.Places.{byte-at, end-at}
 use Rattle.text_rules.proofs.DigitLaws.{never}
 use Rattle.text_rules.proofs.WordsLaws.{kind-nothing, kind-plain, no-keyword, identifier-other}
-use Rattle.tokens.specs.Token.{symbolOf, bareSymbol, symbol}
+use Rattle.tokens.specs.Token.{wordSymbol, bareSymbol, symbol}
 use Rattle.tokens.specs.TokenSteps.{SymbolAt}
 use Rattle.tokens.specs.declared.quoted.Step.{Step}
 use Rattle.tokens.specs.declared.quoted.Step.the-variants.{Next, Bad}
@@ -26,7 +26,7 @@ use Rattle.tape.specs.Tree.{encodeSym, encodeSyms, encodeName, encodeNotes, enc
 use Rattle.tape.specs.declared.Frame.{Frame}
 use Rattle.tape.specs.declared.Frame.the-variants.{Top, List as ListF, Sexp, Struct}
 use Rattle.reader.specs.Grammar.{skip, note, notes, field, name, head, free}
-use Rattle.reader.specs.Steps.{Laid, Read, Counted, MarksAt, notesOf, freeBy}
+use Rattle.reader.specs.Steps.{Laid, Read, Counted, MarksAt, noteCount, freeBy}
 use Rattle.reader.specs.declared.heads.Run.{Run}
 use Rattle.reader.specs.declared.heads.Run.the-variants.{Whole, Broken}
 use Rattle.reader.proofs.Laying.{laid, laid-none, laid-then, laid-before, laid-sized}
@@ -90,15 +90,15 @@ module _ (text : List ℕ) (at : ℕ) (i : at < length text) (n : getD text at 0
   note-other h = no-note (drop at text) (no-mark ∙ bare-refused (drop at text) (ap (λ (t : List ℕ). kindOf (word t)) (byte-at text at i) ∙ word-other (getD text at 0) (drop (at + 1) text) h))
 
   pub note-bare : {e : ℕ} → Spanned text at e → strip (ascii "::") (drop e text) ≡ none → note (drop at text) ≡ none
-  note-bare {e} s h = go (symbolOf (kindOf (word d)) (word d)) refl
+  note-bare {e} s h = go (wordSymbol (kindOf (word d)) (word d)) refl
     where
       d : List ℕ
       d = drop at text
 
-      is : (o : Option Sym) → symbolOf (kindOf (word d)) (word d) ≡ o → symbol d ≡ then o (λ x. some (x, behind d))
+      is : (o : Option Sym) → wordSymbol (kindOf (word d)) (word d) ≡ o → symbol d ≡ then o (λ x. some (x, behindWord d))
       is o q = no-mark ∙ unfold bareSymbol in rw q
 
-      go : (o : Option Sym) → symbolOf (kindOf (word d)) (word d) ≡ o → note d ≡ none
+      go : (o : Option Sym) → wordSymbol (kindOf (word d)) (word d) ≡ o → note d ≡ none
       go none q = no-note d (is none q)
       go (some x) q = unfold note in rw (is (some x) q, ← s .rest, h)
 
@@ -217,7 +217,7 @@ unfolding head
 head-then t u k x o h e = rw (h, e)
 
 pub head-notes : (text : List ℕ) (at p q : ℕ) (b b1 b' : List ℕ) (a : ℕ) (k : Frame) (r : Run) → Read encodeName text at b b1 p (name k (drop at text)) (Next a q) → Counted encodeNotes length text a b1 b' q 0 (notes 16 (drop a text)) r
-    → Counted encodeHead notesOf text at b b' p 0 (head k (drop at text)) r
+    → Counted encodeHead noteCount text at b b' p 0 (head k (drop at text)) r
 unfolding encodeHead
 head-notes text at p q b b1 b' a k (Whole z e c) m g =
     ((m .0, g .0), head-then (drop at text) (drop a text) k (m .0) (some (g .0, drop z text)) (m .1) (g .1), g .2, omega (arith, m .2, g .3), g .4, laid-then (m .4) (g .5))

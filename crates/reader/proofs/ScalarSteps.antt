@@ -11,7 +11,7 @@ use Rattle.output.specs.Logic.{byte, ascii}
 use Rattle.output.specs.Wrote.{Wrote, limit, leBytes}
 use Rattle.text_rules.specs.Reading.{Reads}
 use Rattle.text_rules.specs.Texts.{starts, strip, same}
-use Rattle.text_rules.specs.Words.{isPart, word, behind, kindOf}
+use Rattle.text_rules.specs.Words.{isPart, word, behindWord, kindOf}
 use Rattle.text_rules.specs.WordSteps.{WordAt}
 use Rattle.text_rules.specs.declared.words.Kind.{Kind}
 use Rattle.text_rules.specs.declared.words.Kind.the-variants.{Null, True, False, Nan, Marker, Number, Text, Refused}
@@ -28,7 +28,7 @@ use Rattle.numbers.specs.Numeral.{numeral}
 use Rattle.numbers.specs.TimestampRead.{timestamp}
 use Rattle.numbers.specs.declared.timestamp.Timestamp.{Timestamp}
 use Rattle.tape.specs.Tree.{Scalar, Node, sized, encodeSym, encodeScalar, encode}
-use Rattle.reader.specs.Grammar.{taken, byKind, words, numeralNode, number, numeric, scalar}
+use Rattle.reader.specs.Grammar.{taken, byKind, words, numeralNode, numbers, numeric, scalar}
 use Rattle.reader.specs.Steps.{Laid, Read, stringNode, clobNode, nullNode, timedNumber}
 use Rattle.reader.proofs.Laying.{laid, laid-sized}
 
@@ -94,7 +94,7 @@ module _ {text : List ℕ} {at : ℕ} {w : Word} (a : WordAt text at w) (m : Boo
   pub word-none : (k : Kind) → w .kind ≡ k → byKind m k (drop at text) ≡ none → words m (drop at text) ≡ none
   word-none k e h = words-is m (drop at text) k (sym (a .kind) ∙ e) ∙ h
 
-  pub word-here : {p q : ℕ} {b b' : List ℕ} (k : Kind) (n : Node) → w .kind ≡ k → refused k ≡ false → byKind m k (drop at text) ≡ some (n, behind (drop at text)) → Wrote b b' p q (encode n)
+  pub word-here : {p q : ℕ} {b b' : List ℕ} (k : Kind) (n : Node) → w .kind ≡ k → refused k ≡ false → byKind m k (drop at text) ≡ some (n, behindWord (drop at text)) → Wrote b b' p q (encode n)
       → Read encode text (suc at) b b' p (words m (drop at text)) (Next (w .end) q)
   word-here k n e z h v =
       (n, words-is m (drop at text) k (sym (a .kind) ∙ e) ∙ h ∙ ap (λ (l : List ℕ). some (n, l)) (sym (a .rest)), read-ahead k e z, a .inside, laid v)
@@ -122,12 +122,12 @@ pub timed-here : (t u : List ℕ) (x : Timestamp) → timestamp t ≡ some (x, u
 unfolding timedNumber
 timed-here t u x e = rw e
 
-pub number-other : (t : List ℕ) → float t ≡ none → number t ≡ timedNumber t
-unfolding number timedNumber
+pub number-other : (t : List ℕ) → float t ≡ none → numbers t ≡ timedNumber t
+unfolding numbers timedNumber
 number-other t e = rw e
 
-pub number-float : (t u : List ℕ) {x : _} → float t ≡ some (x, u) → number t ≡ some (Node.scalar (Scalar.float x), u)
-unfolding number
+pub number-float : (t u : List ℕ) {x : _} → float t ≡ some (x, u) → numbers t ≡ some (Node.scalar (Scalar.float x), u)
+unfolding numbers
 number-float t u e = rw e
 
 no-nan : (c : ℕ) (t : List ℕ) → (c ≡ byte "n" → ⊥) → nanWord (c ∷ t) ≡ none
@@ -183,7 +183,7 @@ module _ (m : Bool) (text : List ℕ) (at : ℕ) (i : at < length text) where
       scalar-clob h = rw (byte-at text at i, ne-eqb _ _ s, ne-eqb _ _ q, eq-eqb _ _ h)
 
       module _ (z : getD text at 0 ≡ byte "{" → ⊥) where
-        pub scalar-number : numeric (getD text at 0) ≡ true → scalar m (drop at text) ≡ number (drop at text)
+        pub scalar-number : numeric (getD text at 0) ≡ true → scalar m (drop at text) ≡ numbers (drop at text)
         unfolding scalar
         scalar-number h = rw (byte-at text at i, ne-eqb _ _ s, ne-eqb _ _ q, ne-eqb _ _ z, h)
 

@@ -11,7 +11,7 @@ use lib.Ieee.{nan}
 use Rattle.output.specs.Logic.{if, then, on, or, byte, ascii}
 use Rattle.text_rules.specs.Digits.{isDigit}
 use Rattle.text_rules.specs.Texts.{starts, strip, blank}
-use Rattle.text_rules.specs.Words.{word, behind, kindOf}
+use Rattle.text_rules.specs.Words.{word, behindWord, kindOf}
 use Rattle.text_rules.specs.Text.{Sym}
 use Rattle.tokens.specs.Quoted.{string, clob}
 use Rattle.tokens.specs.Token.{symbol, nullBehind, float}
@@ -99,13 +99,13 @@ free Struct ss = false
 
 -- what a bare word is as a value; m: a marker may stand here
 abbrev pub byKind : Bool → Kind → List ℕ → Option (Node × List ℕ)
-byKind m Null t = taken (λ k. Node.scalar (Scalar.null k)) (nullBehind (behind t))
-byKind m True t = some (Node.scalar (Scalar.bool true), behind t)
-byKind m False t = some (Node.scalar (Scalar.bool false), behind t)
-byKind m Nan t = some (Node.scalar (Scalar.float nan), behind t)
-byKind m Marker t = if m (some (Node.marker, behind t)) none
-byKind m (Number n) t = some (Node.scalar (Scalar.symbol (Sym.id n)), behind t)
-byKind m Text t = some (Node.scalar (Scalar.symbol (Sym.text (word t))), behind t)
+byKind m Null t = taken (λ k. Node.scalar (Scalar.null k)) (nullBehind (behindWord t))
+byKind m True t = some (Node.scalar (Scalar.bool true), behindWord t)
+byKind m False t = some (Node.scalar (Scalar.bool false), behindWord t)
+byKind m Nan t = some (Node.scalar (Scalar.float nan), behindWord t)
+byKind m Marker t = if m (some (Node.marker, behindWord t)) none
+byKind m (Number n) t = some (Node.scalar (Scalar.symbol (Sym.id n)), behindWord t)
+byKind m Text t = some (Node.scalar (Scalar.symbol (Sym.text (word t))), behindWord t)
 byKind m Refused t = none
 
 unfoldable pub words : Bool → List ℕ → Option (Node × List ℕ)
@@ -116,8 +116,8 @@ numeralNode (Numeral.int n) = Node.scalar (Scalar.int n)
 numeralNode (Numeral.decimal neg m e) = Node.scalar (Scalar.decimal neg m e)
 
 -- a float as printed, a timestamp, an int or a decimal
-unfoldable pub number : List ℕ → Option (Node × List ℕ)
-number t =
+unfoldable pub numbers : List ℕ → Option (Node × List ℕ)
+numbers t =
     or (taken (λ x. Node.scalar (Scalar.float x)) (float t))
     (or (taken (λ x. Node.scalar (Scalar.timestamp x)) (timestamp t))
     (taken numeralNode (numeral t)))
@@ -133,7 +133,7 @@ scalar m (c ∷ t) =
     if (eqb c (byte "\"")) (taken (λ s. Node.scalar (Scalar.string s)) (string (c ∷ t)))
     (if (eqb c (byte "'")) (taken (λ s. Node.scalar (Scalar.symbol s)) (symbol (c ∷ t)))
     (if (eqb c (byte "{")) (taken (λ s. Node.scalar (Scalar.clob s)) (clob (c ∷ t)))
-    (if (numeric c) (number (c ∷ t)) (words m (c ∷ t)))))
+    (if (numeric c) (numbers (c ∷ t)) (words m (c ∷ t)))))
 
 -- `{{` opens a clob, and no struct: a name does not start with `{`
 unfoldable pub opens : List ℕ → Option Frame

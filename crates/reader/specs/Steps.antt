@@ -81,8 +81,8 @@ pub record MarksAt (text : List ℕ) (from n : ℕ) (b b' : List ℕ) (p m : ℕ
   pub few : Few (m + n) r
 
 -- how many annotations a head has
-abbrev pub notesOf : Head → ℕ
-notesOf h = length (h .1)
+abbrev pub noteCount : Head → ℕ
+noteCount h = length (h .1)
 
 -- `free`, by the number of annotations
 abbrev pub freeBy : Frame → ℕ → Bool

@@ -13,7 +13,7 @@ ghost use Rattle.output.specs.Wrote.{limit};
 ghost use Rattle.tokens.specs.Token.{symbol};
 ghost use Rattle.tape.specs.Tree.{encodeSym, encodeName, encodeNotes, encodeHead};
 ghost use Rattle.reader.specs.Grammar.{note, notes, field, name, head};
-ghost use Rattle.reader.specs.Steps.{Read, Tried, Counted, MayNote, MarksAt, notesOf, freeBy};
+ghost use Rattle.reader.specs.Steps.{Read, Tried, Counted, MayNote, MarksAt, noteCount, freeBy};
 
 // Things were read up to `at`: `count` of them, written up to `pos`; or not.
 pub enum Run {
@@ -159,7 +159,7 @@ fn name_at(text: &[u8], at: usize, frame: Frame, buf: &mut [u8], pos: usize) -> 
 // What stands before a value: how many annotations is counted.
 pub fn head_at(text: &[u8], at: usize, frame: Frame, buf: &mut [u8], pos: usize) -> Run
     requires { ⌜ (at ≤ length (now text)) × (pos ≤ limit) ⌝ }
-    ensures { λ r. ⌜ Counted encodeHead notesOf (now (text .entry)) at (now (buf .entry)) (now (buf .exit)) pos 0 (head frame (drop at (now (text .entry)))) r ⌝ }
+    ensures { λ r. ⌜ Counted encodeHead noteCount (now (text .entry)) at (now (buf .entry)) (now (buf .exit)) pos 0 (head frame (drop at (now (text .entry)))) r ⌝ }
 {
     let Step::Next { at: a, pos: p } = name_at(text, at, frame, buf, pos) else {
         return Run::Broken;

@@ -15,7 +15,7 @@ ghost use Rattle.tokens.specs.Quoted.{string, clob};
 ghost use Rattle.tokens.specs.Token.{nullBehind};
 ghost use Rattle.numbers.specs.Numeral.{numeral};
 ghost use Rattle.tape.specs.Tree.{encode};
-ghost use Rattle.reader.specs.Grammar.{taken, words, numeralNode, number, numeric, scalar};
+ghost use Rattle.reader.specs.Grammar.{taken, words, numeralNode, numbers, numeric, scalar};
 ghost use Rattle.reader.specs.Steps.{Read, stringNode, clobNode, nullNode, timedNumber};
 
 // A string: its text is written first, its length before it then.
@@ -133,7 +133,7 @@ fn timed_at(text: &[u8], at: usize, buf: &mut [u8], pos: usize) -> Step
 // A float as printed, a timestamp, an int or a decimal. No float starts with a digit but 0.
 fn number_at(text: &[u8], at: usize, buf: &mut [u8], pos: usize) -> Step
     requires { ⌜ (at < length (now text)) × (pos ≤ limit) ⌝ }
-    ensures { λ r. ⌜ Read encode (now (text .entry)) (suc at) (now (buf .entry)) (now (buf .exit)) pos (number (drop at (now (text .entry)))) r ⌝ }
+    ensures { λ r. ⌜ Read encode (now (text .entry)) (suc at) (now (buf .entry)) (now (buf .exit)) pos (numbers (drop at (now (text .entry)))) r ⌝ }
 {
     let b = text[at];
     if b'0' < b {

@@ -20,7 +20,7 @@ use Rattle.numbers.specs.Timestamp.{wellFormed}
 use Rattle.numbers.specs.declared.timestamp.Timestamp.{Timestamp}
 use Rattle.tape.specs.Bytes.{leNumber, signed, bits, first}
 use Rattle.tape.specs.Tree.{Scalar, Head, Node, Nodes, null, bool, int, float, decimal, timestamp, symbol, string, clob, scalar, nest, marker, nil, more, size, bit, tag, floatBits, sized, encodeTimestamp, encodeSym, encodeScalar, encodeSyms, encodeName, encodeNotes, encodeHead, encode, encodes, tape}
-use Rattle.tape.specs.Tape.{past, kind, lengthOf, textOf, symOf, symsOf, nameOf, notesOf, headOf, byteOf, intOf, floatAs, floatOf, decimalOf, timestampAs, timestampOf, symbolOf, sizedOf, scalarOf, Value, absent, leaf, body, openOf, valueOf, bad, free, behind, childOf, textFault, symFault, symsFault, nameFault, headFault, finiteFault, floatFault, scalarFault, Walked, fault, join, walk, bodyOf, nodesOf}
+use Rattle.tape.specs.Tape.{reading, kind, lengthOf, textOf, symOf, symsOf, nameOf, notesOf, headOf, byteOf, intOf, floatAs, floatOf, decimalOf, timestampAs, timestampOf, symbolOf, sizedOf, scalarOf, Value, absent, leaf, body, openOf, valueOf, bad, freeAt, headedChild, childOf, textFault, symFault, symsFault, nameFault, headFault, finiteFault, floatFault, scalarFault, Walked, fault, join, walk, bodyOf, nodesOf}
 use Rattle.tape.specs.Fine.{FineText, FineSym, FineSyms, FineFloat, FineScalar, FineName, FineHead, FineMarker, Inner, Fine, Fines}
 use Rattle.tape.specs.Verdict.{misfit, countFault, verdict}
 use Rattle.tape.specs.declared.Frame.{Frame}
@@ -47,7 +47,7 @@ text-as k s r h =
 
 sym-as : (s : Sym) (r : List ℕ) → FineSym s → symOf (encodeSym s ++ r) ≡ some (s, length (encodeSym s))
 unfolding symOf encodeSym
-sym-as (Sym.text s) r h = ap (λ (o : Option (List ℕ × ℕ)). past {B = Option (Sym × ℕ)} o none (λ t n. some (Sym.text t, n))) (text-as 6 s r (h .plain .short))
+sym-as (Sym.text s) r h = ap (λ (o : Option (List ℕ × ℕ)). reading {B = Option (Sym × ℕ)} o none (λ t n. some (Sym.text t, n))) (text-as 6 s r (h .plain .short))
 sym-as (Sym.id n) r h =
     let a : List ℕ = leBytes 4 n in
     let four : length a ≡ 4 = length-le 4 n in
@@ -258,7 +258,7 @@ kind-as (nest Sexp ns) r e = omega arith
 kind-as (nest Struct ns) r e = omega arith
 kind-as marker r e = omega arith
 
-value-scalar : (f : Bool) (l : List ℕ) → kind l ≤ 9 → valueOf f l ≡ past (scalarOf l) absent (λ s n. leaf (scalar s) n)
+value-scalar : (f : Bool) (l : List ℕ) → kind l ≤ 9 → valueOf f l ≡ reading (scalarOf l) absent (λ s n. leaf (scalar s) n)
 unfolding valueOf
 value-scalar f l h =
     rw (ne-eqb (kind l) 10 (λ e. omega arith), ne-eqb (kind l) 11 (λ e. omega arith), ne-eqb (kind l) 12 (λ e. omega arith), ne-eqb (kind l) 14 (λ e. omega arith))
@@ -266,7 +266,7 @@ value-scalar f l h =
 value-as : (f : Bool) (s : Scalar) (r : List ℕ) → FineScalar s → valueOf f (encode (scalar s) ++ r) ≡ leaf (scalar s) (length (encode (scalar s)))
 unfolding encode
 value-as f s r h =
-    value-scalar f (encodeScalar s ++ r) (scalar-kind s r) ∙ ap (λ (o : Option (Scalar × ℕ)). past {B = Value} o absent (λ s n. leaf (scalar s) n)) (scalar-as s r h)
+    value-scalar f (encodeScalar s ++ r) (scalar-kind s r) ∙ ap (λ (o : Option (Scalar × ℕ)). reading {B = Value} o absent (λ s n. leaf (scalar s) n)) (scalar-as s r h)
 
 nest-as : (f : Bool) (k : Frame) (ns : Nodes) (r : List ℕ) → Inner k → length (encodes ns) < 2 ^ 32 → valueOf f (encode (nest k ns) ++ r) ≡ body k (length (encodes ns))
 unfolding encode valueOf openOf
@@ -291,8 +291,8 @@ nest-as f k ns r i h = go k i
     go Sexp i = one Sexp 11
     go Struct i = one Struct 12
 
-marker-as : (k : Frame) (h : Head) (r : List ℕ) → FineName k (h .0) → FineMarker k (h .1) → valueOf (free k (encodeHead h ++ encode marker ++ r)) (encode marker ++ r) ≡ leaf marker 1
-unfolding encode encodeHead encodeName encodeNotes free valueOf
+marker-as : (k : Frame) (h : Head) (r : List ℕ) → FineName k (h .0) → FineMarker k (h .1) → valueOf (freeAt k (encodeHead h ++ encode marker ++ r)) (encode marker ++ r) ≡ leaf marker 1
+unfolding encode encodeHead encodeName encodeNotes freeAt valueOf
 marker-as Top (none, []) r a b = refl
 marker-as Top (some s, []) r a b = absurd a
 marker-as Top (n, s ∷ ss) r a b = absurd b
@@ -303,20 +303,20 @@ marker-as Struct h r a b = absurd b
 -- ---- children
 
 module _ (k : Frame) (h : Head) (n : Node) (r : List ℕ) (fine : FineHead k h) where
-  child-as : (v : Value) → valueOf (free k (encodeHead h ++ encode n ++ r)) (encode n ++ r) ≡ v → childOf k (encodeHead h ++ encode n ++ r) ≡ behind h (length (encodeHead h)) v
+  child-as : (v : Value) → valueOf (freeAt k (encodeHead h ++ encode n ++ r)) (encode n ++ r) ≡ v → childOf k (encodeHead h ++ encode n ++ r) ≡ headedChild h (length (encodeHead h)) v
   unfolding childOf
   child-as v e =
       let a = append-assoc (encodeHead h) (encode n) r in
-      let f = free k (encodeHead h ++ encode n ++ r) in
-      ap (λ (x : List ℕ). past (headOf k x) bad (λ g m. behind g m (valueOf f (drop m x)))) a
-      ∙ ap (λ (o : Option (Head × ℕ)). past o bad (λ g m. behind g m (valueOf f (drop m (encodeHead h ++ (encode n ++ r)))))) (head-as k h (encode n ++ r) fine (kind-as n r))
-      ∙ ap (λ (x : List ℕ). behind h (length (encodeHead h)) (valueOf f x)) (drop-append-seam (encodeHead h) (encode n ++ r))
-      ∙ ap (behind h (length (encodeHead h))) e
+      let f = freeAt k (encodeHead h ++ encode n ++ r) in
+      ap (λ (x : List ℕ). reading (headOf k x) bad (λ g m. headedChild g m (valueOf f (drop m x)))) a
+      ∙ ap (λ (o : Option (Head × ℕ)). reading o bad (λ g m. headedChild g m (valueOf f (drop m (encodeHead h ++ (encode n ++ r)))))) (head-as k h (encode n ++ r) fine (kind-as n r))
+      ∙ ap (λ (x : List ℕ). headedChild h (length (encodeHead h)) (valueOf f x)) (drop-append-seam (encodeHead h) (encode n ++ r))
+      ∙ ap (headedChild h (length (encodeHead h))) e
 
 -- ---- the walk
 
 module _ (d : ℕ) (k : Frame) (h : Head) (n : Node) (ns : Nodes) (fine : FineHead k h) (ih : walk (suc d) k (encodes ns) ≡ (ns, 0)) where
-  leaf-as : valueOf (free k (encodeHead h ++ encode n ++ encodes ns)) (encode n ++ encodes ns) ≡ leaf n (length (encode n)) → fault n ≡ 0 → 0 < length (encode n)
+  leaf-as : valueOf (freeAt k (encodeHead h ++ encode n ++ encodes ns)) (encode n ++ encodes ns) ≡ leaf n (length (encode n)) → fault n ≡ 0 → 0 < length (encode n)
       → walk (suc d) k (encodeHead h ++ encode n ++ encodes ns) ≡ (more h n ns, 0)
   leaf-as v z p =
       let m : ℕ = length (encodeHead h) + length (encode n) in

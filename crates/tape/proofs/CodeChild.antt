@@ -8,7 +8,7 @@ use native.Mathlib.Omega.{arith}
 use lib.ListN.{length, drop}
 use Rattle.tape.specs.Bytes.{part}
 use Rattle.tape.specs.Tree.{Head, scalar, marker, encodeHead}
-use Rattle.tape.specs.Tape.{past, headOf, Value, absent, body, valueOf, bad, single, tree, free, behind, childOf}
+use Rattle.tape.specs.Tape.{reading, headOf, Value, absent, body, valueOf, bad, single, tree, freeAt, headedChild, childOf}
 use Rattle.tape.specs.Steps.{placeOf, meantScalar, sizeOf, meant, Behind, headAt, ChildAt}
 use Rattle.tape.specs.declared.Frame.{Frame}
 use Rattle.tape.specs.declared.Scalar.{Scalar as ScalarC}
@@ -69,7 +69,7 @@ module _ (k : Frame) (s : List ℕ) (at e : ℕ) where
   head-is : (p : ℕ) → placeOf at (headOf k (part s at e)) ≡ At p → headOf k (part s at e) ≡ some (headAt k (part s at e), p - at)
   head-is p z = go (headOf k (part s at e)) z
     where
-      go : (o : Option (Head × ℕ)) → placeOf at o ≡ At p → o ≡ some (past o (none, []) (λ h n. h), p - at)
+      go : (o : Option (Head × ℕ)) → placeOf at o ≡ At p → o ≡ some (reading o (none, []) (λ h n. h), p - at)
       go none z = let y : _≡_ {A = ℕ} 0 1 = cc in absurd (omega arith)
       go (some (h, n)) z = let y : at + n ≡ p = cc in let x : n ≡ p - at = omega arith in ap (λ (i : ℕ). some (h, i)) x
 
@@ -77,21 +77,21 @@ module _ (k : Frame) (s : List ℕ) (at e : ℕ) where
   unfolding childOf
   child-headless z = go (headOf k (part s at e)) z
     where
-      go : (o : Option (Head × ℕ)) → placeOf at o ≡ Nowhere → past o bad (λ h n. behind h n (valueOf (free k (part s at e)) (drop n (part s at e)))) ≡ bad
+      go : (o : Option (Head × ℕ)) → placeOf at o ≡ Nowhere → reading o bad (λ h n. headedChild h n (valueOf (freeAt k (part s at e)) (drop n (part s at e)))) ≡ bad
       go none z = refl
       go (some (h, n)) z = let y : _≡_ {A = ℕ} 0 1 = cc in absurd (omega arith)
 
   -- the child is what stands behind the head
-  pub child-is : (p : ℕ) → at ≤ p → placeOf at (headOf k (part s at e)) ≡ At p → (v : Value) → valueOf (free k (part s at e)) (part s p e) ≡ v
-      → childOf k (part s at e) ≡ behind (headAt k (part s at e)) (p - at) v
+  pub child-is : (p : ℕ) → at ≤ p → placeOf at (headOf k (part s at e)) ≡ At p → (v : Value) → valueOf (freeAt k (part s at e)) (part s p e) ≡ v
+      → childOf k (part s at e) ≡ headedChild (headAt k (part s at e)) (p - at) v
   unfolding childOf
   child-is p h z v m =
       let y : at + (p - at) ≡ p = omega arith in
-      ap (λ (o : Option (Head × ℕ)). past o bad (λ h n. behind h n (valueOf (free k (part s at e)) (drop n (part s at e))))) (head-is p z)
-      ∙ ap (λ (l : List ℕ). behind (headAt k (part s at e)) (p - at) (valueOf (free k (part s at e)) l)) (part-drop s at e (p - at) ∙ ap (λ (i : ℕ). part s i e) y)
-      ∙ ap (behind (headAt k (part s at e)) (p - at)) m
+      ap (λ (o : Option (Head × ℕ)). reading o bad (λ h n. headedChild h n (valueOf (freeAt k (part s at e)) (drop n (part s at e))))) (head-is p z)
+      ∙ ap (λ (l : List ℕ). headedChild (headAt k (part s at e)) (p - at) (valueOf (freeAt k (part s at e)) l)) (part-drop s at e (p - at) ∙ ap (λ (i : ℕ). part s i e) y)
+      ∙ ap (headedChild (headAt k (part s at e)) (p - at)) m
 
-  pub child-from : (p : ℕ) → at ≤ p → placeOf at (headOf k (part s at e)) ≡ At p → (r : ChildC) → Behind s p e (valueOf (free k (part s at e)) (part s p e)) r → ChildAt k s at e r
+  pub child-from : (p : ℕ) → at ≤ p → placeOf at (headOf k (part s at e)) ≡ At p → (r : ChildC) → Behind s p e (valueOf (freeAt k (part s at e)) (part s p e)) r → ChildAt k s at e r
   child-from p h z NoChild b = record { told = child-is p h z absent (b .told) }
   child-from p h z (LeafC q x r) b =
       let m = b .told in

@@ -18,9 +18,9 @@ use Rattle.text_rules.specs.Utf8.{valid}
 use Rattle.numbers.specs.Timestamp.{wellFormed}
 use Rattle.tape.specs.Bytes.{leNumber, part, first}
 use Rattle.tape.specs.Tree.{Scalar, Head, null, bool, int, float, decimal, timestamp, symbol, string, clob}
-use Rattle.tape.specs.Tape.{past, kind, lengthOf, textOf, symOf, symsOf, nameOf, notesOf, headOf, byteOf, intOf, floatAs, floatOf, decimalOf, timestampAs, timestampOf, symbolOf, sizedOf, scalarOf, absent, body, openOf, valueOf, textFault, symFault, symsFault, nameFault, headFault, finiteFault, floatFault, scalarFault}
+use Rattle.tape.specs.Tape.{reading, kind, lengthOf, textOf, symOf, symsOf, nameOf, notesOf, headOf, byteOf, intOf, floatAs, floatOf, decimalOf, timestampAs, timestampOf, symbolOf, sizedOf, scalarOf, absent, body, openOf, valueOf, textFault, symFault, symsFault, nameFault, headFault, finiteFault, floatFault, scalarFault}
 use Rattle.tape.specs.Refusal.{annotated, symNumbered, symsNumbered, nameNumbered, headNumbered, scalarNumbered}
-use Rattle.tape.specs.CheckSteps.{coded, codeOf, scalarCode, spanOf, numberIn, nameIn, ends, endOf, frameOf, frontOf, symsFront, notesFront}
+use Rattle.tape.specs.CheckSteps.{coded, codeOf, scalarCode, spanOf, numberIn, nameNumberIn, ends, endOf, frameOf, frontOf, symsFront, notesFront}
 use Rattle.tape.specs.declared.Frame.{Frame}
 use Rattle.tape.specs.declared.Frame.the-variants.{Struct}
 use Rattle.tape.specs.declared.check.Front.{Front}
@@ -167,7 +167,7 @@ module _ (l : List ℕ) where
       by zero p nz = absurd (nz refl)
       by (suc f) p nz = refl
 
-      go : Missed symFault (symOf l) → e ≡ endOf nameFault at e (past (symOf l) none (λ s n. some (some s, n)))
+      go : Missed symFault (symOf l) → e ≡ endOf nameFault at e (reading (symOf l) none (λ s n. some (some s, n)))
       go (nothing q) = rw q
       go (wrong a n q nz) = rw q (by (symFault a) (at + n) nz)
 
@@ -179,7 +179,7 @@ module _ (l : List ℕ) where
   unfolding numberIn symOf
   number-text k = simp (eq-eqb _ _ k) (go (textOf l))
     where
-      go : (o : Option (List ℕ × ℕ)) → past (past o none (λ s n. some (Sym.text s, n))) false (λ s n. symNumbered s) ≡ false
+      go : (o : Option (List ℕ × ℕ)) → reading (reading o none (λ s n. some (Sym.text s, n))) false (λ s n. symNumbered s) ≡ false
       go none = refl
       go (some (s, n)) = refl
 
@@ -199,11 +199,11 @@ module _ (l : List ℕ) where
   unfolding numberIn
   number-id k h = rw (sym-id l k h)
 
-  pub number-name : numberIn l ≡ nameIn Struct l
-  unfolding numberIn nameIn nameOf
+  pub number-name : numberIn l ≡ nameNumberIn Struct l
+  unfolding numberIn nameNumberIn nameOf
   number-name = go (symOf l)
     where
-      go : (o : Option (Sym × ℕ)) → past o false (λ s n. symNumbered s) ≡ past (past o none (λ s n. some (some s, n))) false (λ a n. nameNumbered a)
+      go : (o : Option (Sym × ℕ)) → reading o false (λ s n. symNumbered s) ≡ reading (reading o none (λ s n. some (some s, n))) false (λ a n. nameNumbered a)
       go none = refl
       go (some (s, n)) = refl
 
@@ -213,12 +213,12 @@ module _ (l : List ℕ) where
 
 -- ---- scalars
 
-code-map : {A B : Type 0} (f : B → ℕ) (h : A → B) (o : Option (A × ℕ)) → codeOf (λ a. f (h a)) o ≡ codeOf f (past o none (λ a n. some (h a, n)))
+code-map : {A B : Type 0} (f : B → ℕ) (h : A → B) (o : Option (A × ℕ)) → codeOf (λ a. f (h a)) o ≡ codeOf f (reading o none (λ a n. some (h a, n)))
 code-map f h none = refl
 code-map f h (some (a, n)) = refl
 
 abbrev numberOf : Option (Scalar × ℕ) → Bool
-numberOf o = past o false (λ x n. scalarNumbered x)
+numberOf o = reading o false (λ x n. scalarNumbered x)
 
 module _ (l : List ℕ) where
   pub code-text : kind l ≡ 6 → codeOf textFault (textOf l) ≡ codeOf symFault (symOf l)
@@ -237,7 +237,7 @@ module _ (l : List ℕ) where
   unfolding spanOf sizedOf textOf scalarFault
   code-clob = go (leb (5 + lengthOf l) (length l))
     where
-      go : (b : Bool) → if b (5 + lengthOf l) 0 ≡ scalarCode (past (if b (some (take (lengthOf l) (drop 5 l), 5 + lengthOf l)) none) none (λ s n. some (clob s, n)))
+      go : (b : Bool) → if b (5 + lengthOf l) 0 ≡ scalarCode (reading (if b (some (take (lengthOf l) (drop 5 l), 5 + lengthOf l)) none) none (λ s n. some (clob s, n)))
       go true = refl
       go false = refl
 
@@ -250,7 +250,7 @@ module _ (l : List ℕ) where
   unfolding symbolOf numberIn scalarNumbered
   symbol-number = go (symOf l)
     where
-      go : (o : Option (Sym × ℕ)) → numberOf (past o none (λ s n. some (symbol s, n))) ≡ past o false (λ s n. symNumbered s)
+      go : (o : Option (Sym × ℕ)) → numberOf (reading o none (λ s n. some (symbol s, n))) ≡ reading o false (λ s n. symNumbered s)
       go none = refl
       go (some (s, n)) = refl
 
@@ -286,7 +286,7 @@ module _ (l : List ℕ) where
       sized : (f : List ℕ → Scalar) → ((s : List ℕ) → scalarNumbered (f s) ≡ false) → None (sizedOf f l)
       sized f g = go (textOf l)
         where
-          go : (o : Option (List ℕ × ℕ)) → None (past o none (λ s n. some (f s, n)))
+          go : (o : Option (List ℕ × ℕ)) → None (reading o none (λ s n. some (f s, n)))
           go none = refl
           go (some (s, n)) = g s
 
@@ -398,22 +398,22 @@ module _ (f : Bool) (l : List ℕ) (h : 10 ≤ kind l) (g : kind l < 13) where
 
 module _ {A B C : Type 0} (f : A → ℕ) (f′ : B → ℕ) (f″ : C → ℕ) (m″ n″ : C → Bool) (j : A → B → C) (faults : (a : A) (x : B) → f″ (j a x) ≡ first (f a) (f′ x)) where
   then-stop : (at : ℕ) (o : Option (A × ℕ)) (rest : ℕ → Option (B × ℕ)) → Missed f o
-      → F.Bad ≡ frontOf f″ m″ n″ at (past o none (λ a i. past (rest i) none (λ x k. some (j a x, i + k))))
+      → F.Bad ≡ frontOf f″ m″ n″ at (reading o none (λ a i. reading (rest i) none (λ x k. some (j a x, i + k))))
   then-stop at o rest (nothing e) = rw e
   then-stop at o rest (wrong a i e nz) = rw e (go (f a) refl nz (rest i))
     where
-      go : (q : ℕ) → f a ≡ q → (q ≡ 0 → ⊥) → (o : Option (B × ℕ)) → F.Bad ≡ frontOf f″ m″ n″ at (past o none (λ x k. some (j a x, i + k)))
+      go : (q : ℕ) → f a ≡ q → (q ≡ 0 → ⊥) → (o : Option (B × ℕ)) → F.Bad ≡ frontOf f″ m″ n″ at (reading o none (λ x k. some (j a x, i + k)))
       go zero y nz o = absurd (nz refl)
       go (suc q) y nz none = refl
       go (suc q) y nz (some (x, k)) = rw (faults a x, y)
 
   then-step : (m n : B → Bool) (at i : ℕ) (o : Option (A × ℕ)) (rest : ℕ → Option (B × ℕ)) (r : Read f o i)
       → ((x : B) → m x ≡ m″ (j (r .it) x)) → ((x : B) → n x ≡ n″ (j (r .it) x))
-      → frontOf f″ m″ n″ at (past o none (λ a i. past (rest i) none (λ x k. some (j a x, i + k)))) ≡ frontOf f′ m n (at + i) (rest i)
+      → frontOf f″ m″ n″ at (reading o none (λ a i. reading (rest i) none (λ x k. some (j a x, i + k)))) ≡ frontOf f′ m n (at + i) (rest i)
   then-step m n at i o rest r u v = rw (r .is) (go (r .it) (r .sound) u v (rest i))
     where
       go : (a : A) → f a ≡ 0 → ((x : B) → m x ≡ m″ (j a x)) → ((x : B) → n x ≡ n″ (j a x)) → (o : Option (B × ℕ))
-          → frontOf f″ m″ n″ at (past o none (λ x k. some (j a x, i + k))) ≡ frontOf f′ m n (at + i) o
+          → frontOf f″ m″ n″ at (reading o none (λ x k. some (j a x, i + k))) ≡ frontOf f′ m n (at + i) o
       go a e u v none = refl
       go a e u v (some (x, k)) = let y : at + (i + k) ≡ at + i + k = omega arith in rw (faults a x, e, y, u x, v x)
 
@@ -454,7 +454,7 @@ module _ (l : List ℕ) (at : ℕ) (m b : Bool) where
   pub front-notes : kind l ≡ 13 → 1 ≤ getD l 1 0 → getD l 1 0 ≤ 16 → symsFront (at + 2) b (symsOf (getD l 1 0) (drop 2 l)) ≡ notesFront at m b (notesOf l)
   front-notes k h g = rw (notes-some l k h g) (go (symsOf (getD l 1 0) (drop 2 l)) (syms-count (getD l 1 0) (drop 2 l)))
     where
-      go : (o : Option (List Sym × ℕ)) → Counted (getD l 1 0) o → symsFront (at + 2) b o ≡ notesFront at m b (past o none (λ ss n. some (ss, 2 + n)))
+      go : (o : Option (List Sym × ℕ)) → Counted (getD l 1 0) o → symsFront (at + 2) b o ≡ notesFront at m b (reading o none (λ ss n. some (ss, 2 + n)))
       go none c = refl
       go (some ([], n)) (counted c) = absurd (omega arith)
       go (some (s ∷ ss, n)) (counted c) = let i : at + (2 + n) ≡ at + 2 + n = omega arith in rw (i, or-true m)
@@ -471,13 +471,13 @@ module _ (k : Frame) (s : List ℕ) (at e : ℕ) (m b : Bool) where
       then-stop nameFault symsFault headFault (λ h. m || annotated (h .1)) (λ h. b || headNumbered h) (λ a ss. (a, ss)) (λ a ss. refl) at (nameOf k (part s at e)) (λ i. notesOf (drop i (part s at e))) z
 
   pub front-head : (q : ℕ) → Ended nameFault at q (nameOf k (part s at e))
-      → notesFront q m (b || nameIn k (part s at e)) (notesOf (part s q e)) ≡ headFront at m b (headOf k (part s at e))
-  unfolding headOf headFault headNumbered nameIn
+      → notesFront q m (b || nameNumberIn k (part s at e)) (notesOf (part s q e)) ≡ headFront at m b (headOf k (part s at e))
+  unfolding headOf headFault headNumbered nameNumberIn
   front-head q z =
       let n = z .bytes in
       let r = z .read in
-      let h : Bool = past (nameOf k (part s at e)) false (λ a n. nameNumbered a) in
-      let g : h ≡ nameNumbered (r .it) = ap (λ (o : Option (Option Sym × ℕ)). past o false (λ a n. nameNumbered a)) (r .is) in
+      let h : Bool = reading (nameOf k (part s at e)) false (λ a n. nameNumbered a) in
+      let g : h ≡ nameNumbered (r .it) = ap (λ (o : Option (Option Sym × ℕ)). reading o false (λ a n. nameNumbered a)) (r .is) in
       ap (λ (i : ℕ). notesFront i m (b || h) (notesOf (part s i e))) (z .place)
       ∙ ap (λ (l : List ℕ). notesFront (at + n) m (b || h) (notesOf l)) (sym (part-drop s at e n))
       ∙ sym (then-step nameFault symsFault headFault (λ h. m || annotated (h .1)) (λ h. b || headNumbered h) (λ a ss. (a, ss)) (λ a ss. refl) (λ ss. m || annotated ss) (λ ss. b || h || symsNumbered ss) at n (nameOf k (part s at e)) (λ i. notesOf (drop i (part s at e))) r

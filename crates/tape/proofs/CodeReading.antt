@@ -19,7 +19,7 @@ use Rattle.output.specs.Logic.{if}
 use Rattle.text_rules.specs.Text.{Sym}
 use Rattle.tape.specs.Bytes.{leNumber, signed, part}
 use Rattle.tape.specs.Tree.{Scalar, Head, null, bool, int, decimal, timestamp, string, clob, scalar, marker}
-use Rattle.tape.specs.Tape.{past, kind, lengthOf, textOf, symOf, symsOf, nameOf, notesOf, headOf, byteOf, intOf, floatAs, floatOf, decimalOf, timestampAs, timestampOf, symbolOf, sizedOf, scalarOf, Value, absent, leaf, body, openOf, valueOf}
+use Rattle.tape.specs.Tape.{reading, kind, lengthOf, textOf, symOf, symsOf, nameOf, notesOf, headOf, byteOf, intOf, floatAs, floatOf, decimalOf, timestampAs, timestampOf, symbolOf, sizedOf, scalarOf, Value, absent, leaf, body, openOf, valueOf}
 use Rattle.tape.specs.Steps.{placeOf, lengthIn}
 use Rattle.tape.specs.declared.Frame.{Frame}
 use Rattle.tape.specs.declared.Frame.the-variants.{List as ListF, Sexp, Struct}
@@ -214,7 +214,7 @@ module _ (l : List ℕ) where
   unfolding symOf
   sym-text r k e = simp (eq-eqb _ _ k, text-by l r e) (go r)
     where
-      go : (r : Place) → past (textAt r l) none (λ s n. some (Sym.text s, n)) ≡ symAt r l
+      go : (r : Place) → reading (textAt r l) none (λ s n. some (Sym.text s, n)) ≡ symAt r l
       go Nowhere = refl
       go (At n) = refl
 
@@ -310,7 +310,7 @@ module _ (f : Bool) (l : List ℕ) where
   value-marker h = rw h
 
   pub value-scalar : (kind l ≡ 10 → ⊥) → (kind l ≡ 11 → ⊥) → (kind l ≡ 12 → ⊥) → (kind l ≡ 14 → ⊥)
-      → valueOf f l ≡ past (scalarOf l) absent (λ s n. leaf (scalar s) n)
+      → valueOf f l ≡ reading (scalarOf l) absent (λ s n. leaf (scalar s) n)
   unfolding valueOf
   value-scalar a b c d = simp (ne-eqb _ _ a, ne-eqb _ _ b, ne-eqb _ _ c, ne-eqb _ _ d)
 
@@ -335,7 +335,7 @@ module _ (l : List ℕ) where
   notes-many h i = simp (eq-eqb _ _ h, le-leb 1 (getD l 1 0) (omega arith), lt-leb _ _ i)
 
   pub notes-some : kind l ≡ 13 → 1 ≤ getD l 1 0 → getD l 1 0 ≤ 16
-      → notesOf l ≡ past (symsOf (getD l 1 0) (drop 2 l)) none (λ ss n. some (ss, 2 + n))
+      → notesOf l ≡ reading (symsOf (getD l 1 0) (drop 2 l)) none (λ ss n. some (ss, 2 + n))
   unfolding notesOf
   notes-some h g i = simp (eq-eqb _ _ h, le-leb _ _ g, le-leb _ _ i)
 
@@ -355,7 +355,7 @@ notes-short l k h = notes-few l k (few l h)
 -- ---- where it ends
 
 -- a place behind a place
-pub place-map : {A B : Type 0} (p n : ℕ) (f : A → B) (o : Option (A × ℕ)) → placeOf p (past o none (λ a m. some (f a, n + m))) ≡ placeOf (p + n) o
+pub place-map : {A B : Type 0} (p n : ℕ) (f : A → B) (o : Option (A × ℕ)) → placeOf p (reading o none (λ a m. some (f a, n + m))) ≡ placeOf (p + n) o
 place-map p n f none = refl
 place-map p n f (some (a, m)) = let e : p + (n + m) ≡ p + n + m = omega arith in ap At e
 
@@ -363,7 +363,7 @@ pub name-struct : (p : ℕ) (l : List ℕ) → placeOf p (symOf l) ≡ placeOf p
 unfolding nameOf
 name-struct p l = go (symOf l)
   where
-    go : (o : Option (Sym × ℕ)) → placeOf p o ≡ placeOf {A = Option Sym} p (past o none (λ s n. some (some s, n)))
+    go : (o : Option (Sym × ℕ)) → placeOf p o ≡ placeOf {A = Option Sym} p (reading o none (λ s n. some (some s, n)))
     go none = refl
     go (some (s, n)) = refl
 
@@ -379,7 +379,7 @@ module _ (s : List ℕ) (p e : ℕ) where
   syms-bad zero h z = absurd (not-suc-le-zero h)
   syms-bad (suc c) h z = go (symOf (part s p e)) z
     where
-      go : (o : Option (Sym × ℕ)) → placeOf p o ≡ Nowhere → placeOf p (past o none (λ a n. past (symsOf c (drop n (part s p e))) none (λ ss m. some (a ∷ ss, n + m)))) ≡ Nowhere
+      go : (o : Option (Sym × ℕ)) → placeOf p o ≡ Nowhere → placeOf p (reading o none (λ a n. reading (symsOf c (drop n (part s p e))) none (λ ss m. some (a ∷ ss, n + m)))) ≡ Nowhere
       go none z = refl
       go (some (a, n)) z = let y : _≡_ {A = ℕ} 0 1 = cc in absurd (omega arith)
 
@@ -389,7 +389,7 @@ module _ (s : List ℕ) (p e : ℕ) where
   syms-one (suc c) q h z = let d : c ≡ suc c - 1 = omega arith in go (symOf (part s p e)) z ∙ ap (λ (i : ℕ). placeOf q (symsOf i (part s q e))) d
     where
       go : (o : Option (Sym × ℕ)) → placeOf p o ≡ At q
-          → placeOf p (past o none (λ a n. past (symsOf c (drop n (part s p e))) none (λ ss m. some (a ∷ ss, n + m)))) ≡ placeOf q (symsOf c (part s q e))
+          → placeOf p (reading o none (λ a n. reading (symsOf c (drop n (part s p e))) none (λ ss m. some (a ∷ ss, n + m)))) ≡ placeOf q (symsOf c (part s q e))
       go none z = let y : _≡_ {A = ℕ} 0 1 = cc in absurd (omega arith)
       go (some (a, n)) z =
           let y : p + n ≡ q = cc in
@@ -403,7 +403,7 @@ module _ (k : Frame) (s : List ℕ) (p e : ℕ) where
   unfolding headOf
   head-bad z = go (nameOf k (part s p e)) z
     where
-      go : (o : Option (Option Sym × ℕ)) → placeOf p o ≡ Nowhere → placeOf {A = Head} p (past o none (λ a n. past (notesOf (drop n (part s p e))) none (λ ss m. some ((a, ss), n + m)))) ≡ Nowhere
+      go : (o : Option (Option Sym × ℕ)) → placeOf p o ≡ Nowhere → placeOf {A = Head} p (reading o none (λ a n. reading (notesOf (drop n (part s p e))) none (λ ss m. some ((a, ss), n + m)))) ≡ Nowhere
       go none z = refl
       go (some (a, n)) z = let y : _≡_ {A = ℕ} 0 1 = cc in absurd (omega arith)
 
@@ -412,7 +412,7 @@ module _ (k : Frame) (s : List ℕ) (p e : ℕ) where
   head-one q z = go (nameOf k (part s p e)) z
     where
       go : (o : Option (Option Sym × ℕ)) → placeOf p o ≡ At q
-          → placeOf {A = Head} p (past o none (λ a n. past (notesOf (drop n (part s p e))) none (λ ss m. some ((a, ss), n + m)))) ≡ placeOf q (notesOf (part s q e))
+          → placeOf {A = Head} p (reading o none (λ a n. reading (notesOf (drop n (part s p e))) none (λ ss m. some ((a, ss), n + m)))) ≡ placeOf q (notesOf (part s q e))
       go none z = let y : _≡_ {A = ℕ} 0 1 = cc in absurd (omega arith)
       go (some (a, n)) z =
           let y : p + n ≡ q = cc in

@@ -17,7 +17,7 @@ use Rattle.text_rules.specs.Utf8.{valid}
 use Rattle.numbers.specs.Timestamp.{wellFormed}
 use Rattle.tape.specs.Bytes.{leNumber}
 use Rattle.tape.specs.Tree.{Scalar, Head, Node, symbol, string, clob, scalar, nest, marker}
-use Rattle.tape.specs.Tape.{past, kind, lengthOf, textOf, symOf, symsOf, nameOf, notesOf, headOf, byteOf, intOf, floatAs, floatOf, decimalOf, timestampAs, timestampOf, symbolOf, sizedOf, scalarOf, Value, absent, leaf, body, openOf, valueOf, Child, bad, single, tree, free, behind, childOf, textFault, symFault, symsFault, nameFault, headFault, finiteFault, floatFault, scalarFault, Walked, fault, turn, level, walk, bodyOf, nodesOf}
+use Rattle.tape.specs.Tape.{reading, kind, lengthOf, textOf, symOf, symsOf, nameOf, notesOf, headOf, byteOf, intOf, floatAs, floatOf, decimalOf, timestampAs, timestampOf, symbolOf, sizedOf, scalarOf, Value, absent, leaf, body, openOf, valueOf, Child, bad, single, tree, freeAt, headedChild, childOf, textFault, symFault, symsFault, nameFault, headFault, finiteFault, floatFault, scalarFault, Walked, fault, turn, level, walk, bodyOf, nodesOf}
 use Rattle.tape.specs.Fine.{Bytes, FineBytes, FineText, FineSym, FineSyms, FineFloat, FineScalar, FineName, FineHead, FineMarker, Inner, Fine, Fines}
 use Rattle.tape.specs.Verdict.{verdict}
 use Rattle.tape.specs.declared.Frame.{Frame}
@@ -35,17 +35,17 @@ data Good {A : Type 0} (P : A → Type 0) : Option (A × ℕ) → Type 0 where
 told : {A : Type 0} {P : A → Type 0} {a : A} {n : ℕ} → Good P (some (a, n)) → P a
 told (good p) = p
 
-map-good : {A B : Type 0} (P : A → Type 0) (Q : B → Type 0) (f : A → B) → ((a : A) → P a → Q (f a)) → (o : Option (A × ℕ)) → Good P o → Good Q (past o none (λ a n. some (f a, n)))
+map-good : {A B : Type 0} (P : A → Type 0) (Q : B → Type 0) (f : A → B) → ((a : A) → P a → Q (f a)) → (o : Option (A × ℕ)) → Good P o → Good Q (reading o none (λ a n. some (f a, n)))
 map-good P Q f h none g = good-none
 map-good P Q f h (some (a, n)) (good p) = good (h a p)
 
 -- one behind the other
 module _ {A B C : Type 0} (P : A → Type 0) (Q : B → Type 0) (R : C → Type 0) (f : A → B → C) (h : (a : A) (b : B) → P a → Q b → R (f a b)) where
-  then-good : (o : Option (A × ℕ)) (p : ℕ → Option (B × ℕ)) → Good P o → ((n : ℕ) → Good Q (p n)) → Good R (past o none (λ a n. past (p n) none (λ b m. some (f a b, n + m))))
+  then-good : (o : Option (A × ℕ)) (p : ℕ → Option (B × ℕ)) → Good P o → ((n : ℕ) → Good Q (p n)) → Good R (reading o none (λ a n. reading (p n) none (λ b m. some (f a b, n + m))))
   then-good none p g q = good-none
   then-good (some (a, n)) p (good x) q = inner (p n) (q n)
     where
-      inner : (o : Option (B × ℕ)) → Good Q o → Good R (past o none (λ b m. some (f a b, n + m)))
+      inner : (o : Option (B × ℕ)) → Good Q o → Good R (reading o none (λ b m. some (f a b, n + m)))
       inner none g = good-none
       inner (some (b, m)) (good y) = good (h a b x y)
 
@@ -108,7 +108,7 @@ notes-good l b =
     (λ _. if-all (Good NotesP) {b = leb 1 (getD l 1 0)} (λ _. if-all (Good NotesP) {b = leb (getD l 1 0) 16} (λ e. go (leb-true _ _ e) (symsOf (getD l 1 0) (drop 2 l)) (syms-good (getD l 1 0) (drop 2 l) (bytes-drop 2 l b)) (syms-count (getD l 1 0) (drop 2 l))) (λ _. good-none)) (λ _. good-none))
     (λ _. good (λ _. (tt, omega arith)))
   where
-    go : getD l 1 0 ≤ 16 → (o : Option (List Sym × ℕ)) → Good SymsP o → Counted (getD l 1 0) o → Good NotesP (past o none (λ ss n. some (ss, 2 + n)))
+    go : getD l 1 0 ≤ 16 → (o : Option (List Sym × ℕ)) → Good SymsP o → Counted (getD l 1 0) o → Good NotesP (reading o none (λ ss n. some (ss, 2 + n)))
     go h none g c = good-none
     go h (some (ss, n)) (good p) (counted c) = good (λ e. (p e, omega arith))
 
@@ -128,8 +128,8 @@ head-good k l b =
     then-good (NameP k) NotesP (HeadP k) (λ a ss. (a, ss)) (head-pair k) (nameOf k l) (λ n. notesOf (drop n l)) (name-good k l b) (λ n. notes-good (drop n l) (bytes-drop n l b))
 
 -- a marker may stand behind it
-free-head : (k : Frame) (l : List ℕ) → free k l ≡ true → Good (λ h. FineMarker k (h .1)) (headOf k l)
-unfolding free headOf nameOf notesOf
+free-head : (k : Frame) (l : List ℕ) → freeAt k l ≡ true → Good (λ h. FineMarker k (h .1)) (headOf k l)
+unfolding freeAt headOf nameOf notesOf
 free-head Top l e = go (eqb (kind l) 13) refl e
   where
     go : (t : Bool) → eqb (kind l) 13 ≡ t → if t false true ≡ true → Good (λ h. FineMarker Top (h .1)) (headOf Top l)
@@ -237,7 +237,7 @@ value-good f l b =
     if-all (GoodV f) {b = eqb (kind l) 12} (λ _. open-good f Struct l tt b) (λ _.
     if-all (GoodV f) {b = eqb (kind l) 14} (λ _. if-all (GoodV f) {b = f} {x = leaf marker 1} {y = absent} (λ e. good-leaf e) (λ _. good-absent)) (λ _. go (scalarOf l) (scalar-good l b)))))
   where
-    go : (o : Option (Scalar × ℕ)) → Good ScalarP o → GoodV f (past o absent (λ s n. leaf (scalar s) n))
+    go : (o : Option (Scalar × ℕ)) → Good ScalarP o → GoodV f (reading o absent (λ s n. leaf (scalar s) n))
     go none g = good-absent
     go (some (s, n)) (good p) = good-leaf p
 
@@ -252,16 +252,16 @@ child-good : (k : Frame) (l : List ℕ) → Bytes l → GoodC k (childOf k l)
 unfolding childOf Fine
 child-good k l b = go (headOf k l) (head-good k l b) (free-head k l)
   where
-    behind-good : (h : Head) (n : ℕ) → HeadP k h → (free k l ≡ true → FineMarker k (h .1)) → (v : Value) → GoodV (free k l) v → GoodC k (behind h n v)
+    behind-good : (h : Head) (n : ℕ) → HeadP k h → (freeAt k l ≡ true → FineMarker k (h .1)) → (v : Value) → GoodV (freeAt k l) v → GoodC k (headedChild h n v)
     behind-good h n p m absent g = good-bad
     behind-good h n p m (leaf (scalar s) i) (good-leaf q) = good-single p (λ e d. q e)
     behind-good h n p m (leaf (nest f ns) i) (good-leaf q) = absurd q
     behind-good h n p m (leaf marker i) (good-leaf q) = good-single p (λ e d. m q)
     behind-good h n p m (body f i) (good-body q j) = good-tree p q j
 
-    go : (o : Option (Head × ℕ)) → Good (HeadP k) o → (free k l ≡ true → Good (λ h. FineMarker k (h .1)) o) → GoodC k (past o bad (λ h n. behind h n (valueOf (free k l) (drop n l))))
+    go : (o : Option (Head × ℕ)) → Good (HeadP k) o → (freeAt k l ≡ true → Good (λ h. FineMarker k (h .1)) o) → GoodC k (reading o bad (λ h n. headedChild h n (valueOf (freeAt k l) (drop n l))))
     go none g m = good-bad
-    go (some (h, n)) (good p) m = behind-good h n p (λ e. told (m e)) (valueOf (free k l) (drop n l)) (value-good (free k l) (drop n l) (bytes-drop n l b))
+    go (some (h, n)) (good p) m = behind-good h n p (λ e. told (m e)) (valueOf (freeAt k l) (drop n l)) (value-good (freeAt k l) (drop n l) (bytes-drop n l b))
 
 -- ---- the walk
 

@@ -11,7 +11,7 @@ use mir.Val.{SFits}
 use borrow.Author.Tests.{leb-true, ltb-true, eqb-true}
 use Rattle.output.specs.Logic.{if}
 use Rattle.text_rules.proofs.DigitLaws.{never}
-use Rattle.numbers.specs.Timestamp.{isLeap, daysIn, field, dateWell, timeWell, fractionWell, offsetWell, wellFormed}
+use Rattle.numbers.specs.Timestamp.{isLeap, daysIn, fieldWell, dateWell, timeWell, fractionWell, offsetWell, wellFormed}
 use Rattle.numbers.specs.declared.timestamp.Timestamp.{Timestamp}
 
 pub record Ranges (x : Timestamp) : Type 0 where
@@ -36,8 +36,8 @@ either true b e f g = f refl
 either false true e f g = g refl
 either false false e f g = never (sym e)
 
-field-most : (r : Bool) (lo hi n : ℕ) → field r lo hi n ≡ true → n ≤ hi
-unfolding field
+field-most : (r : Bool) (lo hi n : ℕ) → fieldWell r lo hi n ≡ true → n ≤ hi
+unfolding fieldWell
 field-most true lo hi n e = leb-true _ _ (both (leb lo n) (leb n hi) e .1)
 field-most false lo hi n e = let z : n ≡ 0 = eqb-true _ _ e in omega arith
 

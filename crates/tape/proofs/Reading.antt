@@ -16,7 +16,7 @@ use Rattle.output.specs.Wrote.{leBytes}
 use Rattle.text_rules.specs.Text.{Sym}
 use Rattle.tape.specs.Bytes.{leNumber, signed, bits}
 use Rattle.tape.specs.Tree.{Scalar, Head, Node, null, bool, int, timestamp, symbol, string, clob, scalar, marker, bit, tag, floatBits, sized, encodeTimestamp, encodeSym, encodeScalar, encodeSyms, encodeName, encodeNotes, encodeHead, encode}
-use Rattle.tape.specs.Tape.{past, kind, lengthOf, textOf, symOf, symsOf, nameOf, notesOf, headOf, byteOf, intOf, floatAs, floatOf, decimalOf, timestampAs, timestampOf, symbolOf, sizedOf, scalarOf, Value, absent, leaf, body, openOf, valueOf, Child, bad, single, tree, free, behind, childOf}
+use Rattle.tape.specs.Tape.{reading, kind, lengthOf, textOf, symOf, symsOf, nameOf, notesOf, headOf, byteOf, intOf, floatAs, floatOf, decimalOf, timestampAs, timestampOf, symbolOf, sizedOf, scalarOf, Value, absent, leaf, body, openOf, valueOf, Child, bad, single, tree, freeAt, headedChild, childOf}
 use Rattle.tape.specs.Fine.{Bytes}
 use Rattle.tape.specs.declared.Frame.{Frame}
 use Rattle.tape.specs.declared.Frame.the-variants.{Top, List as ListF, Sexp, Struct}
@@ -69,21 +69,21 @@ pub data Sound {A : Type 0} (enc : A → List ℕ) (l : List ℕ) : Option (A ×
 
 -- what is made of what is read, without more bytes
 pub map-sound : {A B : Type 0} (ea : A → List ℕ) (eb : B → List ℕ) (l : List ℕ) (f : A → B) → ((a : A) → eb (f a) ≡ ea a) → (o : Option (A × ℕ)) → Sound ea l o
-    → Sound eb l (past o none (λ a n. some (f a, n)))
+    → Sound eb l (reading o none (λ a n. some (f a, n)))
 map-sound ea eb l f glue none s = nothing
 map-sound ea eb l f glue (some (a, n)) (something h e) = something h (λ b. glue a ∙ e b)
 
 -- one behind the other
 module _ {A B C : Type 0} (ea : A → List ℕ) (eb : B → List ℕ) (ec : C → List ℕ) (l : List ℕ) (f : A → B → C) (glue : (a : A) (b : B) → ec (f a b) ≡ ea a ++ eb b) where
   then-one : (a : A) (n : ℕ) → n ≤ length l → (Bytes l → ea a ≡ take n l) → (o : Option (B × ℕ)) → Sound eb (drop n l) o
-      → Sound ec l (past o none (λ b m. some (f a b, n + m)))
+      → Sound ec l (reading o none (λ b m. some (f a b, n + m)))
   then-one a n h e none s = nothing
   then-one a n h e (some (b, m)) (something i g) =
       let d = length-drop n l in
       something {n = n + m} (omega arith) (λ k. glue a b ∙ ap (λ (r : List ℕ). r ++ eb b) (e k) ∙ ap (λ (r : List ℕ). take n l ++ r) (g (bytes-drop n l k)) ∙ sym (take-add n m l))
 
   pub then-sound : (o : Option (A × ℕ)) (p : ℕ → Option (B × ℕ)) → Sound ea l o → ((n : ℕ) → Sound eb (drop n l) (p n))
-      → Sound ec l (past o none (λ a n. past (p n) none (λ b m. some (f a b, n + m))))
+      → Sound ec l (reading o none (λ a n. reading (p n) none (λ b m. some (f a b, n + m))))
   then-sound none p s t = nothing
   then-sound (some (a, n)) p (something h e) t = then-one a n h e (p n) (t n)
 
@@ -124,11 +124,11 @@ unfolding symsOf
 syms-count zero l = counted refl
 syms-count (suc c) l = go (symOf l) (λ m. syms-count c (drop m l))
   where
-    inner : (s : Sym) (m : ℕ) (o : Option (List Sym × ℕ)) → Counted c o → Counted (suc c) (past o none (λ ts i. some (s ∷ ts, m + i)))
+    inner : (s : Sym) (m : ℕ) (o : Option (List Sym × ℕ)) → Counted c o → Counted (suc c) (reading o none (λ ts i. some (s ∷ ts, m + i)))
     inner s m none e = uncounted
     inner s m (some (ts, i)) (counted e) = counted (ap suc e)
 
-    go : (o : Option (Sym × ℕ)) → ((m : ℕ) → Counted c (symsOf c (drop m l))) → Counted (suc c) (past o none (λ s m. past (symsOf c (drop m l)) none (λ ts i. some (s ∷ ts, m + i))))
+    go : (o : Option (Sym × ℕ)) → ((m : ℕ) → Counted c (symsOf c (drop m l))) → Counted (suc c) (reading o none (λ s m. reading (symsOf c (drop m l)) none (λ ts i. some (s ∷ ts, m + i))))
     go none r = uncounted
     go (some (s, m)) r = inner s m (symsOf c (drop m l)) (r m)
 
@@ -152,7 +152,7 @@ notes-sound l =
     (λ k. if-all (Sound encodeNotes l) (λ one. if-all (Sound encodeNotes l) {b = leb (getD l 1 0) 16} (λ e. go (eqb-true _ _ k) (leb-true _ _ one) (symsOf (getD l 1 0) (drop 2 l)) (syms-sound (getD l 1 0) (drop 2 l)) (syms-count (getD l 1 0) (drop 2 l))) (λ _. nothing)) (λ _. nothing))
     (λ _. something {a = []} {n = 0} (omega arith) (λ b. refl))
   where
-    go : kind l ≡ 13 → 1 ≤ getD l 1 0 → (o : Option (List Sym × ℕ)) → Sound encodeSyms (drop 2 l) o → Counted (getD l 1 0) o → Sound encodeNotes l (past o none (λ ss n. some (ss, 2 + n)))
+    go : kind l ≡ 13 → 1 ≤ getD l 1 0 → (o : Option (List Sym × ℕ)) → Sound encodeSyms (drop 2 l) o → Counted (getD l 1 0) o → Sound encodeNotes l (reading o none (λ ss n. some (ss, 2 + n)))
     go k h none s c = nothing
     go k h (some (ss, n)) (something g b) (counted c) =
         let d = length-drop 2 l in
@@ -249,7 +249,7 @@ pub data Long {A : Type 0} : Option (A × ℕ) → Type 0 where
   no-length : Long none
   long : {a : A} {n : ℕ} → 1 < n → Long (some (a, n))
 
-map-long : {A B : Type 0} (f : A → B) (o : Option (A × ℕ)) → Long o → Long (past o none (λ a n. some (f a, n)))
+map-long : {A B : Type 0} (f : A → B) (o : Option (A × ℕ)) → Long o → Long (reading o none (λ a n. some (f a, n)))
 map-long f none h = no-length
 map-long f (some (a, n)) (long h) = long h
 
@@ -320,7 +320,7 @@ marker-sound f [] k = let z : _≡_ {A = ℕ} 0 14 = k in absurd (omega arith)
 marker-sound f (x ∷ l) k =
     if-all (SoundV (x ∷ l)) {b = f} {x = leaf marker 1} {y = absent} (λ _. a-leaf (omega arith) (omega arith) (λ b. ap (λ (i : ℕ). i ∷ []) (sym k))) (λ _. no-value)
 
-leaf-sound : (l : List ℕ) (o : Option (Scalar × ℕ)) → Sound encodeScalar l o → Long o → SoundV l (past o absent (λ s n. leaf (scalar s) n))
+leaf-sound : (l : List ℕ) (o : Option (Scalar × ℕ)) → Sound encodeScalar l o → Long o → SoundV l (reading o absent (λ s n. leaf (scalar s) n))
 unfolding encode
 leaf-sound l none s h = no-value
 leaf-sound l (some (s, n)) (something i e) (long h) = let p : 0 < n = omega arith in a-leaf p i e
@@ -344,7 +344,7 @@ pub child-sound : (k : Frame) (l : List ℕ) → SoundC l (childOf k l)
 unfolding childOf
 child-sound k l = go (headOf k l) (head-sound k l)
   where
-    behind-sound : (h : Head) (n : ℕ) → n ≤ length l → (Bytes l → encodeHead h ≡ take n l) → (v : Value) → SoundV (drop n l) v → SoundC l (behind h n v)
+    behind-sound : (h : Head) (n : ℕ) → n ≤ length l → (Bytes l → encodeHead h ≡ take n l) → (v : Value) → SoundV (drop n l) v → SoundC l (headedChild h n v)
     behind-sound h n i e absent s = no-child
     behind-sound h n i e (leaf v m) (a-leaf p j f) =
         let d = length-drop n l in
@@ -353,6 +353,6 @@ child-sound k l = go (headOf k l) (head-sound k l)
         let d = length-drop n l in
         a-tree {q = n + 5} {n = m} (omega arith) (omega arith) (λ b. ap (λ (r : List ℕ). r ++ (tag c ∷ leBytes 4 m)) (e b) ∙ ap (λ (r : List ℕ). take n l ++ r) (f (bytes-drop n l b)) ∙ sym (take-add n 5 l))
 
-    go : (o : Option (Head × ℕ)) → Sound encodeHead l o → SoundC l (past o bad (λ h n. behind h n (valueOf (free k l) (drop n l))))
+    go : (o : Option (Head × ℕ)) → Sound encodeHead l o → SoundC l (reading o bad (λ h n. headedChild h n (valueOf (freeAt k l) (drop n l))))
     go none s = no-child
-    go (some (h, n)) (something i e) = behind-sound h n i e (valueOf (free k l) (drop n l)) (value-sound (free k l) (drop n l))
+    go (some (h, n)) (something i e) = behind-sound h n i e (valueOf (freeAt k l) (drop n l)) (value-sound (freeAt k l) (drop n l))

@@ -10,10 +10,10 @@ use lib.ListN.{length, drop}
 use Rattle.output.specs.Logic.{if}
 use Rattle.tape.specs.Bytes.{part}
 use Rattle.tape.specs.Tree.{Scalar, Head, Node, scalar, nest, marker, nil}
-use Rattle.tape.specs.Tape.{past, kind, lengthOf, nameOf, notesOf, headOf, scalarOf, Value, absent, leaf, body, openOf, valueOf, single, free, childOf, nameFault, headFault, scalarFault, Walked, fault, join, walk}
+use Rattle.tape.specs.Tape.{reading, kind, lengthOf, nameOf, notesOf, headOf, scalarOf, Value, absent, leaf, body, openOf, valueOf, single, freeAt, childOf, nameFault, headFault, scalarFault, Walked, fault, join, walk}
 use Rattle.tape.specs.Refusal.{annotated, noted, headNumbered, numbered}
 use Rattle.tape.specs.Steps.{placeOf, headAt, ChildAt}
-use Rattle.tape.specs.CheckSteps.{coded, scalarCode, spanOf, numberIn, nameIn, endOf, frameOf, front, notesFront}
+use Rattle.tape.specs.CheckSteps.{coded, scalarCode, spanOf, numberIn, nameNumberIn, endOf, frameOf, frontAs, notesFront}
 use Rattle.tape.specs.declared.Frame.{Frame}
 use Rattle.tape.specs.declared.Frame.the-variants.{List as ListF, Sexp, Struct}
 use Rattle.tape.specs.declared.Child.the-variants.{Bad as NoChild, Open as OpenC}
@@ -110,7 +110,7 @@ head-turn k s at e a b p m n h i z =
     record { place = g .0; sound = g .1; notes = g .2; numbers = g .3; behind = w .0; within = w .1 }
   where
     its : Option (Head × ℕ) → Head
-    its o = past o (none, []) (λ g j. g)
+    its o = reading o (none, []) (λ g j. g)
 
     Told : Option (Head × ℕ) → Type 0
     Told o = (placeOf at o ≡ At p) × (headFault (its o) ≡ 0) × (m ≡ a || annotated (its o .1)) × (n ≡ b || headNumbered (its o))
@@ -119,7 +119,7 @@ head-turn k s at e a b p m n h i z =
     go none z = let y : _≡_ {A = ℕ} 0 1 = cc in absurd (omega arith)
     go (some (g, j)) z = by (headFault g) refl z
       where
-        by : (f : ℕ) → headFault g ≡ f → F.Whole p m n ≡ front f (at + j) (a || annotated (g .1)) (b || headNumbered g) → Told (some (g, j))
+        by : (f : ℕ) → headFault g ≡ f → F.Whole p m n ≡ frontAs f (at + j) (a || annotated (g .1)) (b || headNumbered g) → Told (some (g, j))
         by zero x z = let y : at + j ≡ p = cc in (ap At y, x, cc, cc)
         by (suc f) x z = let y : _≡_ {A = ℕ} 0 1 = cc in absurd (omega arith)
 
@@ -143,7 +143,7 @@ value-unnoted f l =
     container : (k : Frame) → leafNoted (openOf k l) ≡ false
     container k = if-all Unnoted {b = leb (5 + lengthOf l) (length l)} {x = body k (lengthOf l)} {y = absent} (λ _. refl) (λ _. refl)
 
-    one : (o : Option (Scalar × ℕ)) → leafNoted (past o absent (λ s n. leaf (scalar s) n)) ≡ false
+    one : (o : Option (Scalar × ℕ)) → leafNoted (reading o absent (λ s n. leaf (scalar s) n)) ≡ false
     one none = refl
     one (some (s, n)) = refl
 
@@ -157,15 +157,15 @@ module _ (d : ℕ) (k : Frame) (s : List ℕ) (at e : ℕ) (nz : d ≡ 0 → ⊥
       go none q z = ap (λ (w : Walked). w .1) (bad-turn d k s at e nz h i (record { told = child-headless k s at e (ap (placeOf at) q) }))
       go (some (g, n)) q z = by (headFault g) refl z
         where
-          by : (f : ℕ) → headFault g ≡ f → F.Bad ≡ front f (at + n) (a || annotated (g .1)) (b || headNumbered g) → walk d k (part s at e) .1 ≡ 2
+          by : (f : ℕ) → headFault g ≡ f → F.Bad ≡ frontAs f (at + n) (a || annotated (g .1)) (b || headNumbered g) → walk d k (part s at e) .1 ≡ 2
           by zero x z = let y : _≡_ {A = ℕ} 0 1 = cc in absurd (omega arith)
           by (suc f) x z = walk-headed k d (part s at e) nz (some-left d k s at e nz h i) g n q (head-two g (λ y. omega arith))
 
   -- behind a head
   module _ {a b : Bool} {p : ℕ} {m n : Bool} (w : HeadSeen k s at e a b p m n) where
-    leaf-step : (v : Node) (j : ℕ) → valueOf (free k (part s at e)) (part s p e) ≡ leaf v j
+    leaf-step : (v : Node) (j : ℕ) → valueOf (freeAt k (part s at e)) (part s p e) ≡ leaf v j
         → (walk d k (part s at e) ≡ join (headAt k (part s at e)) v (fault v) (walk d k (part s (p + j) e))) × (at < p + j) × (p + j ≤ e)
-    leaf-step v j q = go (subst (SoundV (part s p e)) q (value-sound (free k (part s at e)) (part s p e)))
+    leaf-step v j q = go (subst (SoundV (part s p e)) q (value-sound (freeAt k (part s at e)) (part s p e)))
       where
         go : SoundV (part s p e) (leaf v j)
             → (walk d k (part s at e) ≡ join (headAt k (part s at e)) v (fault v) (walk d k (part s (p + j) e))) × (at < p + j) × (p + j ≤ e)
@@ -179,26 +179,26 @@ module _ (d : ℕ) (k : Frame) (s : List ℕ) (at e : ℕ) (nz : d ≡ 0 → ⊥
               omega arith,
             )
 
-    absent-turn : valueOf (free k (part s at e)) (part s p e) ≡ absent → Refused d k s at e 2
+    absent-turn : valueOf (freeAt k (part s at e)) (part s p e) ≡ absent → Refused d k s at e 2
     absent-turn q = record {
       fault = ap (λ (u : Walked). u .1) (bad-turn d k s at e nz h i (child-from k s at e p (w .behind) (w .place) NoChild (record { told = q })));
       some = λ z. omega arith;
     }
 
-    wrong-turn : (v : Node) (j : ℕ) → valueOf (free k (part s at e)) (part s p e) ≡ leaf v j → (g : ℕ) → fault v ≡ g → (g ≡ 0 → ⊥) → Refused d k s at e g
+    wrong-turn : (v : Node) (j : ℕ) → valueOf (freeAt k (part s at e)) (part s p e) ≡ leaf v j → (g : ℕ) → fault v ≡ g → (g ≡ 0 → ⊥) → Refused d k s at e g
     wrong-turn v j q g x y = record {
       fault = ap (λ (u : Walked). u .1) (leaf-step v j q .0) ∙ join-fault (headAt k (part s at e)) v (fault v) (walk d k (part s (p + j) e)) (w .sound) (λ z. y (sym x ∙ z)) ∙ x;
       some = y;
     }
 
-    single-turn : (v : Node) (j : ℕ) → valueOf (free k (part s at e)) (part s p e) ≡ leaf v j → fault v ≡ 0 → (c : Bool) → numbered v ≡ c → LeafSeen d k s at e (p + j) c
+    single-turn : (v : Node) (j : ℕ) → valueOf (freeAt k (part s at e)) (part s p e) ≡ leaf v j → fault v ≡ 0 → (c : Bool) → numbered v ≡ c → LeafSeen d k s at e (p + j) c
     single-turn v j q z c y =
         let u = leaf-step v j q in
         record {
           node = v;
           step = u .0;
           sound = z;
-          notes = sym (ap leafNoted q) ∙ value-unnoted (free k (part s at e)) (part s p e);
+          notes = sym (ap leafNoted q) ∙ value-unnoted (freeAt k (part s at e)) (part s p e);
           numbers = y;
           forth = u .1;
           within = u .2;
@@ -206,13 +206,13 @@ module _ (d : ℕ) (k : Frame) (s : List ℕ) (at e : ℕ) (nz : d ≡ 0 → ⊥
 
     -- no bytes are left
     pub end-refused : p ≡ e → Refused d k s at e 2
-    end-refused q = let l = part-length s p e i in absent-turn (value-empty (free k (part s at e)) (part s p e) (omega arith))
+    end-refused q = let l = part-length s p e i in absent-turn (value-empty (freeAt k (part s at e)) (part s p e) (omega arith))
 
     -- ---- a scalar, by its number
 
     module _ (below : kind (part s p e) < 10) (c : ℕ) (q : c ≡ scalarCode (scalarOf (part s p e))) where
-      its : valueOf (free k (part s at e)) (part s p e) ≡ past (scalarOf (part s p e)) absent (λ x j. leaf (scalar x) j)
-      its = value-scalar (free k (part s at e)) (part s p e) (λ z. omega arith) (λ z. omega arith) (λ z. omega arith) (λ z. omega arith)
+      its : valueOf (freeAt k (part s at e)) (part s p e) ≡ reading (scalarOf (part s p e)) absent (λ x j. leaf (scalar x) j)
+      its = value-scalar (freeAt k (part s at e)) (part s p e) (λ z. omega arith) (λ z. omega arith) (λ z. omega arith) (λ z. omega arith)
 
       pub size-refused : c < 2 → Refused d k s at e (if (eqb c 0) 2 4)
       size-refused g = go (scalarOf (part s p e)) refl (scalar-long (part s p e)) q
@@ -230,17 +230,17 @@ module _ (d : ℕ) (k : Frame) (s : List ℕ) (at e : ℕ) (nz : d ≡ 0 → ⊥
       unfolding numbered
       size-turn g =
           let r = code-read scalarFault (scalarOf (part s p e)) c q g in
-          single-turn (scalar (r .it)) c (its ∙ ap (λ (o : Option (Scalar × ℕ)). past o absent (λ x j. leaf (scalar x) j)) (r .is)) (r .sound) _ (scalar-number (part s p e) (r .it) c (r .is))
+          single-turn (scalar (r .it)) c (its ∙ ap (λ (o : Option (Scalar × ℕ)). reading o absent (λ x j. leaf (scalar x) j)) (r .is)) (r .sound) _ (scalar-number (part s p e) (r .it) c (r .is))
 
     -- ---- a container
 
     module _ (above : 10 ≤ kind (part s p e)) (below : kind (part s p e) < 13) where
       pub span-refused : 0 ≡ spanOf (part s p e) → Refused d k s at e 2
-      span-refused q = absent-turn (value-missing (free k (part s at e)) (part s p e) above below q)
+      span-refused q = absent-turn (value-missing (freeAt k (part s at e)) (part s p e) above below q)
 
       pub span-turn : (c : ℕ) → c ≡ spanOf (part s p e) → (c ≡ 0 → ⊥) → TreeTurn d k s at e (frameOf (kind (part s p e))) (p + 5) (p + c)
       span-turn c q z =
-          let f = free k (part s at e) in
+          let f = freeAt k (part s at e) in
           let x = frameOf (kind (part s p e)) in
           let m = span-is (part s p e) c q z .0 in
           let y : p + 5 + (c - 5) ≡ p + c = omega arith in
@@ -253,15 +253,15 @@ module _ (d : ℕ) (k : Frame) (s : List ℕ) (at e : ℕ) (nz : d ≡ 0 → ⊥
     pub other-refused : 12 < kind (part s p e) → (kind (part s p e) ≡ 14 → ⊥) → Refused d k s at e 2
     other-refused a b =
         absent-turn
-        (value-scalar (free k (part s at e)) (part s p e) (λ z. omega arith) (λ z. omega arith) (λ z. omega arith) b
+        (value-scalar (freeAt k (part s at e)) (part s p e) (λ z. omega arith) (λ z. omega arith) (λ z. omega arith) b
         ∙ rw (scalar-other (part s p e) (omega arith) (λ z. omega arith) (λ z. omega arith)))
 
-    pub marker-refused : kind (part s p e) ≡ 14 → free k (part s at e) ≡ false → Refused d k s at e 2
-    marker-refused q f = absent-turn (value-marker (free k (part s at e)) (part s p e) q ∙ rw f)
+    pub marker-refused : kind (part s p e) ≡ 14 → freeAt k (part s at e) ≡ false → Refused d k s at e 2
+    marker-refused q f = absent-turn (value-marker (freeAt k (part s at e)) (part s p e) q ∙ rw f)
 
-    pub marker-turn : kind (part s p e) ≡ 14 → free k (part s at e) ≡ true → LeafSeen d k s at e (p + 1) false
+    pub marker-turn : kind (part s p e) ≡ 14 → freeAt k (part s at e) ≡ true → LeafSeen d k s at e (p + 1) false
     unfolding numbered
-    marker-turn q f = single-turn marker 1 (value-marker (free k (part s at e)) (part s p e) q ∙ rw f) refl false refl
+    marker-turn q f = single-turn marker 1 (value-marker (freeAt k (part s at e)) (part s p e) q ∙ rw f) refl false refl
 
   -- ---- a name, and annotations behind it
 
@@ -272,11 +272,11 @@ module _ (d : ℕ) (k : Frame) (s : List ℕ) (at e : ℕ) (nz : d ≡ 0 → ⊥
       go (missed m) = headless-turn a b (front-nameless k s at e a b m)
       go (reached r) =
           let l = part-length s e e i in
-          end-refused (head-turn k s at e a b e a (b || nameIn k (part s at e)) (omega arith) i (front-none (part s e e) e a (b || nameIn k (part s at e)) (notes-empty (part s e e) (omega arith)) ∙ front-head k s at e a b e r)) refl
+          end-refused (head-turn k s at e a b e a (b || nameNumberIn k (part s at e)) (omega arith) i (front-none (part s e e) e a (b || nameNumberIn k (part s at e)) (notes-empty (part s e e) (omega arith)) ∙ front-head k s at e a b e r)) refl
 
   module _ (a b : Bool) (q : ℕ) (r : Ended nameFault at q (nameOf k (part s at e))) where
-    pub notes-refused : F.Bad ≡ notesFront q a (b || nameIn k (part s at e)) (notesOf (part s q e)) → Refused d k s at e 2
+    pub notes-refused : F.Bad ≡ notesFront q a (b || nameNumberIn k (part s at e)) (notesOf (part s q e)) → Refused d k s at e 2
     notes-refused z = headless-turn a b (z ∙ front-head k s at e a b q r)
 
-    pub notes-turn : (p : ℕ) (m n : Bool) → F.Whole p m n ≡ notesFront q a (b || nameIn k (part s at e)) (notesOf (part s q e)) → HeadSeen k s at e a b p m n
+    pub notes-turn : (p : ℕ) (m n : Bool) → F.Whole p m n ≡ notesFront q a (b || nameNumberIn k (part s at e)) (notesOf (part s q e)) → HeadSeen k s at e a b p m n
     notes-turn p m n z = head-turn k s at e a b p m n (omega arith) i (z ∙ front-head k s at e a b q r)

@@ -9,7 +9,7 @@ use lib.Dec.{eqb, leb}
 use Rattle.output.specs.Logic.{if}
 use Rattle.text_rules.specs.Text.{Sym}
 use Rattle.tape.specs.Tree.{Scalar, Nodes, size}
-use Rattle.tape.specs.Tape.{past, lengthOf, symOf, nameOf, symsFault, scalarFault, Walked, bodyOf}
+use Rattle.tape.specs.Tape.{reading, lengthOf, symOf, nameOf, symsFault, scalarFault, Walked, bodyOf}
 use Rattle.tape.specs.Refusal.{annotated, noteds, symNumbered, symsNumbered, nameNumbered, numbereds}
 use Rattle.tape.specs.Verdict.{verdict}
 use Rattle.tape.specs.declared.Frame.{Frame}
@@ -26,7 +26,7 @@ coded (suc f) n = if (eqb f 3) 1 0
 
 -- what a rule read, with its problem by f; 0 where there was nothing to read
 abbrev pub codeOf : {A : Type 0} → (A → ℕ) → Option (A × ℕ) → ℕ
-codeOf f o = past o 0 (λ a n. coded (f a) n)
+codeOf f o = reading o 0 (λ a n. coded (f a) n)
 
 abbrev pub scalarCode : Option (Scalar × ℕ) → ℕ
 scalarCode o = codeOf scalarFault o
@@ -37,11 +37,11 @@ spanOf l = if (leb (5 + lengthOf l) (length l)) (5 + lengthOf l) 0
 
 -- whether the symbol that l starts with is an identifier but 0
 unfoldable pub numberIn : List ℕ → Bool
-numberIn l = past (symOf l) false (λ s n. symNumbered s)
+numberIn l = reading (symOf l) false (λ s n. symNumbered s)
 
 -- whether the name of the child that l starts with is one
-unfoldable pub nameIn : Frame → List ℕ → Bool
-nameIn k l = past (nameOf k l) false (λ a n. nameNumbered a)
+unfoldable pub nameNumberIn : Frame → List ℕ → Bool
+nameNumberIn k l = reading (nameOf k l) false (λ a n. nameNumbered a)
 
 -- what has the problem f ends at p; at the end e where it is refused
 abbrev pub ends : ℕ → ℕ → ℕ → ℕ
@@ -50,20 +50,20 @@ ends (suc f) p e = e
 
 -- of what a rule read from a place on, with its problem by f
 abbrev pub endOf : {A : Type 0} → (A → ℕ) → ℕ → ℕ → Option (A × ℕ) → ℕ
-endOf f at e o = past o e (λ a n. ends (f a) (at + n) e)
+endOf f at e o = reading o e (λ a n. ends (f a) (at + n) e)
 
 -- the frame of a container, by its kind byte 10, 11 or 12
 unfoldable pub frameOf : ℕ → Frame
 frameOf k = if (eqb k 10) ListF (if (eqb k 11) Sexp Struct)
 
 -- of annotations, with their problem f: refused, or they end at p; m: there are annotations, b: there is an identifier but 0
-abbrev pub front : ℕ → ℕ → Bool → Bool → Front
-front zero p m b = F.Whole p m b
-front (suc f) p m b = F.Bad
+abbrev pub frontAs : ℕ → ℕ → Bool → Bool → Front
+frontAs zero p m b = F.Whole p m b
+frontAs (suc f) p m b = F.Bad
 
 -- of what a rule read from a place on, with its problem by f
 abbrev pub frontOf : {A : Type 0} → (A → ℕ) → (A → Bool) → (A → Bool) → ℕ → Option (A × ℕ) → Front
-frontOf f m b at o = past o F.Bad (λ a n. front (f a) (at + n) (m a) (b a))
+frontOf f m b at o = reading o F.Bad (λ a n. frontAs (f a) (at + n) (m a) (b a))
 
 -- of symbols that are annotations, behind an identifier but 0 if b
 abbrev pub symsFront : ℕ → Bool → Option (List Sym × ℕ) → Front

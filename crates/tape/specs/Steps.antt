@@ -11,7 +11,7 @@ use Rattle.output.specs.Logic.{if}
 use Rattle.text_rules.specs.Text.{Sym}
 use Rattle.tape.specs.Bytes.{part}
 use Rattle.tape.specs.Tree.{Scalar, Head, null, bool, int, float, decimal, timestamp, symbol, string, clob, scalar, marker}
-use Rattle.tape.specs.Tape.{past, lengthOf, headOf, Value, absent, leaf, body, bad, single, tree, childOf}
+use Rattle.tape.specs.Tape.{reading, lengthOf, headOf, Value, absent, leaf, body, bad, single, tree, childOf}
 use Rattle.tape.specs.declared.Frame.{Frame}
 use Rattle.tape.specs.declared.Scalar.{Scalar as ScalarC}
 use Rattle.tape.specs.declared.Scalar.the-variants as C
@@ -28,7 +28,7 @@ use Rattle.tape.specs.declared.Place.the-variants.{Bad as Nowhere, At}
 
 -- where it ends, for what starts at a place
 abbrev pub placeOf : {A : Type 0} → ℕ → Option (A × ℕ) → Place
-placeOf at o = past o Nowhere (λ a n. At (at + n))
+placeOf at o = reading o Nowhere (λ a n. At (at + n))
 
 -- the length behind the kind byte, if that many bytes follow it
 unfoldable pub lengthIn : List ℕ → Place
@@ -88,7 +88,7 @@ pub record Behind (s : List ℕ) (p e : ℕ) (v : Value) (r : ChildC) : Type 0 w
 
 -- the head of the child at the start of a list, if it has one that is as it must be
 abbrev pub headAt : Frame → List ℕ → Head
-headAt k l = past (headOf k l) (none, []) (λ h n. h)
+headAt k l = reading (headOf k l) (none, []) (λ h n. h)
 
 -- what the code says of the child at a place
 abbrev pub ChildIs : Frame → List ℕ → ℕ → ℕ → ChildC → Type 0

@@ -18,9 +18,9 @@ use Rattle.tape.specs.declared.Frame.{Frame}
 use Rattle.tape.specs.declared.Frame.the-variants.{Top, List as ListF, Sexp, Struct}
 
 -- goes on with what was read and the number of its bytes, or gives b
-abbrev pub past : {A B : Type 0} → Option (A × ℕ) → B → (A → ℕ → B) → B
-past none b g = b
-past (some a) b g = g (a .0) (a .1)
+abbrev pub reading : {A B : Type 0} → Option (A × ℕ) → B → (A → ℕ → B) → B
+reading none b g = b
+reading (some a) b g = g (a .0) (a .1)
 
 abbrev pub kind : List ℕ → ℕ
 kind l = getD l 0 0
@@ -37,13 +37,13 @@ textOf l = if (leb (5 + lengthOf l) (length l)) (some (take (lengthOf l) (drop 5
 
 unfoldable pub symOf : List ℕ → Option (Sym × ℕ)
 symOf l =
-    if (eqb (kind l) 6) (past (textOf l) none (λ s n. some (Sym.text s, n)))
+    if (eqb (kind l) 6) (reading (textOf l) none (λ s n. some (Sym.text s, n)))
     (if (eqb (kind l) 7) (if (leb 5 (length l)) (some (Sym.id (lengthOf l), 5)) none) none)
 
 -- c symbols
 unfoldable pub symsOf : ℕ → List ℕ → Option (List Sym × ℕ)
 symsOf zero l = some ([], 0)
-symsOf (suc c) l = past (symOf l) none (λ s n. past (symsOf c (drop n l)) none (λ ss m. some (s ∷ ss, n + m)))
+symsOf (suc c) l = reading (symOf l) none (λ s n. reading (symsOf c (drop n l)) none (λ ss m. some (s ∷ ss, n + m)))
 
 -- ---- what stands before a value
 
@@ -52,17 +52,17 @@ unfoldable pub nameOf : Frame → List ℕ → Option (Option Sym × ℕ)
 nameOf Top l = some (none, 0)
 nameOf ListF l = some (none, 0)
 nameOf Sexp l = some (none, 0)
-nameOf Struct l = past (symOf l) none (λ s n. some (some s, n))
+nameOf Struct l = reading (symOf l) none (λ s n. some (some s, n))
 
 -- count 1..16, that many nodes 6 or 7; or no annotations
 unfoldable pub notesOf : List ℕ → Option (List Sym × ℕ)
 notesOf l =
     if (eqb (kind l) 13)
-    (if (leb 1 (getD l 1 0)) (if (leb (getD l 1 0) 16) (past (symsOf (getD l 1 0) (drop 2 l)) none (λ ss n. some (ss, 2 + n))) none) none)
+    (if (leb 1 (getD l 1 0)) (if (leb (getD l 1 0) 16) (reading (symsOf (getD l 1 0) (drop 2 l)) none (λ ss n. some (ss, 2 + n))) none) none)
     (some ([], 0))
 
 unfoldable pub headOf : Frame → List ℕ → Option (Head × ℕ)
-headOf k l = past (nameOf k l) none (λ a n. past (notesOf (drop n l)) none (λ ss m. some ((a, ss), n + m)))
+headOf k l = reading (nameOf k l) none (λ a n. reading (notesOf (drop n l)) none (λ ss m. some ((a, ss), n + m)))
 
 -- ---- scalars, each from its bytes
 
@@ -109,10 +109,10 @@ unfoldable pub timestampOf : List ℕ → Option (Scalar × ℕ)
 timestampOf l = if (leb 16 (length l)) (some (timestamp (timestampAs l), 16)) none
 
 unfoldable pub symbolOf : List ℕ → Option (Scalar × ℕ)
-symbolOf l = past (symOf l) none (λ s n. some (symbol s, n))
+symbolOf l = reading (symOf l) none (λ s n. some (symbol s, n))
 
 unfoldable pub sizedOf : (List ℕ → Scalar) → List ℕ → Option (Scalar × ℕ)
-sizedOf f l = past (textOf l) none (λ s n. some (f s, n))
+sizedOf f l = reading (textOf l) none (λ s n. some (f s, n))
 
 -- the kinds of scalars; null's type byte is 0..12, a bool 0 or 1
 unfoldable pub scalarOf : List ℕ → Option (Scalar × ℕ)
@@ -142,12 +142,12 @@ openOf k l = if (leb (5 + lengthOf l) (length l)) (body k (lengthOf l)) absent
 
 -- free: a marker may stand here
 unfoldable pub valueOf : Bool → List ℕ → Value
-valueOf free l =
+valueOf freeAt l =
     if (eqb (kind l) 10) (openOf ListF l)
     (if (eqb (kind l) 11) (openOf Sexp l)
     (if (eqb (kind l) 12) (openOf Struct l)
-    (if (eqb (kind l) 14) (if free (leaf marker 1) absent)
-    (past (scalarOf l) absent (λ s n. leaf (scalar s) n)))))
+    (if (eqb (kind l) 14) (if freeAt (leaf marker 1) absent)
+    (reading (scalarOf l) absent (λ s n. leaf (scalar s) n)))))
 
 -- ---- children: a head and a value
 
@@ -159,19 +159,19 @@ pub data Child : Type 0 where
   tree : Head → Frame → ℕ → ℕ → Child
 
 -- a marker stands at top level, unannotated
-unfoldable pub free : Frame → List ℕ → Bool
-free Top l = if (eqb (kind l) 13) false true
-free ListF l = false
-free Sexp l = false
-free Struct l = false
+unfoldable pub freeAt : Frame → List ℕ → Bool
+freeAt Top l = if (eqb (kind l) 13) false true
+freeAt ListF l = false
+freeAt Sexp l = false
+freeAt Struct l = false
 
-abbrev pub behind : Head → ℕ → Value → Child
-behind h n absent = bad
-behind h n (leaf v m) = single h v (n + m)
-behind h n (body f m) = tree h f (n + 5) m
+abbrev pub headedChild : Head → ℕ → Value → Child
+headedChild h n absent = bad
+headedChild h n (leaf v m) = single h v (n + m)
+headedChild h n (body f m) = tree h f (n + 5) m
 
 unfoldable pub childOf : Frame → List ℕ → Child
-childOf k l = past (headOf k l) bad (λ h n. behind h n (valueOf (free k l) (drop n l)))
+childOf k l = reading (headOf k l) bad (λ h n. headedChild h n (valueOf (freeAt k l) (drop n l)))
 
 -- ---- what is wrong with contents that stand where they must: the refusal, or 0
 

@@ -9,7 +9,7 @@ ghost use Rattle.text_rules.specs.Utf8.{valid};
 ghost use Rattle.tape.specs.Bytes.{part, first};
 ghost use Rattle.tape.specs.Tree.{null, bool};
 ghost use Rattle.tape.specs.Tape.{kind, textOf, symOf, symsOf, nameOf, notesOf, byteOf, intOf, floatAs, floatOf, decimalOf, timestampOf, scalarOf, textFault, symFault, nameFault, walk};
-ghost use Rattle.tape.specs.CheckSteps.{codeOf, scalarCode, spanOf, numberIn, nameIn, endOf, frameOf, symsFront, notesFront, Checks, Refuses, TapeChecks};
+ghost use Rattle.tape.specs.CheckSteps.{codeOf, scalarCode, spanOf, numberIn, nameNumberIn, endOf, frameOf, symsFront, notesFront, Checks, Refuses, TapeChecks};
 use crate::Frame;
 
 // Annotations: refused, always by 2; or where they end, and, of them and of the nodes before them, whether there are annotations and whether
@@ -367,7 +367,7 @@ fn behind_name(tape: &[u8], at: usize, end: usize, frame: Frame) -> usize
 fn name_number(tape: &[u8], at: usize, end: usize, frame: Frame) -> bool
     requires { ⌜ at < end ⌝ }
     requires { ⌜ end ≤ length (now tape) ⌝ }
-    ensures { λ r. ⌜ r ≡ nameIn frame (part (now (tape .entry)) at end) ⌝ }
+    ensures { λ r. ⌜ r ≡ nameNumberIn frame (part (now (tape .entry)) at end) ⌝ }
 {
     match frame {
         Frame::Struct => is_number(tape, at, end),

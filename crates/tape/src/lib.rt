@@ -9,7 +9,7 @@ ghost use mathlib.Core.List.{List};
 ghost use lib.ListN.{length, drop};
 ghost use Rattle.tape.specs.Bytes.{leNumber, signed, part};
 ghost use Rattle.tape.specs.Tree.{null, bool, string, clob};
-ghost use Rattle.tape.specs.Tape.{symOf, symsOf, nameOf, notesOf, headOf, byteOf, intOf, floatAs, floatOf, decimalOf, timestampAs, timestampOf, symbolOf, sizedOf, scalarOf, openOf, valueOf, free};
+ghost use Rattle.tape.specs.Tape.{symOf, symsOf, nameOf, notesOf, headOf, byteOf, intOf, floatAs, floatOf, decimalOf, timestampAs, timestampOf, symbolOf, sizedOf, scalarOf, openOf, valueOf, freeAt};
 ghost use Rattle.tape.specs.Steps.{placeOf, lengthIn, meantSym, scanned, sizeOf, meant, Behind, ChildAt};
 use numbers::timestamp::Timestamp;
 
@@ -551,7 +551,7 @@ fn head_end(tape: &[u8], at: usize, end: usize, frame: Frame) -> Place
 fn is_free(tape: &[u8], at: usize, end: usize, frame: Frame) -> bool
     requires { ⌜ at < end ⌝ }
     requires { ⌜ end ≤ length (now tape) ⌝ }
-    ensures { λ r. ⌜ r ≡ free frame (part (now (tape .entry)) at end) ⌝ }
+    ensures { λ r. ⌜ r ≡ freeAt frame (part (now (tape .entry)) at end) ⌝ }
 {
     match frame {
         Frame::Top => tape[at] != 13,

@@ -12,7 +12,7 @@ use lib.ListN.{length, take, drop, replicate, length-append, replicate-append-re
 use lib.Seq.{take-at, drop-at}
 use borrow.Author.Tests.{lt-ltb, le-leb, ltb-true, ltb-false, leb-true, ne-eqb}
 use Rattle.output.specs.Logic.{if, byte}
-use Rattle.text_rules.specs.Digits.{pad, count, digits, isDigit, run, past, number, whole}
+use Rattle.text_rules.specs.Digits.{pad, count, digits, isDigit, run, behindDigits, number, whole}
 
 pub never : {A : Type 0} → true ≡ false → A
 never h = let n : _≡_ {A = ℕ} 0 1 = cc in let bad : ⊥ = omega arith in absurd bad
@@ -62,8 +62,8 @@ unfolding run
 run-none [] h = refl
 run-none (c ∷ r) h = rw h
 
-pub past-none : (r : List ℕ) → NoDigit r → past r ≡ r
-unfolding past
+pub past-none : (r : List ℕ) → NoDigit r → behindDigits r ≡ r
+unfolding behindDigits
 past-none [] h = refl
 past-none (c ∷ r) h = rw h
 
@@ -72,8 +72,8 @@ unfolding run
 run-digits [] r h n = run-none r n
 run-digits (c ∷ s) r h n = rw (h .0) (ap (λ (l : List ℕ). c ∷ l) (run-digits s r (h .1) n))
 
-pub past-digits : (s r : List ℕ) → Digits s → NoDigit r → past (s ++ r) ≡ r
-unfolding past
+pub past-digits : (s r : List ℕ) → Digits s → NoDigit r → behindDigits (s ++ r) ≡ r
+unfolding behindDigits
 past-digits [] r h n = past-none r n
 past-digits (c ∷ s) r h n = rw (h .0) (past-digits s r (h .1) n)
 

@@ -19,7 +19,7 @@ use Rattle.output.proofs.Laws.{sets-append, sets-twice, length-le}
 use Rattle.output.proofs.Words.{le-add, drop-le, pow-bytes, le-lap, le-sum}
 use borrow.Author.Tests.{leb-true}
 use Rattle.text_rules.specs.Digits.{pad, count, digits}
-use Rattle.text_rules.specs.DigitSteps.{Led, Ahead, packed, word, wordOf}
+use Rattle.text_rules.specs.DigitSteps.{Led, Ahead, packed, digitWord, wordOf}
 use Rattle.text_rules.proofs.DigitLaws.{pow-pos10, length-pad, pad-split, count-most, last-one}
 use Rattle.text_rules.proofs.DigitCode.{pad-mod, count-is, count-blocks}
 use Rattle.text_rules.proofs.Table.{same}
@@ -81,8 +81,8 @@ remainders a b c d h t e f = e ∙ rw f (go (a / 10) (a % 10) (b / 10) (b % 10) 
     go : (i j k l m n o p a b c d : ℕ) → a ≡ 10 * i + j → b ≡ 10 * k + l → c ≡ 10 * m + n → d ≡ 10 * o + p → packed a b c d ≡ 10 * packed i k m o + packed j l n p
     go i j k l m n o p a b c d ea eb ec ed = omega arith
 
-pub lanes-word : (a b c d h t : ℕ) → h ≡ packed a b c d → t ≡ packed (a / 10) (b / 10) (c / 10) (d / 10) → t + (h - 10 * t) * 256 ≡ word a b c d
-unfolding word
+pub lanes-word : (a b c d h t : ℕ) → h ≡ packed a b c d → t ≡ packed (a / 10) (b / 10) (c / 10) (d / 10) → t + (h - 10 * t) * 256 ≡ digitWord a b c d
+unfolding digitWord
 lanes-word a b c d h t e f =
     add-comm t ((h - 10 * t) * 256)
     ∙ after t (packed (a % 10) (b % 10) (c % 10) (d % 10)) h 10 256 (remainders a b c d h t e f)
@@ -158,8 +158,8 @@ quot y h = omega arith
 rest : (y : ℕ) → y % 10 < 10
 rest y = omega arith
 
-pub pairs-word : (a b c d : ℕ) → a < 100 → b < 100 → c < 100 → d < 100 → leBytes 8 (word a b c d + zeros) ≡ pad 2 a ++ pad 2 b ++ pad 2 c ++ pad 2 d
-unfolding pad word
+pub pairs-word : (a b c d : ℕ) → a < 100 → b < 100 → c < 100 → d < 100 → leBytes 8 (digitWord a b c d + zeros) ≡ pad 2 a ++ pad 2 b ++ pad 2 c ++ pad 2 d
+unfolding pad digitWord
 pairs-word a b c d ha hb hc hd =
     ap (leBytes 8) (zeros-sum (a / 10) (a % 10) (b / 10) (b % 10) (c / 10) (c % 10) (d / 10) (d % 10))
     ∙ le-sum (48 + a / 10) (48 + a % 10) (48 + b / 10) (48 + b % 10) (48 + c / 10) (48 + c % 10) (48 + d / 10) (48 + d % 10)
@@ -169,8 +169,8 @@ pairs-word a b c d ha hb hc hd =
     (under-ten (d / 10) (quot d hd)) (under-ten (d % 10) (rest d))
     ∙ rw (tenth a ha, tenth b hb, tenth c hc, tenth d hd)
 
-pub word-small : (a b c d : ℕ) → a < 100 → b < 100 → c < 100 → d < 100 → word a b c d < 720575940379279360
-unfolding word
+pub word-small : (a b c d : ℕ) → a < 100 → b < 100 → c < 100 → d < 100 → digitWord a b c d < 720575940379279360
+unfolding digitWord
 word-small a b c d ha hb hc hd = small (a / 10) (a % 10) (b / 10) (b % 10) (c / 10) (c % 10) (d / 10) (d % 10) (quot a ha) (rest a) (quot b hb) (rest b) (quot c hc) (rest c) (quot d hd) (rest d)
   where
     small : (a b c d e f g h : ℕ) → a < 10 → b < 10 → c < 10 → d < 10 → e < 10 → f < 10 → g < 10 → h < 10 → a + 256 * b + 65536 * c + 16777216 * d + 4294967296 * e + 1099511627776 * f + 281474976710656 * g + 72057594037927936 * h < 720575940379279360
@@ -343,7 +343,7 @@ nested : (a b c d e f g h : ℕ) → a + 256 * b + 65536 * c + 16777216 * d + 42
 nested a b c d e f g h = omega arith
 
 word-digits : (x : ℕ) → x < 100000000 → wordOf x ≡ x / 10000000 % 10 + 256 * (x / 1000000 % 10) + 65536 * (x / 100000 % 10) + 16777216 * (x / 10000 % 10) + 4294967296 * (x / 1000 % 10) + 1099511627776 * (x / 100 % 10) + 281474976710656 * (x / 10 % 10) + 72057594037927936 * (x % 10)
-unfolding word
+unfolding digitWord
 word-digits x h =
     let a : x / 1000000 / 10 ≡ x / 10000000 % 10 = omega arith in
     let c : x / 10000 % 100 / 10 ≡ x / 100000 % 10 = omega arith in

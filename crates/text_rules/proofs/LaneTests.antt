@@ -21,7 +21,7 @@ use Rattle.text_rules.specs.Texts.{empty, starts, strip, same}
 use Rattle.text_rules.specs.Digits.{isDigit}
 use Rattle.text_rules.specs.Utf8.{charAt, after, valid}
 use Rattle.text_rules.specs.Escapes.{hasLetter, textEscape, textBody}
-use Rattle.text_rules.specs.Words.{isStart, isPart, behind, isKeyword, resemblesSymbolId, resemblesVersionMarker, isIdentifier}
+use Rattle.text_rules.specs.Words.{isStart, isPart, behindWord, isKeyword, resemblesSymbolId, resemblesVersionMarker, isIdentifier}
 use Rattle.text_rules.specs.WordSteps.{isName, isBare, allPart}
 use Rattle.text_rules.specs.Text.{symbolText}
 use Rattle.text_rules.specs.Lanes.{Lane, rep, low, equalMark, letterMark}
@@ -116,11 +116,11 @@ unfolding isPart isStart isDigit
 part-test = agree (λ b. eqb (bitAnd (bitOr (0xFF - bitOr (bitOr (letterMark b) (digitMark b)) (equalMark 0x24 b)) b) 128) 0) isPart 256 refl
 
 pub every-part : (s : List ℕ) → every isPart s ≡ allPart s
-unfolding allPart behind every
+unfolding allPart behindWord every
 every-part [] = refl
 every-part (b ∷ s) = go (isPart b) (every-part s)
   where
-    go : (p : Bool) → every isPart s ≡ empty (behind s) → p && every isPart s ≡ empty (if p (behind s) (b ∷ s))
+    go : (p : Bool) → every isPart s ≡ empty (behindWord s) → p && every isPart s ≡ empty (if p (behindWord s) (b ∷ s))
     go true e = e
     go false e = refl
 
@@ -140,7 +140,7 @@ part-first b s h =
     both (isPart b) (allPart s) p
 
 names-part : (s : List ℕ) → every isName s ≡ true → allPart s ≡ true
-unfolding allPart behind every isPart isName
+unfolding allPart behindWord every isPart isName
 names-part [] h = refl
 names-part (b ∷ s) h =
     let p = both (isName b) (every isName s) h in
@@ -185,10 +185,10 @@ word-bare (suc n) x l p h k =
 
 -- a text that is no identifier, or is a keyword, is not bare
 pub identifier-part : (s : List ℕ) → isIdentifier s ≡ true → allPart s ≡ true
-unfolding isIdentifier allPart behind isPart
+unfolding isIdentifier allPart behindWord isPart
 identifier-part [] h = refl
 identifier-part (c ∷ s) h =
-    let p = both (isStart c) (empty (behind s)) h in
+    let p = both (isStart c) (empty (behindWord s)) h in
     rw (p .0) (p .1)
 
 pub other-marked : (s : List ℕ) → allPart s ≡ false → isBare s ≡ false

@@ -9,7 +9,7 @@ use borrow.Author.Tests.{eqb-true, ne-eqb, lt-leb, leb-true}
 use Rattle.output.specs.Logic.{byte}
 use Rattle.text_rules.specs.Digits.{isDigit}
 use Rattle.text_rules.specs.Texts.{empty, blank, delimiter, ended}
-use Rattle.text_rules.specs.Words.{isStart, isPart, word, behind, isIdentifier}
+use Rattle.text_rules.specs.Words.{isStart, isPart, word, behindWord, isIdentifier}
 use Rattle.text_rules.proofs.DigitLaws.{never, Digits}
 
 -- ---- what may follow a token is no part of a word
@@ -77,34 +77,34 @@ delimiter-not c x h e = ne-eqb c x (λ q. never (sym h ∙ ap delimiter q ∙ e)
 -- a word ends here
 pub record Stops (r : List ℕ) : Type 0 where
   pub no-word : word r ≡ []
-  pub all-behind : behind r ≡ r
+  pub all-behind : behindWord r ≡ r
 
 pub stops-at : (c : ℕ) (t : List ℕ) → isPart c ≡ false → Stops (c ∷ t)
-unfolding word behind
+unfolding word behindWord
 stops-at c t e = record { no-word = rw e; all-behind = rw e }
 
 pub stops : (r : List ℕ) → ended r ≡ true → Stops r
-unfolding word behind ended
+unfolding word behindWord ended
 stops [] h = record { no-word = refl; all-behind = refl }
 stops (c ∷ t) h = stops-at c t (delimiter-part c h)
 
 -- ---- a whole word, and what ends it
 
-behind-first : (c : ℕ) (w : List ℕ) → behind (c ∷ w) ≡ [] → (isPart c ≡ true) × (behind w ≡ [])
-unfolding behind
+behind-first : (c : ℕ) (w : List ℕ) → behindWord (c ∷ w) ≡ [] → (isPart c ≡ true) × (behindWord w ≡ [])
+unfolding behindWord
 behind-first c w h = go (isPart c) refl
   where
-    go : (b : Bool) → isPart c ≡ b → (isPart c ≡ true) × (behind w ≡ [])
+    go : (b : Bool) → isPart c ≡ b → (isPart c ≡ true) × (behindWord w ≡ [])
     go true e = (e, rw e at h)
     go false e = absurd (let z : _≡_ {A = List ℕ} (c ∷ w) [] = rw e at h in let y : _≡_ {A = ℕ} 0 1 = cc in omega arith)
 
-pub word-back : (w r : List ℕ) → behind w ≡ [] → Stops r → word (w ++ r) ≡ w
+pub word-back : (w r : List ℕ) → behindWord w ≡ [] → Stops r → word (w ++ r) ≡ w
 unfolding word
 word-back [] r h s = s .no-word
 word-back (c ∷ w) r h s = let p = behind-first c w h in rw (p .0) (ap (λ (l : List ℕ). c ∷ l) (word-back w r (p .1) s))
 
-pub behind-back : (w r : List ℕ) → behind w ≡ [] → Stops r → behind (w ++ r) ≡ r
-unfolding behind
+pub behind-back : (w r : List ℕ) → behindWord w ≡ [] → Stops r → behindWord (w ++ r) ≡ r
+unfolding behindWord
 behind-back [] r h s = s .all-behind
 behind-back (c ∷ w) r h s = let p = behind-first c w h in rw (p .0) (behind-back w r (p .1) s)
 
@@ -126,20 +126,20 @@ digit-part c h = go (isStart c)
     go true = refl
     go false = h
 
-pub behind-digits : (w : List ℕ) → Digits w → behind w ≡ []
-unfolding behind
+pub behind-digits : (w : List ℕ) → Digits w → behindWord w ≡ []
+unfolding behindWord
 behind-digits [] h = refl
 behind-digits (c ∷ w) h = rw (digit-part c (h .0)) (behind-digits w (h .1))
 
 -- an identifier starts as one, and is a word
-pub identifier-parts : (c : ℕ) (w : List ℕ) → isIdentifier (c ∷ w) ≡ true → (isStart c ≡ true) × (behind (c ∷ w) ≡ [])
-unfolding isIdentifier behind
+pub identifier-parts : (c : ℕ) (w : List ℕ) → isIdentifier (c ∷ w) ≡ true → (isStart c ≡ true) × (behindWord (c ∷ w) ≡ [])
+unfolding isIdentifier behindWord
 identifier-parts c w h =
-    let p = and-both (isStart c) (empty (behind w)) h in
-    (p .0, rw (start-part c (p .0)) (empty-is (behind w) (p .1)))
+    let p = and-both (isStart c) (empty (behindWord w)) h in
+    (p .0, rw (start-part c (p .0)) (empty-is (behindWord w) (p .1)))
 
-pub identifier-word : (w : List ℕ) → isIdentifier w ≡ true → behind w ≡ []
-identifier-word [] h = unfold behind in refl
+pub identifier-word : (w : List ℕ) → isIdentifier w ≡ true → behindWord w ≡ []
+identifier-word [] h = unfold behindWord in refl
 identifier-word (c ∷ w) h = identifier-parts c w h .1
 
 -- a byte of a word is none that is no part of one

@@ -9,9 +9,9 @@ use lib.ListN.{length, take, drop, getD, length-drop, length-take}
 use lib.Dec.{eqb, leb}
 use borrow.Author.Tests.{eq-eqb, ne-eqb, le-leb, lt-leb, eqb-true, eqb-false}
 use Rattle.output.specs.Logic.{if, on, byte, ascii}
-use Rattle.text_rules.specs.Digits.{isDigit, run, past, number, whole}
+use Rattle.text_rules.specs.Digits.{isDigit, run, behindDigits, number, whole}
 use Rattle.text_rules.specs.Texts.{empty, starts, strip, same}
-use Rattle.text_rules.specs.Words.{isStart, isPart, word, behind, allDigits, version, resemblesSymbolId, resemblesVersionMarker, isIdentifier, isKeyword, symbolId, kindOf}
+use Rattle.text_rules.specs.Words.{isStart, isPart, word, behindWord, allDigits, version, resemblesSymbolId, resemblesVersionMarker, isIdentifier, isKeyword, symbolId, kindOf}
 use Rattle.text_rules.specs.WordSteps.{Spanned, Passed, WordStands, bounded}
 use Rattle.text_rules.specs.declared.words.Kind.the-variants.{Null, True, False, Nan, Marker, Number, Text, Refused}
 use Rattle.text_rules.proofs.Places.{byte-at, end-at}
@@ -61,15 +61,15 @@ zero-long : (i : ℕ) → i - i ≡ 0
 zero-long i = omega arith
 
 pub spanned-stop : (t : List ℕ) (i : ℕ) → i < length t → isPart (getD t i 0) ≡ false → Spanned t i i
-unfolding word behind
+unfolding word behindWord
 spanned-stop t i h e = record { ahead = omega arith; inside = omega arith; rest = rw (byte-at t i h, e); bytes = ap (λ (n : ℕ). take n (drop i t)) (zero-long i) ∙ rw (byte-at t i h, e) }
 
 pub spanned-end : (t : List ℕ) (i : ℕ) → i ≡ length t → Spanned t i i
-unfolding word behind
+unfolding word behindWord
 spanned-end t i h = record { ahead = omega arith; inside = omega arith; rest = rw (end-at t i h); bytes = ap (λ (n : ℕ). take n (drop i t)) (zero-long i) ∙ rw (end-at t i h) }
 
 pub spanned-more : (t : List ℕ) (i r : ℕ) → i < length t → isPart (getD t i 0) ≡ true → Spanned t (i + 1) r → Spanned t i r
-unfolding word behind
+unfolding word behindWord
 spanned-more t i r h e s = record {
   ahead = omega arith;
   inside = s .inside;
@@ -144,16 +144,16 @@ same-is (x ∷ w) (c ∷ t) h = go (eqb c x) refl (same-is w t)
 
 -- ---- digits
 
-pub passed-stop : (t : List ℕ) (i : ℕ) → i < length t → isDigit (getD t i 0) ≡ false → drop i t ≡ past (drop i t)
-unfolding past
+pub passed-stop : (t : List ℕ) (i : ℕ) → i < length t → isDigit (getD t i 0) ≡ false → drop i t ≡ behindDigits (drop i t)
+unfolding behindDigits
 passed-stop t i h e = rw (byte-at t i h, e)
 
-pub past-digit : (t : List ℕ) (i : ℕ) → i < length t → isDigit (getD t i 0) ≡ true → past (drop i t) ≡ past (drop (i + 1) t)
-unfolding past
+pub past-digit : (t : List ℕ) (i : ℕ) → i < length t → isDigit (getD t i 0) ≡ true → behindDigits (drop i t) ≡ behindDigits (drop (i + 1) t)
+unfolding behindDigits
 past-digit t i h e = rw (byte-at t i h, e)
 
-pub passed-end : (t : List ℕ) (i : ℕ) → i ≡ length t → drop i t ≡ past (drop i t)
-unfolding past
+pub passed-end : (t : List ℕ) (i : ℕ) → i ≡ length t → drop i t ≡ behindDigits (drop i t)
+unfolding behindDigits
 passed-end t i h = rw (end-at t i h)
 
 -- nothing is left exactly at the end
@@ -166,11 +166,11 @@ ends-here t i h = go (eqb i (length t)) refl
         let l : i < length t = let n : i ≡ length t → ⊥ = eqb-false i (length t) e in omega (arith, n) in
         e ∙ rw (byte-at t i l)
 
-digits-past : (c : ℕ) (t : List ℕ) → empty (past (c ∷ t)) ≡ allDigits (c ∷ t)
-unfolding past allDigits
+digits-past : (c : ℕ) (t : List ℕ) → empty (behindDigits (c ∷ t)) ≡ allDigits (c ∷ t)
+unfolding behindDigits allDigits
 digits-past c t = go (isDigit c)
   where
-    go : (b : Bool) → empty (if b (past t) (c ∷ t)) ≡ b && empty (past t)
+    go : (b : Bool) → empty (if b (behindDigits t) (c ∷ t)) ≡ b && empty (behindDigits t)
     go true = refl
     go false = refl
 
@@ -388,7 +388,7 @@ module _ (t : List ℕ) (i : ℕ) where
 
   module _ (h : i < length t) (d : isDigit (getD t i 0) ≡ true) {e : ℕ} (p : Passed t (i + 1) e) where
     version-behind : version (drop i t) ≡ starts (byte "_") (drop e t) && allDigits (drop 1 (drop e t))
-    unfolding version run past
+    unfolding version run behindDigits
     version-behind = rw (byte-at t i h, d, ← p .is)
 
     pub version-short : e ≡ length t → version (drop i t) ≡ false
@@ -414,12 +414,12 @@ pub identifier-here : (w : List ℕ) (r : ℕ) → 0 < length w → isStart (get
 identifier-here w r h e s = ends-here w r (s .inside) ∙ ap empty (s .rest) ∙ sym (ap isIdentifier (byte-at w 0 h) ∙ unfold isIdentifier in rw e)
 
 -- all bytes of a word are parts
-pub behind-word : (t : List ℕ) → behind (word t) ≡ []
-unfolding behind word
+pub behind-word : (t : List ℕ) → behindWord (word t) ≡ []
+unfolding behindWord word
 behind-word [] = refl
 behind-word (c ∷ t) = go (isPart c) refl (behind-word t)
   where
-    go : (b : Bool) → isPart c ≡ b → behind (word t) ≡ [] → behind (if b (c ∷ word t) []) ≡ []
+    go : (b : Bool) → isPart c ≡ b → behindWord (word t) ≡ [] → behindWord (if b (c ∷ word t) []) ≡ []
     go true e h = rw e h
     go false e h = refl
 

@@ -36,9 +36,9 @@ unfoldable pub run : List ℕ → List ℕ
 run [] = []
 run (c ∷ t) = if (isDigit c) (c ∷ run t) []
 
-unfoldable pub past : List ℕ → List ℕ
-past [] = []
-past (c ∷ t) = if (isDigit c) (past t) (c ∷ t)
+unfoldable pub behindDigits : List ℕ → List ℕ
+behindDigits [] = []
+behindDigits (c ∷ t) = if (isDigit c) (behindDigits t) (c ∷ t)
 
 -- the number that digits are, behind those whose number is a
 unfoldable pub number : ℕ → List ℕ → ℕ

@@ -8,8 +8,8 @@ use lib.Dec.{leb, eqb}
 use lib.ListN.{length, take, drop}
 use Rattle.output.specs.Logic.{if, byte}
 use Rattle.text_rules.specs.Texts.{empty, strip}
-use Rattle.text_rules.specs.Digits.{past}
-use Rattle.text_rules.specs.Words.{isStart, isKeyword, resemblesSymbolId, resemblesVersionMarker, isIdentifier, word, behind, kindOf}
+use Rattle.text_rules.specs.Digits.{behindDigits}
+use Rattle.text_rules.specs.Words.{isStart, isKeyword, resemblesSymbolId, resemblesVersionMarker, isIdentifier, word, behindWord, kindOf}
 use Rattle.text_rules.specs.declared.words.Word.{Word}
 use Rattle.text_rules.specs.declared.words.Kind.{Kind}
 use Rattle.text_rules.specs.declared.words.Kind.the-variants.{Number, Refused}
@@ -18,14 +18,14 @@ use Rattle.text_rules.specs.declared.words.Kind.the-variants.{Number, Re
 pub record Spanned (text : List ℕ) (at r : ℕ) : Type 0 where
   pub ahead : at ≤ r
   pub inside : r ≤ length text
-  pub rest : drop r text ≡ behind (drop at text)
+  pub rest : drop r text ≡ behindWord (drop at text)
   pub bytes : take (r - at) (drop at text) ≡ word (drop at text)
 
 -- the digits from a place up to r are passed
 pub record Passed (text : List ℕ) (at r : ℕ) : Type 0 where
   pub ahead : at ≤ r
   pub inside : r ≤ length text
-  pub is : drop r text ≡ past (drop at text)
+  pub is : drop r text ≡ behindDigits (drop at text)
 
 -- whether a word stands at a place, and then the text behind it
 pub record WordStands (text : List ℕ) (at : ℕ) (w : List ℕ) (r : Bool) : Type 0 where
@@ -40,7 +40,7 @@ bounded n = if (leb n 4_294_967_295) (Number n) Refused
 pub record WordAt (text : List ℕ) (at : ℕ) (r : Word) : Type 0 where
   pub ahead : at ≤ r .end
   pub inside : r .end ≤ length text
-  pub rest : drop (r .end) text ≡ behind (drop at text)
+  pub rest : drop (r .end) text ≡ behindWord (drop at text)
   pub bytes : take (r .end - at) (drop at text) ≡ word (drop at text)
   pub kind : r .kind ≡ kindOf (word (drop at text))
 
@@ -54,7 +54,7 @@ isBare s = isIdentifier s && (not (isKeyword s) && (not (resemblesSymbolId s) &&
 
 -- every byte is one of an identifier
 unfoldable pub allPart : List ℕ → Bool
-allPart s = empty (behind s)
+allPart s = empty (behindWord s)
 
 -- a letter or `_`: the first byte of most names
 unfoldable pub isName : ℕ → Bool

@@ -5,7 +5,7 @@ use mathlib.Core.List.{List, [], _∷_}
 use lib.Dec.{eqb, leb}
 use lib.ListN.{drop}
 use Rattle.output.specs.Logic.{if, on, byte, ascii}
-use Rattle.text_rules.specs.Digits.{isDigit, run, past, number, whole}
+use Rattle.text_rules.specs.Digits.{isDigit, run, behindDigits, number, whole}
 use Rattle.text_rules.specs.Texts.{empty, starts, strip, same}
 use Rattle.text_rules.specs.declared.words.Kind.{Kind}
 use Rattle.text_rules.specs.declared.words.Kind.the-variants.{Null, True, False, Nan, Marker, Number, Text, Refused}
@@ -23,14 +23,14 @@ unfoldable pub word : List ℕ → List ℕ
 word [] = []
 word (c ∷ t) = if (isPart c) (c ∷ word t) []
 
-unfoldable pub behind : List ℕ → List ℕ
-behind [] = []
-behind (c ∷ t) = if (isPart c) (behind t) (c ∷ t)
+unfoldable pub behindWord : List ℕ → List ℕ
+behindWord [] = []
+behindWord (c ∷ t) = if (isPart c) (behindWord t) (c ∷ t)
 
 -- one digit at least, and nothing else
 unfoldable pub allDigits : List ℕ → Bool
 allDigits [] = false
-allDigits (c ∷ t) = isDigit c && empty (past t)
+allDigits (c ∷ t) = isDigit c && empty (behindDigits t)
 
 -- true, false, nan or null
 unfoldable pub isKeyword : List ℕ → Bool
@@ -42,7 +42,7 @@ resemblesSymbolId w = starts (byte "$") w && allDigits (drop 1 w)
 
 -- digits, `_` and digits
 unfoldable pub version : List ℕ → Bool
-version t = not (empty (run t)) && starts (byte "_") (past t) && allDigits (drop 1 (past t))
+version t = not (empty (run t)) && starts (byte "_") (behindDigits t) && allDigits (drop 1 (behindDigits t))
 
 -- `$ion_` digits `_` digits
 unfoldable pub resemblesVersionMarker : List ℕ → Bool
@@ -51,7 +51,7 @@ resemblesVersionMarker w = on (strip (ascii "$ion_") w) version false
 -- an identifier: `$`, `_` or ASCII letter, then these or digits
 unfoldable pub isIdentifier : List ℕ → Bool
 isIdentifier [] = false
-isIdentifier (c ∷ t) = isStart c && empty (behind t)
+isIdentifier (c ∷ t) = isStart c && empty (behindWord t)
 
 -- ---- bare words, read
 

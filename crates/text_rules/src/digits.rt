@@ -6,7 +6,7 @@ ghost use lib.ListN.{length, drop};
 ghost use lib.Seq.{sets};
 ghost use Rattle.output.specs.Wrote.{Wrote, limit, leBytes};
 ghost use Rattle.text_rules.specs.Digits.{digit, pad, count, digits, zeroPadded, isDigit};
-ghost use Rattle.text_rules.specs.DigitSteps.{Led, Ahead, Ran, Lanes, Split, Zeros, wordOf};
+ghost use Rattle.text_rules.specs.DigitSteps.{Led, Ahead, RunJoined, PairLanes, Split, Zeros, wordOf};
 
 // Ten to the power k: the compiler makes a table of the arms.
 pub fn pow10(k: usize) -> u64
@@ -75,7 +75,7 @@ const ZEROS: u64 = 0x3030303030303030;
 // The eight digits, as numbers, of four numbers below 100 in lanes of sixteen bits: all four by ten with one product, as
 // x * 103 / 1024 is x / 10.
 fn lanes(h: u64) -> u64
-    requires { ⌜ Lanes h ⌝ }
+    requires { ⌜ PairLanes h ⌝ }
     ensures { λ r. ⌜ Split h r ⌝ }
 {
     let u = h * 103 / 1024;
@@ -361,7 +361,7 @@ pub enum Joined {
 // The digits from a place on, joined behind those whose number is acc.
 pub fn digits_at(text: &[u8], from: usize, acc: u64) -> Joined
     requires { ⌜ from ≤ length (now text) ⌝ }
-    ensures { λ r. ⌜ Ran (now (text .entry)) from acc r ⌝ }
+    ensures { λ r. ⌜ RunJoined (now (text .entry)) from acc r ⌝ }
 {
     let mut n = acc;
     let mut i = from;

@@ -12,14 +12,14 @@ use borrow.Author.Tests.{eqb-true}
 use Rattle.output.specs.Logic.{if, or, ascii}
 use Rattle.text_rules.specs.Digits.{isDigit}
 use Rattle.text_rules.specs.Texts.{strip, same, ended}
-use Rattle.text_rules.specs.Words.{isStart, isPart, word, behind}
+use Rattle.text_rules.specs.Words.{isStart, isPart, word, behindWord}
 use Rattle.text_rules.specs.Text.{bitsText, floatText}
 use Rattle.tokens.specs.Token.{nanWord, spelled, float}
 use Rattle.text_rules.proofs.WordsBack.{stops, word-back, behind-back}
 use Rattle.text_rules.proofs.FloatsBits.{no-nan, not-nan}
 
-nan-word : behind (ascii "nan") ≡ []
-unfolding behind isPart isStart
+nan-word : behindWord (ascii "nan") ≡ []
+unfolding behindWord isPart isStart
 nan-word = refl
 
 nan-text : (r : List ℕ) → ended r ≡ true → float (ascii "nan" ++ r) ≡ some (nan, r)

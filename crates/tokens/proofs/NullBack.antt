@@ -9,7 +9,7 @@ use borrow.Author.Tests.{ne-eqb}
 use Rattle.output.specs.Logic.{if, byte, ascii}
 use Rattle.text_rules.specs.Digits.{isDigit}
 use Rattle.text_rules.specs.Texts.{starts, strip, same, blank, delimiter, ended}
-use Rattle.text_rules.specs.Words.{isStart, isPart, word, behind, kindOf}
+use Rattle.text_rules.specs.Words.{isStart, isPart, word, behindWord, kindOf}
 use Rattle.text_rules.specs.Text.{nullText, typeName, boolText}
 use Rattle.tokens.specs.Token.{typeOf, nullBehind, null, boolOf, bool}
 use Rattle.text_rules.specs.declared.words.Kind.{Kind}
@@ -19,8 +19,8 @@ use Rattle.text_rules.proofs.WordsBack.{Stops, stops, stops-at, word-back, behi
 
 -- ---- nulls
 
-null-word : behind (ascii "null") ≡ []
-unfolding behind isPart isStart
+null-word : behindWord (ascii "null") ≡ []
+unfolding behindWord isPart isStart
 null-word = refl
 
 no-point : (r : List ℕ) → ended r ≡ true → starts (byte ".") r ≡ false
@@ -42,7 +42,7 @@ point-part : isPart (byte ".") ≡ false
 unfolding isPart isStart isDigit
 point-part = refl
 
-typed-back : (w r : List ℕ) (t : ℕ) → behind w ≡ [] → typeOf w ≡ some t → ended r ≡ true → null ((ascii "null." ++ w) ++ r) ≡ some (t, r)
+typed-back : (w r : List ℕ) (t : ℕ) → behindWord w ≡ [] → typeOf w ≡ some t → ended r ≡ true → null ((ascii "null." ++ w) ++ r) ≡ some (t, r)
 typed-back w r t a h e =
     null-stops (byte "." ∷ (w ++ r)) (stops-at (byte ".") (w ++ r) point-part) ∙ point-back
   where
@@ -50,8 +50,8 @@ typed-back w r t a h e =
     point-back = unfold nullBehind starts in rw (word-back w r a (stops r e), h, behind-back w r a (stops r e))
 
 -- the types' names are words, and name them
-named : (t : ℕ) → t ≤ 11 → (behind (typeName (suc t)) ≡ []) × (typeOf (typeName (suc t)) ≡ some (suc t))
-unfolding behind isPart isStart typeName typeOf same strip
+named : (t : ℕ) → t ≤ 11 → (behindWord (typeName (suc t)) ≡ []) × (typeOf (typeName (suc t)) ≡ some (suc t))
+unfolding behindWord isPart isStart typeName typeOf same strip
 named zero h = (refl, refl)
 named (suc zero) h = (refl, refl)
 named (suc (suc zero)) h = (refl, refl)
@@ -92,8 +92,8 @@ abbrev kindOfBool : Bool → Kind
 kindOfBool true = True
 kindOfBool false = False
 
-bool-word : (b : Bool) → behind (boolText b) ≡ []
-unfolding boolText behind isPart isStart
+bool-word : (b : Bool) → behindWord (boolText b) ≡ []
+unfolding boolText behindWord isPart isStart
 bool-word true = refl
 bool-word false = refl
 

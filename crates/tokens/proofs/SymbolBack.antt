@@ -9,14 +9,14 @@ use lib.Dec.{eqb}
 use lib.ListN.{length}
 use borrow.Author.Tests.{le-leb, ne-eqb}
 use Rattle.output.specs.Logic.{byte}
-use Rattle.text_rules.specs.Digits.{isDigit, digits, past}
+use Rattle.text_rules.specs.Digits.{isDigit, digits, behindDigits}
 use Rattle.text_rules.specs.Texts.{starts, strip, ended}
-use Rattle.text_rules.specs.Words.{isStart, isPart, word, behind, allDigits, resemblesVersionMarker, isIdentifier, symbolId, kindOf}
+use Rattle.text_rules.specs.Words.{isStart, isPart, word, behindWord, allDigits, resemblesVersionMarker, isIdentifier, symbolId, kindOf}
 use Rattle.text_rules.specs.Utf8.{valid}
 use Rattle.text_rules.specs.Escapes.{textBody}
 use Rattle.text_rules.specs.Text.{marked, symbolText, symbolIdText}
 use Rattle.text_rules.specs.Text.{Sym}
-use Rattle.tokens.specs.Token.{symbolOf, bareSymbol, quotedSymbol, symbol}
+use Rattle.tokens.specs.Token.{wordSymbol, bareSymbol, quotedSymbol, symbol}
 use Rattle.text_rules.specs.WordSteps.{isBare}
 use Rattle.text_rules.specs.declared.words.Kind.{Kind}
 use Rattle.text_rules.specs.declared.words.Kind.the-variants.{Number, Text}
@@ -32,7 +32,7 @@ use Rattle.text_rules.proofs.WordsBack.{identifier-word, Stops, stops, word-bac
 pub bare-kind : (s : List ℕ) → isBare s ≡ true → kindOf s ≡ Text
 bare-kind s h = let b = bare-is s h in kind-bare s (b .no-keyword) (b .no-version) (b .no-number) (b .identifier)
 
-word-symbol : (w r : List ℕ) (k : Kind) (x : Sym) → behind w ≡ [] → kindOf w ≡ k → symbolOf k w ≡ some x → Stops r → bareSymbol (w ++ r) ≡ some (x, r)
+word-symbol : (w r : List ℕ) (k : Kind) (x : Sym) → behindWord w ≡ [] → kindOf w ≡ k → wordSymbol k w ≡ some x → Stops r → bareSymbol (w ++ r) ≡ some (x, r)
 unfolding bareSymbol
 word-symbol w r k x a e h s = rw (word-back w r a s, e, h, behind-back w r a s)
 
@@ -58,7 +58,7 @@ unfolding allDigits resemblesVersionMarker strip
 dollar-digits [] l h = absurd (omega arith)
 dollar-digits (c ∷ w) l h =
     let d = digit-range c (h .0) in
-    let p : past w ≡ [] = ap past (sym (append-nil w)) ∙ past-digits w [] (h .1) tt in
+    let p : behindDigits w ≡ [] = ap behindDigits (sym (append-nil w)) ∙ past-digits w [] (h .1) tt in
     (rw (h .0, p), rw (ne-eqb c 105 (λ q. omega arith)))
 
 pub id-kind : (n : ℕ) → n < 2 ^ 32 → kindOf (symbolIdText n) ≡ Number n
@@ -72,8 +72,8 @@ dollar-part : isPart (byte "$") ≡ true
 unfolding isPart isStart
 dollar-part = refl
 
-dollar-word : (n : ℕ) → behind (symbolIdText n) ≡ []
-unfolding symbolIdText behind
+dollar-word : (n : ℕ) → behindWord (symbolIdText n) ≡ []
+unfolding symbolIdText behindWord
 dollar-word n = rw dollar-part (behind-digits (digits n) (digits-digits n))
 
 pub symbol-id-back : (n : ℕ) (r : List ℕ) → n < 2 ^ 32 → ended r ≡ true → symbol (symbolIdText n ++ r) ≡ some (Sym.id n, r)
@@ -96,10 +96,10 @@ symbol-back s r h e = go (isBare s) refl
 
 -- ---- the words and first bytes of what is written, which tell a symbol from other tokens
 
-pub bare-word : (s r : List ℕ) → isBare s ≡ true → ended r ≡ true → (word (s ++ r) ≡ s) × (behind (s ++ r) ≡ r)
+pub bare-word : (s r : List ℕ) → isBare s ≡ true → ended r ≡ true → (word (s ++ r) ≡ s) × (behindWord (s ++ r) ≡ r)
 bare-word s r h e = let a = identifier-word s (bare-is s h .identifier) in (word-back s r a (stops r e), behind-back s r a (stops r e))
 
-pub id-word : (n : ℕ) (r : List ℕ) → ended r ≡ true → (word (symbolIdText n ++ r) ≡ symbolIdText n) × (behind (symbolIdText n ++ r) ≡ r)
+pub id-word : (n : ℕ) (r : List ℕ) → ended r ≡ true → (word (symbolIdText n ++ r) ≡ symbolIdText n) × (behindWord (symbolIdText n ++ r) ≡ r)
 id-word n r e = let a = dollar-word n in (word-back (symbolIdText n) r a (stops r e), behind-back (symbolIdText n) r a (stops r e))
 
 -- a text that starts with a single quote mark or as an identifier does

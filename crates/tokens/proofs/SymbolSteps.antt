@@ -10,12 +10,12 @@ use borrow.Author.Tests.{eq-eqb, ne-eqb}
 use Rattle.output.specs.Logic.{then, byte}
 use Rattle.output.specs.Wrote.{Wrote}
 use Rattle.text_rules.specs.Texts.{starts}
-use Rattle.text_rules.specs.Words.{word, behind, kindOf}
+use Rattle.text_rules.specs.Words.{word, behindWord, kindOf}
 use Rattle.tokens.specs.Quoted.{quoted}
 use Rattle.tokens.specs.Steps.{Copies}
 use Rattle.text_rules.specs.WordSteps.{WordAt}
 use Rattle.text_rules.specs.Text.{Sym}
-use Rattle.tokens.specs.Token.{symbolOf, bareSymbol, quotedSymbol, symbol}
+use Rattle.tokens.specs.Token.{wordSymbol, bareSymbol, quotedSymbol, symbol}
 use Rattle.tokens.specs.TokenSteps.{SymbolAt}
 use Rattle.text_rules.specs.declared.words.Kind.{Kind}
 use Rattle.text_rules.specs.declared.words.Kind.the-variants.{Number, Text, Refused}
@@ -27,14 +27,14 @@ use Rattle.text_rules.proofs.Places.{byte-at, end-at, next}
 use Rattle.text_rules.proofs.WordsLaws.{kind-nothing}
 use Rattle.tokens.proofs.TokensLaws.{word-ahead}
 
-bare-is : (t : List ℕ) (o : Option Sym) → symbolOf (kindOf (word t)) (word t) ≡ o → bareSymbol t ≡ then o (λ s. some (s, behind t))
+bare-is : (t : List ℕ) (o : Option Sym) → wordSymbol (kindOf (word t)) (word t) ≡ o → bareSymbol t ≡ then o (λ s. some (s, behindWord t))
 unfolding bareSymbol
 bare-is t o e = rw e
 
-bare-none : (t : List ℕ) (k : Kind) → kindOf (word t) ≡ k → symbolOf k (word t) ≡ none → bareSymbol t ≡ none
+bare-none : (t : List ℕ) (k : Kind) → kindOf (word t) ≡ k → wordSymbol k (word t) ≡ none → bareSymbol t ≡ none
 bare-none t k e h = bare-is t none (rw e h)
 
-bare-some : (t : List ℕ) (k : Kind) (x : Sym) → kindOf (word t) ≡ k → symbolOf k (word t) ≡ some x → bareSymbol t ≡ some (x, behind t)
+bare-some : (t : List ℕ) (k : Kind) (x : Sym) → kindOf (word t) ≡ k → wordSymbol k (word t) ≡ some x → bareSymbol t ≡ some (x, behindWord t)
 bare-some t k x e h = bare-is t (some x) (rw e h)
 
 no-text : Text ≡ Refused → ⊥
@@ -47,18 +47,18 @@ module _ {text : List ℕ} {at : ℕ} {w : Word} (a : WordAt text at w) {b b' : 
   pub bare-text : {q : ℕ} → w .kind ≡ Text → Wrote b b' p q (take (w .end - at) (drop at text)) → SymbolAt text (suc at) b b' p (bareSymbol (drop at text)) (S.Text (w .end) q)
   bare-text e h =
       let d = drop at text in
-      let i : bareSymbol d ≡ some (Sym.text (word d), behind d) = bare-some d Text (Sym.text (word d)) (sym (a .kind) ∙ e) refl in
+      let i : bareSymbol d ≡ some (Sym.text (word d), behindWord d) = bare-some d Text (Sym.text (word d)) (sym (a .kind) ∙ e) refl in
       let l : at < w .end = word-ahead a (λ r. no-text (sym e ∙ r)) in
       record { told = (take (w .end - at) d, rw (a .bytes, a .rest) i, l, a .inside, h) }
 
   pub bare-number : (n : ℕ) → w .kind ≡ Number n → b' ≡ b → SymbolAt text (suc at) b b' p (bareSymbol (drop at text)) (S.Id n (w .end))
   bare-number n e h =
       let d = drop at text in
-      let i : bareSymbol d ≡ some (Sym.id n, behind d) = bare-some d (Number n) (Sym.id n) (sym (a .kind) ∙ e) refl in
+      let i : bareSymbol d ≡ some (Sym.id n, behindWord d) = bare-some d (Number n) (Sym.id n) (sym (a .kind) ∙ e) refl in
       let l : at < w .end = word-ahead a (λ r. no-number n (sym e ∙ r)) in
       record { told = (rw (a .rest) i, l, a .inside, h) }
 
-  pub bare-bad : (k : Kind) → w .kind ≡ k → symbolOf k (word (drop at text)) ≡ none → length b' ≡ length b → SymbolAt text (suc at) b b' p (bareSymbol (drop at text)) S.Bad
+  pub bare-bad : (k : Kind) → w .kind ≡ k → wordSymbol k (word (drop at text)) ≡ none → length b' ≡ length b → SymbolAt text (suc at) b b' p (bareSymbol (drop at text)) S.Bad
   bare-bad k e h l = record { told = (bare-none (drop at text) k (sym (a .kind) ∙ e) h, l) }
 
 -- ---- a symbol, by its first byte

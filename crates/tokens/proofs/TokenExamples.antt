@@ -8,8 +8,8 @@ use Prim.Native.Nat.{ℕ}
 use Rattle.output.specs.Logic.{byte, ascii}
 use Rattle.text_rules.specs.Text.{Sym}
 use Rattle.text_rules.specs.Texts.{starts, strip, same}
-use Rattle.text_rules.specs.Digits.{isDigit, run, past, number, whole}
-use Rattle.text_rules.specs.Words.{isStart, isPart, word, behind, allDigits, resemblesSymbolId, version, resemblesVersionMarker, isIdentifier, symbolId, kindOf}
+use Rattle.text_rules.specs.Digits.{isDigit, run, behindDigits, number, whole}
+use Rattle.text_rules.specs.Words.{isStart, isPart, word, behindWord, allDigits, resemblesSymbolId, version, resemblesVersionMarker, isIdentifier, symbolId, kindOf}
 use Rattle.text_rules.specs.Utf8.{isScalar, utf8, charOf, leadOf, isCont, ok2, ok3, ok4}
 use Rattle.text_rules.specs.Escapes.{letter, hexValue, hex}
 use Rattle.tokens.specs.Quoted.{quote, scalarEscape, letterEscape, escape, isRaw, raw, character, characters, quoted, string, byteEscape, rawByte, clobByte, clobBytes, clob}
@@ -61,18 +61,18 @@ clobs-refused = (refl, refl, refl, refl, refl, refl)
 
 -- symbols: `$` with 0 or digits without leading zero, at most 4,294,967,295; quoted-only spellings are refused bare
 pub symbols : (symbol (ascii "$0 ") ≡ some (Sym.id 0, ascii " ")) × (symbol (ascii "$4294967295") ≡ some (Sym.id 4294967295, [])) × (symbol (ascii "$ion_1_0_0,") ≡ some (Sym.text (ascii "$ion_1_0_0"), ascii ",")) × (symbol (ascii "'$7'") ≡ some (Sym.text (ascii "$7"), [])) × (symbol (ascii "''") ≡ some (Sym.text [], []))
-unfolding symbol bareSymbol quotedSymbol quoted characters quote character escape scalarEscape letterEscape raw isRaw letter hexValue hex charOf leadOf isCont ok2 ok3 ok4 starts strip same word behind kindOf isPart isStart isDigit resemblesVersionMarker resemblesSymbolId version allDigits run past number whole symbolId isIdentifier
+unfolding symbol bareSymbol quotedSymbol quoted characters quote character escape scalarEscape letterEscape raw isRaw letter hexValue hex charOf leadOf isCont ok2 ok3 ok4 starts strip same word behindWord kindOf isPart isStart isDigit resemblesVersionMarker resemblesSymbolId version allDigits run behindDigits number whole symbolId isIdentifier
 symbols = (refl, refl, refl, refl, refl)
 
 pub symbols-refused : (symbol (ascii "$01") ≡ none) × (symbol (ascii "$4294967296") ≡ none) × (symbol (ascii "$ion_1_1") ≡ none) × (symbol (ascii "$ion_1_0") ≡ none) × (symbol (ascii "true") ≡ none) × (symbol (ascii "nan") ≡ none) × (symbol (ascii "7up") ≡ none) × (symbol (ascii "'a") ≡ none)
-unfolding symbol bareSymbol quotedSymbol quoted characters quote character escape scalarEscape letterEscape raw isRaw letter hexValue hex charOf leadOf isCont ok2 ok3 ok4 starts strip same word behind kindOf isPart isStart isDigit resemblesVersionMarker resemblesSymbolId version allDigits run past number whole symbolId isIdentifier
+unfolding symbol bareSymbol quotedSymbol quoted characters quote character escape scalarEscape letterEscape raw isRaw letter hexValue hex charOf leadOf isCont ok2 ok3 ok4 starts strip same word behindWord kindOf isPart isStart isDigit resemblesVersionMarker resemblesSymbolId version allDigits run behindDigits number whole symbolId isIdentifier
 symbols-refused = (refl, refl, refl, refl, refl, refl, refl, refl)
 
 -- nulls: `null` and a type; `null.null` prints as `null`, and is refused
 pub nulls : (null (ascii "null]") ≡ some (0, ascii "]")) × (null (ascii "null.struct") ≡ some (12, [])) × (null (ascii "null.null") ≡ none) × (null (ascii "null.integer") ≡ none) × (null (ascii "null.") ≡ none) × (null (ascii "nulls") ≡ none)
-unfolding null nullBehind typeOf bool starts strip same word behind kindOf isPart isStart isDigit resemblesVersionMarker resemblesSymbolId version allDigits run past number whole symbolId isIdentifier
+unfolding null nullBehind typeOf bool starts strip same word behindWord kindOf isPart isStart isDigit resemblesVersionMarker resemblesSymbolId version allDigits run behindDigits number whole symbolId isIdentifier
 nulls = (refl, refl, refl, refl, refl, refl)
 
 pub bools : (bool (ascii "true)") ≡ some (true, ascii ")")) × (bool (ascii "false") ≡ some (false, [])) × (bool (ascii "True") ≡ none)
-unfolding null nullBehind typeOf bool starts strip same word behind kindOf isPart isStart isDigit resemblesVersionMarker resemblesSymbolId version allDigits run past number whole symbolId isIdentifier
+unfolding null nullBehind typeOf bool starts strip same word behindWord kindOf isPart isStart isDigit resemblesVersionMarker resemblesSymbolId version allDigits run behindDigits number whole symbolId isIdentifier
 bools = (refl, refl, refl)

@@ -11,7 +11,7 @@ use lib.ListN.{length, take, drop, getD}
 use borrow.Author.Tests.{eq-eqb, ne-eqb}
 use Rattle.output.specs.Logic.{if, then, or, byte, ascii}
 use Rattle.text_rules.specs.Texts.{starts, same}
-use Rattle.text_rules.specs.Words.{word, behind, kindOf}
+use Rattle.text_rules.specs.Words.{word, behindWord, kindOf}
 use Rattle.text_rules.specs.WordSteps.{Spanned, WordStands}
 use Rattle.text_rules.specs.WordSteps.{WordAt}
 use Rattle.text_rules.specs.Reading.{Reads}
@@ -115,7 +115,7 @@ module _ {text : List ℕ} {at e : ℕ} (s : Spanned text at e) where
 
 -- ---- bools
 
-bool-some : (t : List ℕ) (b : Bool) → boolOf (kindOf (word t)) ≡ some b → bool t ≡ some (b, behind t)
+bool-some : (t : List ℕ) (b : Bool) → boolOf (kindOf (word t)) ≡ some b → bool t ≡ some (b, behindWord t)
 unfolding bool
 bool-some t b e = rw e
 

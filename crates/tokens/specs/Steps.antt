@@ -26,8 +26,8 @@ pub record Copies (text : List ℕ) (lo : ℕ) (b b' : List ℕ) (p : ℕ) (o : 
 -- ---- inner functions of quoted text and clobs
 
 -- a number below n, or nothing
-abbrev pub below : ℕ → ℕ → Option ℕ
-below n r = if (ltb r n) (some r) none
+abbrev pub ifBelow : ℕ → ℕ → Option ℕ
+ifBelow n r = if (ltb r n) (some r) none
 
 -- the letters that stand for themselves behind a backslash
 unfoldable pub ownLetter : ℕ → Option ℕ

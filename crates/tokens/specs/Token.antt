@@ -8,25 +8,25 @@ use lib.ListN.{drop}
 use lib.Ieee.{Float, nan, binary64, ofBits}
 use Rattle.output.specs.Logic.{if, then, or, byte, ascii}
 use Rattle.text_rules.specs.Texts.{starts, strip, same}
-use Rattle.text_rules.specs.Words.{word, behind, kindOf}
+use Rattle.text_rules.specs.Words.{word, behindWord, kindOf}
 use Rattle.text_rules.specs.Text.{Sym}
 use Rattle.tokens.specs.Quoted.{quoted}
 use Rattle.text_rules.specs.declared.words.Kind.{Kind}
 use Rattle.text_rules.specs.declared.words.Kind.the-variants.{Null, True, False, Nan, Marker, Number, Text, Refused}
 
 -- what a bare word is as a symbol: `$` and a number, or symbol text; every other kind is no symbol
-abbrev pub symbolOf : Kind → List ℕ → Option Sym
-symbolOf Text w = some (Sym.text w)
-symbolOf (Number n) w = some (Sym.id n)
-symbolOf Null w = none
-symbolOf True w = none
-symbolOf False w = none
-symbolOf Nan w = none
-symbolOf Marker w = none
-symbolOf Refused w = none
+abbrev pub wordSymbol : Kind → List ℕ → Option Sym
+wordSymbol Text w = some (Sym.text w)
+wordSymbol (Number n) w = some (Sym.id n)
+wordSymbol Null w = none
+wordSymbol True w = none
+wordSymbol False w = none
+wordSymbol Nan w = none
+wordSymbol Marker w = none
+wordSymbol Refused w = none
 
 unfoldable pub bareSymbol : List ℕ → Option (Sym × List ℕ)
-bareSymbol t = then (symbolOf (kindOf (word t)) (word t)) (λ s. some (s, behind t))
+bareSymbol t = then (wordSymbol (kindOf (word t)) (word t)) (λ s. some (s, behindWord t))
 
 unfoldable pub quotedSymbol : List ℕ → Option (Sym × List ℕ)
 quotedSymbol t = then (quoted (byte "'") t) (λ r. some (Sym.text (r .0), r .1))
@@ -55,11 +55,11 @@ typeOf w =
 
 -- behind the word `null`: a point and a type, or nothing more
 unfoldable pub nullBehind : List ℕ → Option (ℕ × List ℕ)
-nullBehind t = if (starts (byte ".") t) (then (typeOf (word (drop 1 t))) (λ k. some (k, behind (drop 1 t)))) (some (0, t))
+nullBehind t = if (starts (byte ".") t) (then (typeOf (word (drop 1 t))) (λ k. some (k, behindWord (drop 1 t)))) (some (0, t))
 
 -- a null of some type
 unfoldable pub null : List ℕ → Option (ℕ × List ℕ)
-null t = if (same (ascii "null") (word t)) (nullBehind (behind t)) none
+null t = if (same (ascii "null") (word t)) (nullBehind (behindWord t)) none
 
 -- ---- bools
 
@@ -74,12 +74,12 @@ boolOf Text = none
 boolOf Refused = none
 
 unfoldable pub bool : List ℕ → Option (Bool × List ℕ)
-bool t = then (boolOf (kindOf (word t))) (λ b. some (b, behind t))
+bool t = then (boolOf (kindOf (word t))) (λ b. some (b, behindWord t))
 
 -- ---- the five floats as printed
 
 unfoldable pub nanWord : List ℕ → Option (Float × List ℕ)
-nanWord t = if (same (ascii "nan") (word t)) (some (nan, behind t)) none
+nanWord t = if (same (ascii "nan") (word t)) (some (nan, behindWord t)) none
 
 -- a spelling, and the bits of the float that it prints
 unfoldable pub spelled : List ℕ → ℕ → List ℕ → Option (Float × List ℕ)

@@ -9,7 +9,7 @@ ghost use Rattle.output.specs.Wrote.{Wrote, limit};
 ghost use Rattle.text_rules.specs.Utf8.{utf8};
 ghost use Rattle.text_rules.specs.Escapes.{letter, hexValue, hex};
 ghost use Rattle.tokens.specs.Quoted.{scalarEscape, letterEscape, escape, raw, character, quoted, byteEscape, clobByte, clobBytes, clob};
-ghost use Rattle.tokens.specs.Steps.{Copies, below, ownLetter, HexAt, isPlain, isPlainByte, RunTo};
+ghost use Rattle.tokens.specs.Steps.{Copies, ifBelow, ownLetter, HexAt, isPlain, isPlainByte, RunTo};
 
 // Something was read up to `at`, and its bytes written up to `pos`; or nothing.
 pub enum Step {
@@ -27,7 +27,7 @@ pub enum Hex {
 
 // A byte that stands for itself behind a backslash, or 128.
 fn own_value(b: u8) -> u8
-    ensures { λ r. ⌜ ownLetter b ≡ below 128 r ⌝ }
+    ensures { λ r. ⌜ ownLetter b ≡ ifBelow 128 r ⌝ }
 {
     if b == b'\\' {
         return b;
@@ -49,7 +49,7 @@ fn own_value(b: u8) -> u8
 
 // What a letter behind a backslash stands for, or 128.
 fn letter_value(b: u8) -> u8
-    ensures { λ r. ⌜ letter b ≡ below 128 r ⌝ }
+    ensures { λ r. ⌜ letter b ≡ ifBelow 128 r ⌝ }
 {
     if b == b'0' {
         return 0;
@@ -80,7 +80,7 @@ fn letter_value(b: u8) -> u8
 
 // The value of a hex digit of either case, or 16.
 fn hex_value(b: u8) -> u8
-    ensures { λ r. ⌜ hexValue b ≡ below 16 r ⌝ }
+    ensures { λ r. ⌜ hexValue b ≡ ifBelow 16 r ⌝ }
 {
     if b < b'0' {
         return 16;

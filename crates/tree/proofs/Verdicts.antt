@@ -16,7 +16,7 @@ use Rattle.output.specs.Wrote.{Wrote}
 use Rattle.text_rules.specs.Text.{Sym}
 use Rattle.tape.specs.Bytes.{part, first}
 use Rattle.tape.specs.Tree.{Scalar, Head, Nodes, scalar, marker, nil, more, size}
-use Rattle.tape.specs.Tape.{past, kind, lengthOf, nameOf, headOf, scalarOf, Value, absent, leaf, body, openOf, valueOf, Child, bad, single, tree, free, behind, childOf, Walked, turn, level, walk, bodyOf, nodesOf}
+use Rattle.tape.specs.Tape.{reading, kind, lengthOf, nameOf, headOf, scalarOf, Value, absent, leaf, body, openOf, valueOf, Child, bad, single, tree, freeAt, headedChild, childOf, Walked, turn, level, walk, bodyOf, nodesOf}
 use Rattle.tape.specs.Verdict.{verdict}
 use Rattle.tape.specs.Fine.{Bytes}
 use Rattle.tape.specs.Refusal.{numbereds}
@@ -55,7 +55,7 @@ value-unmarked f l e =
     container : (k : Frame) → valueMarked (openOf k l) ≡ false
     container k = if-all Unmarked {b = leb (5 + lengthOf l) (length l)} {x = body k (lengthOf l)} {y = absent} (λ _. refl) (λ _. refl)
 
-    one : (o : Option (Scalar × ℕ)) → valueMarked (past o absent (λ s n. leaf (scalar s) n)) ≡ false
+    one : (o : Option (Scalar × ℕ)) → valueMarked (reading o absent (λ s n. leaf (scalar s) n)) ≡ false
     one none = refl
     one (some (s, n)) = refl
 
@@ -75,7 +75,7 @@ childMarked bad = false
 childMarked (single h n m) = isMarker n
 childMarked (tree h k q m) = false
 
-behind-marked : (h : Head) (n : ℕ) (v : Value) → childMarked (behind h n v) ≡ valueMarked v
+behind-marked : (h : Head) (n : ℕ) (v : Value) → childMarked (headedChild h n v) ≡ valueMarked v
 behind-marked h n absent = refl
 behind-marked h n (leaf x m) = refl
 behind-marked h n (body k m) = refl
@@ -83,10 +83,10 @@ behind-marked h n (body k m) = refl
 -- without annotations the head at top level is empty
 head-top : (l : List ℕ) → (kind l ≡ 13 → ⊥) → headOf Top l ≡ some ((none, []), 0)
 unfolding headOf nameOf
-head-top l h = ap (λ (o : Option (List Sym × ℕ)). past {B = Option (Head × ℕ)} o none (λ ss m. some ((none, ss), 0 + m))) (notes-none l h)
+head-top l h = ap (λ (o : Option (List Sym × ℕ)). reading {B = Option (Head × ℕ)} o none (λ ss m. some ((none, ss), 0 + m))) (notes-none l h)
 
 child-marked : (l : List ℕ) → childMarked (childOf Top l) ≡ eqb (kind l) 14
-unfolding childOf free
+unfolding childOf freeAt
 child-marked l = go (eqb (kind l) 13) refl
   where
     same : (b : Bool) → if b true false ≡ b
@@ -97,14 +97,14 @@ child-marked l = go (eqb (kind l) 13) refl
     neither true = refl
     neither false = refl
 
-    noted : (o : Option (Head × ℕ)) → childMarked (past o bad (λ h n. behind h n (valueOf false (drop n l)))) ≡ false
+    noted : (o : Option (Head × ℕ)) → childMarked (reading o bad (λ h n. headedChild h n (valueOf false (drop n l)))) ≡ false
     noted none = refl
     noted (some (h, n)) = behind-marked h n (valueOf false (drop n l)) ∙ value-marked false (drop n l) ∙ neither (eqb (kind (drop n l)) 14)
 
-    go : (b : Bool) → eqb (kind l) 13 ≡ b → childMarked (past (headOf Top l) bad (λ h n. behind h n (valueOf (if b false true) (drop n l)))) ≡ eqb (kind l) 14
+    go : (b : Bool) → eqb (kind l) 13 ≡ b → childMarked (reading (headOf Top l) bad (λ h n. headedChild h n (valueOf (if b false true) (drop n l)))) ≡ eqb (kind l) 14
     go true e = let k : kind l ≡ 13 = eqb-true _ _ e in noted (headOf Top l) ∙ sym (ne-eqb (kind l) 14 (λ i. omega arith))
     go false e =
-        ap (λ (o : Option (Head × ℕ)). childMarked (past o bad (λ h n. behind h n (valueOf true (drop n l))))) (head-top l (eqb-false _ _ e))
+        ap (λ (o : Option (Head × ℕ)). childMarked (reading o bad (λ h n. headedChild h n (valueOf true (drop n l))))) (head-top l (eqb-false _ _ e))
         ∙ behind-marked (none, []) 0 (valueOf true l)
         ∙ value-marked true l
         ∙ same (eqb (kind l) 14)

@@ -12,20 +12,20 @@ use lib.ListN.{length, getD, take, drop}
 use Rattle.output.specs.Logic.{if, ascii}
 use Rattle.tape.specs.Bytes.{part, leNumber}
 use Rattle.tape.specs.Tree.{Scalar, Head, Node, Nodes, scalar, nest, marker, nil, more}
-use Rattle.tape.specs.Tape.{past, kind, lengthOf, headOf, scalarOf, walk}
+use Rattle.tape.specs.Tape.{reading, kind, lengthOf, headOf, scalarOf, walk}
 use Rattle.tape.specs.Steps.{headAt}
 use Rattle.tape.specs.CheckSteps.{frameOf}
 use Rattle.tape.specs.declared.Frame.{Frame}
 use Rattle.writer.specs.Text.{scalarText, nameText, notesText, opening, closing, separator, broken, deeper, blanks, text, texts}
 use Rattle.tape.proofs.Parts.{part-length, part-first, part-number, part-inner}
-use Rattle.writer.specs.Steps.{taken, front, ending, isNil, item, items, nodeAt, sizeAt, problemAt}
+use Rattle.writer.specs.Steps.{sizeTaken, front, ending, isNil, item, items, nodeAt, sizeAt, problemAt}
 use Rattle.writer.proofs.Turning.{OpenHere, some-here, size-some, scalar-here, marker-node, marker-size, open-here, turn-here, left-nil}
 
 -- ---- a turn of the walk
 
 module _ (y : ℕ) (w : ℕ) (d : ℕ) (k : Frame) (s : List ℕ) (at e : ℕ) (nz : d ≡ 0 → ⊥) (h : at < e) (i : e ≤ length s) (z : walk d k (part s at e) .1 ≡ 0) where
   abbrev value : ℕ
-  value = at + taken (headOf k (part s at e))
+  value = at + sizeTaken (headOf k (part s at e))
 
   abbrev next : ℕ
   next = value + sizeAt (part s value e)
@@ -67,20 +67,20 @@ module _ (y w d : ℕ) (s : List ℕ) (at e : ℕ) (i : e ≤ length s) (z : pro
   first-byte : kind (part s at e) ≡ getD s at 0
   first-byte = part-first s at e value-place
 
-  pub scalar-text : getD s at 0 < 10 → item y w (nodeAt d (part s at e)) ≡ past (scalarOf (part s at e)) [] (λ s n. scalarText s)
+  pub scalar-text : getD s at 0 < 10 → item y w (nodeAt d (part s at e)) ≡ reading (scalarOf (part s at e)) [] (λ s n. scalarText s)
   unfolding item
   scalar-text h =
       let k = first-byte in
       let r = scalar-here d (part s at e) z (omega arith) in
-      ap (item y w) (r .node) ∙ sym (ap (λ (o : Option (Scalar × ℕ)). past o [] (λ s n. scalarText s)) (r .read))
+      ap (item y w) (r .node) ∙ sym (ap (λ (o : Option (Scalar × ℕ)). reading o [] (λ s n. scalarText s)) (r .read))
 
-  pub scalar-size : getD s at 0 < 10 → sizeAt (part s at e) ≡ taken (scalarOf (part s at e))
+  pub scalar-size : getD s at 0 < 10 → sizeAt (part s at e) ≡ sizeTaken (scalarOf (part s at e))
   scalar-size h =
       let k = first-byte in
       let r = scalar-here d (part s at e) z (omega arith) in
-      r .size ∙ sym (ap (λ (o : Option (Scalar × ℕ)). taken o) (r .read))
+      r .size ∙ sym (ap (λ (o : Option (Scalar × ℕ)). sizeTaken o) (r .read))
 
-  pub scalar-some : getD s at 0 < 10 → 0 < taken (scalarOf (part s at e))
+  pub scalar-some : getD s at 0 < 10 → 0 < sizeTaken (scalarOf (part s at e))
   scalar-some h = let n = size-some d (part s at e) z in let q = scalar-size h in omega arith
 
   pub marker-text : getD s at 0 ≡ 14 → item y w (nodeAt d (part s at e)) ≡ ascii "$ion_1_0"

@@ -13,12 +13,12 @@ use Rattle.text_rules.specs.Text.{Sym}
 use Rattle.numbers.specs.declared.timestamp.Timestamp.{Timestamp}
 use Rattle.tape.specs.Bytes.{part, leNumber, signed}
 use Rattle.tape.specs.Tree.{Scalar, int, decimal, timestamp, symbol, string}
-use Rattle.tape.specs.Tape.{past, kind, lengthOf, symOf, nameOf, decimalOf, timestampAs, symbolOf, sizedOf, scalarOf}
+use Rattle.tape.specs.Tape.{reading, kind, lengthOf, symOf, nameOf, decimalOf, timestampAs, symbolOf, sizedOf, scalarOf}
 use Rattle.tape.specs.declared.Frame.the-variants.{Struct}
 use Rattle.tape.specs.declared.Place.the-variants.{Bad as Nowhere, At}
 use Rattle.tape.proofs.Parts.{part-length, part-first, part-byte, part-number}
 use Rattle.tape.proofs.CodeReading.{int-short, int-some, decimal-short, decimal-over, decimal-some, timestamp-short, timestamp-some, timestamp-part, length-over, length-some, text-by, sym-text, sym-id, sym-none, sym-short, scalar-int, scalar-decimal, scalar-timestamp, scalar-symbol, scalar-string, scalar-empty}
-use Rattle.writer.specs.Steps.{nameIn, taken}
+use Rattle.writer.specs.Steps.{nameIn, sizeTaken}
 
 -- ---- symbols
 
@@ -54,12 +54,12 @@ pub record LeafAt (s : List ℕ) (at e : ℕ) (x : Scalar) (n : ℕ) : Type 0 wh
   pub room : at + n ≤ e
   pub read : scalarOf (part s at e) ≡ some (x, n)
 
-module _ (s : List ℕ) (at e : ℕ) (w : at ≤ e) (i : e ≤ length s) (z : 0 < taken (scalarOf (part s at e))) where
+module _ (s : List ℕ) (at e : ℕ) (w : at ≤ e) (i : e ≤ length s) (z : 0 < sizeTaken (scalarOf (part s at e))) where
   abbrev l : List ℕ
   l = part s at e
 
   there : scalarOf l ≡ none → ⊥
-  there q = let y : taken (scalarOf l) ≡ 0 = ap (λ (o : Option (Scalar × ℕ)). taken o) q in omega arith
+  there q = let y : sizeTaken (scalarOf l) ≡ 0 = ap (λ (o : Option (Scalar × ℕ)). sizeTaken o) q in omega arith
 
   -- it has n bytes, if with fewer there is none
   long : (n : ℕ) → (length l < n → scalarOf l ≡ none) → n ≤ length l
@@ -114,14 +114,14 @@ module _ (s : List ℕ) (at e : ℕ) (w : at ≤ e) (i : e ≤ length s) (z : 0 
     symbol-leaf k =
         let c : kind l ≡ 6 = first-byte ∙ k in
         let t : scalarOf l ≡ symbolOf l = scalar-symbol l (omega arith) (omega arith) in
-        let p : symOf l ≡ none → ⊥ = λ q. there (t ∙ ap (λ (o : Option (Sym × ℕ)). past {B = Option (Scalar × ℕ)} o none (λ x m. some (symbol x, m))) q) in
+        let p : symOf l ≡ none → ⊥ = λ q. there (t ∙ ap (λ (o : Option (Sym × ℕ)). reading {B = Option (Scalar × ℕ)} o none (λ x m. some (symbol x, m))) q) in
         let f = sym-fits l p c in
         let len = part-length s at e i in
         let g = length-is (omega arith) in
         record {
           room = omega arith;
           read = t
-              ∙ ap (λ (o : Option (Sym × ℕ)). past {B = Option (Scalar × ℕ)} o none (λ x m. some (symbol x, m))) (sym-is l p c)
+              ∙ ap (λ (o : Option (Sym × ℕ)). reading {B = Option (Scalar × ℕ)} o none (λ x m. some (symbol x, m))) (sym-is l p c)
               ∙ ap (λ (m : ℕ). some (symbol (Sym.text (take m (drop 5 l))), 5 + m)) g;
         }
 
@@ -130,13 +130,13 @@ module _ (s : List ℕ) (at e : ℕ) (w : at ≤ e) (i : e ≤ length s) (z : 0 
     string-leaf k =
         let c : kind l ≡ 8 = first-byte ∙ k in
         let t : scalarOf l ≡ sizedOf string l = scalar-string l c in
-        let f : 5 + lengthOf l ≤ length l = long (5 + lengthOf l) (λ h. t ∙ ap (λ (o : Option (List ℕ × ℕ)). past {B = Option (Scalar × ℕ)} o none (λ x m. some (string x, m))) (text-by l Nowhere (sym (length-over l h)))) in
+        let f : 5 + lengthOf l ≤ length l = long (5 + lengthOf l) (λ h. t ∙ ap (λ (o : Option (List ℕ × ℕ)). reading {B = Option (Scalar × ℕ)} o none (λ x m. some (string x, m))) (text-by l Nowhere (sym (length-over l h)))) in
         let len = part-length s at e i in
         let g = length-is (omega arith) in
         record {
           room = omega arith;
           read = t
-              ∙ ap (λ (o : Option (List ℕ × ℕ)). past {B = Option (Scalar × ℕ)} o none (λ x m. some (string x, m))) (text-by l (At (lengthOf l)) (sym (length-some l f)))
+              ∙ ap (λ (o : Option (List ℕ × ℕ)). reading {B = Option (Scalar × ℕ)} o none (λ x m. some (string x, m))) (text-by l (At (lengthOf l)) (sym (length-some l f)))
               ∙ ap (λ (m : ℕ). some (string (take m (drop 5 l)), 5 + m)) g;
         }
 
@@ -147,17 +147,17 @@ pub record NameAt (s : List ℕ) (at e : ℕ) (x : Sym) (n : ℕ) : Type 0 where
   pub room : at + n ≤ e
   pub read : nameOf Struct (part s at e) ≡ some (some x, n)
 
-module _ (s : List ℕ) (at e : ℕ) (w : at ≤ e) (i : e ≤ length s) (z : nameOf Struct (part s at e) ≡ some (nameIn Struct (part s at e), taken (nameOf Struct (part s at e)))) where
+module _ (s : List ℕ) (at e : ℕ) (w : at ≤ e) (i : e ≤ length s) (z : nameOf Struct (part s at e) ≡ some (nameIn Struct (part s at e), sizeTaken (nameOf Struct (part s at e)))) where
   abbrev m : List ℕ
   m = part s at e
 
-  named : (o : Option (Sym × ℕ)) → symOf m ≡ o → nameOf Struct m ≡ past {B = Option (Option Sym × ℕ)} o none (λ x n. some (some x, n))
+  named : (o : Option (Sym × ℕ)) → symOf m ≡ o → nameOf Struct m ≡ reading {B = Option (Option Sym × ℕ)} o none (λ x n. some (some x, n))
   unfolding nameOf
-  named o q = ap (λ (o : Option (Sym × ℕ)). past {B = Option (Option Sym × ℕ)} o none (λ x n. some (some x, n))) q
+  named o q = ap (λ (o : Option (Sym × ℕ)). reading {B = Option (Option Sym × ℕ)} o none (λ x n. some (some x, n))) q
 
   symbol-there : symOf m ≡ none → ⊥
   symbol-there q =
-      let y : _≡_ {A = Option (Option Sym × ℕ)} none (some (nameIn Struct m, taken (nameOf Struct m))) = sym (named none q) ∙ z in
+      let y : _≡_ {A = Option (Option Sym × ℕ)} none (some (nameIn Struct m, sizeTaken (nameOf Struct m))) = sym (named none q) ∙ z in
       let x : _≡_ {A = ℕ} 0 1 = cc in
       omega arith
 

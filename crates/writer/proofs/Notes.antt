@@ -13,7 +13,7 @@ use Rattle.output.proofs.Laws.{Progress, start, more as further, finish}
 use Rattle.text_rules.specs.Text.{Sym}
 use Rattle.tape.specs.Bytes.{part}
 use Rattle.tape.specs.Tree.{Head, encodeNotes}
-use Rattle.tape.specs.Tape.{past, kind, lengthOf, textOf, symOf, symsOf, nameOf, notesOf, headOf}
+use Rattle.tape.specs.Tape.{reading, kind, lengthOf, textOf, symOf, symsOf, nameOf, notesOf, headOf}
 use Rattle.tape.specs.Steps.{placeOf, headAt}
 use Rattle.tape.specs.declared.Frame.{Frame}
 use Rattle.tape.specs.declared.Place.{Place}
@@ -22,31 +22,31 @@ use Rattle.tape.proofs.Parts.{part-drop, part-first}
 use Rattle.tape.proofs.Reading.{if-all, notes-sound}
 use Rattle.tape.proofs.CodeReading.{place-within, head-one, notes-none}
 use Rattle.writer.specs.Text.{symText, nameText, notesText, blanks}
-use Rattle.writer.specs.Steps.{nameIn, notesIn, taken, front}
+use Rattle.writer.specs.Steps.{nameIn, notesIn, sizeTaken, front}
 use Rattle.writer.proofs.Texts.{name-head}
 
 -- the same was read
 both : {A : Type 0} {a b : A} {n m : ℕ} → _≡_ {A = Option (A × ℕ)} (some (a, n)) (some (b, m)) → (a ≡ b) × (n ≡ m)
-both {A} {a} e = (ap (λ (o : Option (A × ℕ)). past o a (λ v i. v)) e, ap (λ (o : Option (A × ℕ)). past o 0 (λ v i. i)) e)
+both {A} {a} e = (ap (λ (o : Option (A × ℕ)). reading o a (λ v i. v)) e, ap (λ (o : Option (A × ℕ)). reading o 0 (λ v i. i)) e)
 
 -- what was read, from where it ends
-place-read : {A : Type 0} (d : A) (at v : ℕ) (o : Option (A × ℕ)) → placeOf at o ≡ At v → (at ≤ v) × (o ≡ some (past o d (λ a n. a), v - at))
+place-read : {A : Type 0} (d : A) (at v : ℕ) (o : Option (A × ℕ)) → placeOf at o ≡ At v → (at ≤ v) × (o ≡ some (reading o d (λ a n. a), v - at))
 place-read d at v none z = let y : _≡_ {A = ℕ} 0 1 = cc in absurd (omega arith)
 place-read d at v (some (a, n)) z = let y : at + n ≡ v = cc in let x : n ≡ v - at = omega arith in (omega arith, ap (λ (i : ℕ). some (a, i)) x)
 
 -- ---- annotations
 
 -- a symbol takes bytes
-sym-long : (l : List ℕ) → 5 ≤ past (symOf l) 5 (λ s n. n)
+sym-long : (l : List ℕ) → 5 ≤ reading (symOf l) 5 (λ s n. n)
 unfolding symOf textOf
 sym-long l =
     if-all Long {b = eqb (kind l) 6} (λ _. go (leb (5 + lengthOf l) (length l))) (λ _.
     if-all Long {b = eqb (kind l) 7} (λ _. if-all Long {b = leb 5 (length l)} {x = some (Sym.id (lengthOf l), 5)} {y = none} (λ _. omega arith) (λ _. omega arith)) (λ _. omega arith))
   where
     Long : Option (Sym × ℕ) → Type 0
-    Long o = 5 ≤ past o 5 (λ s n. n)
+    Long o = 5 ≤ reading o 5 (λ s n. n)
 
-    go : (b : Bool) → Long (past (if b (some (take (lengthOf l) (drop 5 l), 5 + lengthOf l)) none) none (λ s n. some (Sym.text s, n)))
+    go : (b : Bool) → Long (reading (if b (some (take (lengthOf l) (drop 5 l), 5 + lengthOf l)) none) none (λ s n. some (Sym.text s, n)))
     go true = omega arith
     go false = omega arith
 
@@ -63,9 +63,9 @@ module _ (s : List ℕ) (from e v : ℕ) where
   unfolding symsOf notesText
   split zero ss r h x n m = let y : 0 ≡ v - from = both r .1 in absurd (omega arith)
   split (suc c) ss r h x n m =
-      go (symsOf c (drop n (part s from e))) refl (ap (λ (o : Option (Sym × ℕ)). past {B = Option (List Sym × ℕ)} o none (λ x n. past (symsOf c (drop n (part s from e))) none (λ ts j. some (x ∷ ts, n + j)))) m ∙ r)
+      go (symsOf c (drop n (part s from e))) refl (ap (λ (o : Option (Sym × ℕ)). reading {B = Option (List Sym × ℕ)} o none (λ x n. reading (symsOf c (drop n (part s from e))) none (λ ts j. some (x ∷ ts, n + j)))) m ∙ r)
     where
-      go : (o : Option (List Sym × ℕ)) → symsOf c (drop n (part s from e)) ≡ o → past {B = Option (List Sym × ℕ)} o none (λ ts j. some (x ∷ ts, n + j)) ≡ some (ss, v - from) → Split s from e v ss x n
+      go : (o : Option (List Sym × ℕ)) → symsOf c (drop n (part s from e)) ≡ o → reading {B = Option (List Sym × ℕ)} o none (λ ts j. some (x ∷ ts, n + j)) ≡ some (ss, v - from) → Split s from e v ss x n
       go none q r = let y : _≡_ {A = ℕ} 0 1 = cc in absurd (omega arith)
       go (some (ts, j)) q r =
           let y : n + j ≡ v - from = both r .1 in
@@ -82,7 +82,7 @@ module _ (s : List ℕ) (from e v : ℕ) where
   unfolding symsOf
   unsplit zero ss r h m = let y : 0 ≡ v - from = both r .1 in omega arith
   unsplit (suc c) ss r h m =
-      let q = ap (λ (o : Option (Sym × ℕ)). past {B = Option (List Sym × ℕ)} o none (λ x n. past (symsOf c (drop n (part s from e))) none (λ ts j. some (x ∷ ts, n + j)))) m ∙ r in
+      let q = ap (λ (o : Option (Sym × ℕ)). reading {B = Option (List Sym × ℕ)} o none (λ x n. reading (symsOf c (drop n (part s from e))) none (λ ts j. some (x ∷ ts, n + j)))) m ∙ r in
       let y : _≡_ {A = ℕ} 0 1 = cc in
       omega arith
 
@@ -92,11 +92,11 @@ unfolding symsOf
 syms-nothing zero l ss r = sym (both r .0)
 syms-nothing (suc c) l ss r = go (symOf l) (sym-long l) r
   where
-    inner : (x : Sym) (n : ℕ) → 5 ≤ n → (o : Option (List Sym × ℕ)) → past {B = Option (List Sym × ℕ)} o none (λ ts j. some (x ∷ ts, n + j)) ≡ some (ss, 0) → ss ≡ []
+    inner : (x : Sym) (n : ℕ) → 5 ≤ n → (o : Option (List Sym × ℕ)) → reading {B = Option (List Sym × ℕ)} o none (λ ts j. some (x ∷ ts, n + j)) ≡ some (ss, 0) → ss ≡ []
     inner x n h none r = let y : _≡_ {A = ℕ} 0 1 = cc in absurd (omega arith)
     inner x n h (some (ts, j)) r = let y : n + j ≡ 0 = both r .1 in absurd (omega arith)
 
-    go : (o : Option (Sym × ℕ)) → 5 ≤ past o 5 (λ s n. n) → past {B = Option (List Sym × ℕ)} o none (λ x n. past (symsOf c (drop n l)) none (λ ts j. some (x ∷ ts, n + j))) ≡ some (ss, 0) → ss ≡ []
+    go : (o : Option (Sym × ℕ)) → 5 ≤ reading o 5 (λ s n. n) → reading {B = Option (List Sym × ℕ)} o none (λ x n. reading (symsOf c (drop n l)) none (λ ts j. some (x ∷ ts, n + j))) ≡ some (ss, 0) → ss ≡ []
     go none h r = let y : _≡_ {A = ℕ} 0 1 = cc in absurd (omega arith)
     go (some (x, n)) h r = inner x n h (symsOf c (drop n l)) r
 
@@ -144,7 +144,7 @@ notes-listed l ss n h =
     nowhere : P none
     nowhere e = let y : _≡_ {A = ℕ} 0 1 = cc in absurd (omega arith)
 
-    go : (o : Option (List Sym × ℕ)) → symsOf (getD l 1 0) (drop 2 l) ≡ o → P (past o none (λ ts j. some (ts, 2 + j)))
+    go : (o : Option (List Sym × ℕ)) → symsOf (getD l 1 0) (drop 2 l) ≡ o → P (reading o none (λ ts j. some (ts, 2 + j)))
     go none q e = let y : _≡_ {A = ℕ} 0 1 = cc in absurd (omega arith)
     go (some (ts, j)) q e =
         let y : 2 + j ≡ n = both e .1 in
@@ -164,7 +164,7 @@ notes-nothing l ss =
     nowhere : P none
     nowhere e = let y : _≡_ {A = ℕ} 0 1 = cc in absurd (omega arith)
 
-    go : (o : Option (List Sym × ℕ)) → P (past o none (λ ts j. some (ts, 2 + j)))
+    go : (o : Option (List Sym × ℕ)) → P (reading o none (λ ts j. some (ts, 2 + j)))
     go none e = let y : _≡_ {A = ℕ} 0 1 = cc in absurd (omega arith)
     go (some (ts, j)) e = let y : 2 + j ≡ 0 = both e .1 in absurd (omega arith)
 
@@ -201,12 +201,12 @@ notes-head : (k : Frame) (s : List ℕ) (at e q : ℕ) (h : Head) (m : ℕ) → 
 unfolding headOf
 notes-head k s at e q h m z r = go (nameOf k (part s at e)) z r
   where
-    behind : (a : Option Sym) (n : ℕ) (o : Option (List Sym × ℕ)) → past {B = Option (Head × ℕ)} o none (λ ss i. some ((a, ss), n + i)) ≡ some (h, m) → past o [] (λ ss i. ss) ≡ h .1
+    behind : (a : Option Sym) (n : ℕ) (o : Option (List Sym × ℕ)) → reading {B = Option (Head × ℕ)} o none (λ ss i. some ((a, ss), n + i)) ≡ some (h, m) → reading o [] (λ ss i. ss) ≡ h .1
     behind a n none r = let y : _≡_ {A = ℕ} 0 1 = cc in absurd (omega arith)
-    behind a n (some (ss, i)) r = ap (λ (o : Option (Head × ℕ)). past o ss (λ g j. g .1)) r
+    behind a n (some (ss, i)) r = ap (λ (o : Option (Head × ℕ)). reading o ss (λ g j. g .1)) r
 
     go : (o : Option (Option Sym × ℕ)) → At q ≡ placeOf at o
-        → past {B = Option (Head × ℕ)} o none (λ a n. past (notesOf (drop n (part s at e))) none (λ ss i. some ((a, ss), n + i))) ≡ some (h, m) → notesIn (part s q e) ≡ h .1
+        → reading {B = Option (Head × ℕ)} o none (λ a n. reading (notesOf (drop n (part s at e))) none (λ ss i. some ((a, ss), n + i))) ≡ some (h, m) → notesIn (part s q e) ≡ h .1
     go none z r = let y : _≡_ {A = ℕ} 0 1 = cc in absurd (omega arith)
     go (some (a, n)) z r =
         let y : at + n ≡ q = cc in
@@ -222,41 +222,41 @@ front-parts y w k s at e q v n z =
     ∙ ap (λ (ss : List Sym). blanks w ++ nameText (nameIn k (part s at e)) ++ if (eqb y 3) (notesText ss) []) (sym (notes-head k s at e q _ _ (sym n) r))
 
 -- a head is there, and its name ends at q
-module _ (k : Frame) (s : List ℕ) (at e : ℕ) (r : headOf k (part s at e) ≡ some (headAt k (part s at e), taken (headOf k (part s at e)))) where
-  pub name-there : nameOf k (part s at e) ≡ some (nameIn k (part s at e), taken (nameOf k (part s at e)))
+module _ (k : Frame) (s : List ℕ) (at e : ℕ) (r : headOf k (part s at e) ≡ some (headAt k (part s at e), sizeTaken (headOf k (part s at e)))) where
+  pub name-there : nameOf k (part s at e) ≡ some (nameIn k (part s at e), sizeTaken (nameOf k (part s at e)))
   unfolding headOf
   name-there = go (nameOf k (part s at e)) r
     where
-      go : (o : Option (Option Sym × ℕ)) → past {B = Option (Head × ℕ)} o none (λ a n. past (notesOf (drop n (part s at e))) none (λ ss i. some ((a, ss), n + i))) ≡ some (headAt k (part s at e), taken (headOf k (part s at e)))
-          → o ≡ some (past {B = Option Sym} o none (λ a n. a), taken o)
+      go : (o : Option (Option Sym × ℕ)) → reading {B = Option (Head × ℕ)} o none (λ a n. reading (notesOf (drop n (part s at e))) none (λ ss i. some ((a, ss), n + i))) ≡ some (headAt k (part s at e), sizeTaken (headOf k (part s at e)))
+          → o ≡ some (reading {B = Option Sym} o none (λ a n. a), sizeTaken o)
       go none r = let y : _≡_ {A = ℕ} 0 1 = cc in absurd (omega arith)
       go (some (a, n)) r = refl
 
-  module _ (q : ℕ) (y : q ≡ at + taken (nameOf k (part s at e))) where
+  module _ (q : ℕ) (y : q ≡ at + sizeTaken (nameOf k (part s at e))) where
     pub name-placed : placeOf at (nameOf k (part s at e)) ≡ At q
     name-placed = ap (placeOf at) name-there ∙ ap At (sym y)
 
-    pub notes-placed : placeOf q (notesOf (part s q e)) ≡ At (at + taken (headOf k (part s at e)))
+    pub notes-placed : placeOf q (notesOf (part s q e)) ≡ At (at + sizeTaken (headOf k (part s at e)))
     notes-placed = sym (head-one k s at e q name-placed) ∙ ap (placeOf at) r
 
-    pub name-before : q ≤ at + taken (headOf k (part s at e))
-    name-before = place-read [] q (at + taken (headOf k (part s at e))) (notesOf (part s q e)) notes-placed .0
+    pub name-before : q ≤ at + sizeTaken (headOf k (part s at e))
+    name-before = place-read [] q (at + sizeTaken (headOf k (part s at e))) (notesOf (part s q e)) notes-placed .0
 
     module _ (h : q < e) (n : getD s q 0 ≡ 13 → ⊥) where
       noteless : notesOf (part s q e) ≡ some ([], 0)
       noteless = notes-none (part s q e) (λ z. n (sym (part-first s q e h) ∙ z))
 
-      pub bare-place : q ≡ at + taken (headOf k (part s at e))
+      pub bare-place : q ≡ at + sizeTaken (headOf k (part s at e))
       bare-place =
-          let z : _≡_ {A = Place} (At (q + 0)) (At (at + taken (headOf k (part s at e)))) = sym (ap (placeOf q) noteless) ∙ notes-placed in
-          let x : q + 0 ≡ at + taken (headOf k (part s at e)) = cc in
+          let z : _≡_ {A = Place} (At (q + 0)) (At (at + sizeTaken (headOf k (part s at e)))) = sym (ap (placeOf q) noteless) ∙ notes-placed in
+          let x : q + 0 ≡ at + sizeTaken (headOf k (part s at e)) = cc in
           omega arith
 
       pub bare-front : (y w : ℕ) → front y w (headAt k (part s at e)) ≡ blanks w ++ nameText (nameIn k (part s at e))
       unfolding notesText
       bare-front y w =
-          front-parts y w k s at e q (at + taken (headOf k (part s at e))) name-placed (ap (placeOf at) r)
-          ∙ ap (λ (o : Option (List Sym × ℕ)). blanks w ++ nameText (nameIn k (part s at e)) ++ if (eqb y 3) (notesText (past o [] (λ ss n. ss))) []) noteless
+          front-parts y w k s at e q (at + sizeTaken (headOf k (part s at e))) name-placed (ap (placeOf at) r)
+          ∙ ap (λ (o : Option (List Sym × ℕ)). blanks w ++ nameText (nameIn k (part s at e)) ++ if (eqb y 3) (notesText (reading o [] (λ ss n. ss))) []) noteless
           ∙ go (eqb y 3)
         where
           go : (b : Bool) → blanks w ++ nameText (nameIn k (part s at e)) ++ if b [] [] ≡ blanks w ++ nameText (nameIn k (part s at e))

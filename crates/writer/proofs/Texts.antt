@@ -11,7 +11,7 @@ use Rattle.output.proofs.Words.{take-le}
 use Rattle.text_rules.specs.Text.{Sym, symbolText}
 use Rattle.tape.specs.Bytes.{part}
 use Rattle.tape.specs.Tree.{Head}
-use Rattle.tape.specs.Tape.{past, nameOf, notesOf, headOf}
+use Rattle.tape.specs.Tape.{reading, nameOf, notesOf, headOf}
 use Rattle.tape.specs.declared.Frame.{Frame}
 use Rattle.tape.proofs.CodeFacts.{part-text}
 use Rattle.writer.specs.Steps.{nameIn, Plain}
@@ -45,11 +45,11 @@ pub name-head : (k : Frame) (l : List ℕ) (h : Head) (m : ℕ) → headOf k l �
 unfolding headOf
 name-head k l h m e = go (nameOf k l) e
   where
-    behind : (a : Option Sym) (n : ℕ) (o : Option (List Sym × ℕ)) → past {B = Option (Head × ℕ)} o none (λ ss i. some ((a, ss), n + i)) ≡ some (h, m) → a ≡ h .0
+    behind : (a : Option Sym) (n : ℕ) (o : Option (List Sym × ℕ)) → reading {B = Option (Head × ℕ)} o none (λ ss i. some ((a, ss), n + i)) ≡ some (h, m) → a ≡ h .0
     behind a n none e = let z : _≡_ {A = ℕ} 0 1 = cc in absurd (omega arith)
-    behind a n (some (ss, i)) e = ap (λ (o : Option (Head × ℕ)). past o a (λ g j. g .0)) e
+    behind a n (some (ss, i)) e = ap (λ (o : Option (Head × ℕ)). reading o a (λ g j. g .0)) e
 
-    go : (o : Option (Option Sym × ℕ)) → past {B = Option (Head × ℕ)} o none (λ a n. past (notesOf (drop n l)) none (λ ss i. some ((a, ss), n + i))) ≡ some (h, m)
-        → past {B = Option Sym} o none (λ a n. a) ≡ h .0
+    go : (o : Option (Option Sym × ℕ)) → reading {B = Option (Head × ℕ)} o none (λ a n. reading (notesOf (drop n l)) none (λ ss i. some ((a, ss), n + i))) ≡ some (h, m)
+        → reading {B = Option Sym} o none (λ a n. a) ≡ h .0
     go none e = let z : _≡_ {A = ℕ} 0 1 = cc in absurd (omega arith)
     go (some (a, n)) e = behind a n (notesOf (drop n l)) e

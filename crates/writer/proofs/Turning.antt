@@ -12,7 +12,7 @@ use lib.ListN.{length, take, drop}
 use Rattle.output.specs.Logic.{if}
 use Rattle.tape.specs.Bytes.{part}
 use Rattle.tape.specs.Tree.{Scalar, Head, Node, scalar, nest, marker, more}
-use Rattle.tape.specs.Tape.{past, kind, lengthOf, headOf, scalarOf, Value, absent, leaf, body, openOf, valueOf, free, single, behind, headFault, fault, Walked, walk}
+use Rattle.tape.specs.Tape.{reading, kind, lengthOf, headOf, scalarOf, Value, absent, leaf, body, openOf, valueOf, freeAt, single, headedChild, headFault, fault, Walked, walk}
 use Rattle.tape.specs.Steps.{placeOf, headAt, ChildAt}
 use Rattle.tape.specs.CheckSteps.{frameOf}
 use Rattle.tape.specs.declared.Frame.{Frame}
@@ -25,7 +25,7 @@ use Rattle.tape.proofs.CodeFacts.{value-open}
 use Rattle.tape.proofs.CodeChild.{head-within, child-headless, child-is, child-from, behind-open}
 use Rattle.tape.proofs.Walking.{walk-end, join-zero}
 use Rattle.tape.proofs.Turns.{bad-turn, single-step, tree-turn}
-use Rattle.writer.specs.Steps.{taken, isNil, nodeIs, sizeIs, problemIs, nodeAt, sizeAt, problemAt}
+use Rattle.writer.specs.Steps.{sizeTaken, isNil, nodeIs, sizeIs, problemIs, nodeAt, sizeAt, problemAt}
 
 -- ---- a value, by its kind
 
@@ -81,14 +81,14 @@ module _ (d : ℕ) (l : List ℕ) (z : problemAt d l ≡ 0) where
       go (leaf v n) q (a-leaf p h e) = p
       go (body k n) q (a-body h e) = omega arith
 
-  as-scalar : valueOf true l ≡ past (scalarOf l) absent (λ s n. leaf (scalar s) n) → ScalarHere d l
+  as-scalar : valueOf true l ≡ reading (scalarOf l) absent (λ s n. leaf (scalar s) n) → ScalarHere d l
   unfolding nodeAt sizeAt
   as-scalar e = go (scalarOf l) refl
     where
       go : (o : Option (Scalar × ℕ)) → scalarOf l ≡ o → ScalarHere d l
-      go none q = absurd (present (e ∙ ap (λ (o : Option (Scalar × ℕ)). past o absent (λ s n. leaf (scalar s) n)) q))
+      go none q = absurd (present (e ∙ ap (λ (o : Option (Scalar × ℕ)). reading o absent (λ s n. leaf (scalar s) n)) q))
       go (some (s, n)) q =
-          let v : valueOf true l ≡ leaf (scalar s) n = e ∙ ap (λ (o : Option (Scalar × ℕ)). past o absent (λ s n. leaf (scalar s) n)) q in
+          let v : valueOf true l ≡ leaf (scalar s) n = e ∙ ap (λ (o : Option (Scalar × ℕ)). reading o absent (λ s n. leaf (scalar s) n)) q in
           record { it = s; count = n; read = q; node = ap (nodeIs d l) v; size = ap sizeIs v }
 
   pub scalar-here : kind l < 10 → ScalarHere d l
@@ -142,27 +142,27 @@ pub record Turn (d : ℕ) (k : Frame) (s : List ℕ) (at e q r : ℕ) : Type 0 w
 module _ (d : ℕ) (k : Frame) (s : List ℕ) (at e : ℕ) (nz : d ≡ 0 → ⊥) (h : at < e) (i : e ≤ length s) (z : walk d k (part s at e) .1 ≡ 0) where
   -- where the value stands
   abbrev place : ℕ
-  place = at + taken (headOf k (part s at e))
+  place = at + sizeTaken (headOf k (part s at e))
 
   unbad : ChildAt k s at e NoChild → ⊥
   unbad c = let y = ap (λ (w : Walked). w .1) (bad-turn d k s at e nz h i c) in omega arith
 
-  pub head-here : headOf k (part s at e) ≡ some (headAt k (part s at e), taken (headOf k (part s at e)))
+  pub head-here : headOf k (part s at e) ≡ some (headAt k (part s at e), sizeTaken (headOf k (part s at e)))
   head-here = go (headOf k (part s at e)) refl
     where
-      go : (o : Option (Head × ℕ)) → headOf k (part s at e) ≡ o → o ≡ some (past o (none, []) (λ h n. h), taken o)
+      go : (o : Option (Head × ℕ)) → headOf k (part s at e) ≡ o → o ≡ some (reading o (none, []) (λ h n. h), sizeTaken o)
       go none q = absurd (unbad (record { told = child-headless k s at e (ap (placeOf at) q) }))
       go (some (a, n)) q = refl
 
   head-place : placeOf at (headOf k (part s at e)) ≡ At place
   head-place = ap (placeOf at) head-here
 
-  value-here : valueOf (free k (part s at e)) (part s place e) ≡ absent → ⊥
+  value-here : valueOf (freeAt k (part s at e)) (part s place e) ≡ absent → ⊥
   value-here q = unbad (child-from k s at e place (head-within k s at e place (omega arith) i head-place .0) head-place NoChild (record { told = q }))
 
   pub turn-here : Turn d k s at e place (place + sizeAt (part s place e))
   unfolding nodeAt sizeAt problemAt
-  turn-here = go (valueOf (free k (part s at e)) (part s place e)) refl (value-sound (free k (part s at e)) (part s place e))
+  turn-here = go (valueOf (freeAt k (part s at e)) (part s place e)) refl (value-sound (freeAt k (part s at e)) (part s place e))
     where
       w : (at ≤ place) × (place ≤ e)
       w = head-within k s at e place (omega arith) i head-place
@@ -171,10 +171,10 @@ module _ (d : ℕ) (k : Frame) (s : List ℕ) (at e : ℕ) (nz : d ≡ 0 → ⊥
       l = part s place e
 
       -- the value, where a marker may stand too
-      same : (v : Value) → valueOf (free k (part s at e)) l ≡ v → valueOf true l ≡ v
-      same v q = free-any (free k (part s at e)) l value-here ∙ q
+      same : (v : Value) → valueOf (freeAt k (part s at e)) l ≡ v → valueOf true l ≡ v
+      same v q = free-any (freeAt k (part s at e)) l value-here ∙ q
 
-      go : (v : Value) → valueOf (free k (part s at e)) l ≡ v → SoundV l v → Turn d k s at e place (place + sizeAt l)
+      go : (v : Value) → valueOf (freeAt k (part s at e)) l ≡ v → SoundV l v → Turn d k s at e place (place + sizeAt l)
       go absent q t = absurd (value-here q)
       go (leaf v n) q (a-leaf p m f) =
           let a = w .0 in
@@ -198,7 +198,7 @@ module _ (d : ℕ) (k : Frame) (s : List ℕ) (at e : ℕ) (nz : d ≡ 0 → ⊥
           let len = part-length s place e i in
           let size : sizeAt l ≡ 5 + n = ap sizeIs (same (body f n) q) in
           let stop : place + sizeAt l ≡ place + 5 + n = omega arith in
-          let u = tree-turn d k s at e nz h i f (place + 5) (place + 5 + n) (child-from k s at e place a head-place (OpenC f (place + 5) (place + 5 + n)) (behind-open s place e (free k (part s at e)) b i f n (sym q))) in
+          let u = tree-turn d k s at e nz h i f (place + 5) (place + 5 + n) (child-from k s at e place a head-place (OpenC f (place + 5) (place + 5 + n)) (behind-open s place e (freeAt k (part s at e)) b i f n (sym q))) in
           let inner : take n (drop 5 l) ≡ part s (place + 5) (place + 5 + n) = part-inner s place e 5 n (omega arith) in
           let rest = ap (λ (r : ℕ). walk d k (part s r e)) stop in
           let all = join-zero (headFault (headAt k (part s at e))) (walk (d - 1) f (part s (place + 5) (place + 5 + n)) .1) (walk d k (part s (place + 5 + n) e) .1) (sym (ap (λ (w : Walked). w .1) (u .step)) ∙ z) in

@@ -10,22 +10,22 @@ use lib.ListN.{length, take, drop}
 use Rattle.output.specs.Logic.{if, byte, ascii}
 use Rattle.text_rules.specs.Text.{Sym, symbolText}
 use Rattle.tape.specs.Tree.{Head, Node, Nodes, scalar, nest, marker, nil, more}
-use Rattle.tape.specs.Tape.{past, nameOf, notesOf, Value, absent, leaf, body, valueOf, walk}
+use Rattle.tape.specs.Tape.{reading, nameOf, notesOf, Value, absent, leaf, body, valueOf, walk}
 use Rattle.tape.specs.declared.Frame.{Frame}
 use Rattle.writer.specs.declared.whitespace_config.Separator.{Separator}
 use Rattle.writer.specs.Text.{scalarText, nameText, notesText, opening, closing, separator, broken, deeper, blanks}
 
 -- the name of the child that the bytes l start with, if it has one
 abbrev pub nameIn : Frame → List ℕ → Option Sym
-nameIn k l = past (nameOf k l) none (λ a n. a)
+nameIn k l = reading (nameOf k l) none (λ a n. a)
 
 -- the annotations that the bytes l start with
 abbrev pub notesIn : List ℕ → List Sym
-notesIn l = past (notesOf l) [] (λ ss n. ss)
+notesIn l = reading (notesOf l) [] (λ ss n. ss)
 
 -- how many bytes were read
-abbrev pub taken : {A : Type 0} → Option (A × ℕ) → ℕ
-taken o = past o 0 (λ a n. n)
+abbrev pub sizeTaken : {A : Type 0} → Option (A × ℕ) → ℕ
+sizeTaken o = reading o 0 (λ a n. n)
 
 -- the n bytes of s from a place on are a symbol that stands bare, and eight bytes stand there
 pub record Plain (s : List ℕ) (from n : ℕ) : Type 0 where

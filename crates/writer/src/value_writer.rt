@@ -9,14 +9,14 @@ ghost use mathlib.Core.Option.{some};
 ghost use mathlib.Core.Bool.{true, false, not};
 ghost use lib.Dec.{eqb};
 ghost use mathlib.Core.List.{[]};
-ghost use Rattle.tape.specs.Tape.{past, nameOf, notesOf, headOf, scalarOf, walk};
+ghost use Rattle.tape.specs.Tape.{reading, nameOf, notesOf, headOf, scalarOf, walk};
 ghost use Rattle.tape.specs.Steps.{placeOf, meantScalar, sizeOf, headAt};
 ghost use Rattle.tape.specs.declared.Place.the-variants.{At};
 ghost use Rattle.output.specs.Logic.{if, ascii};
 ghost use Rattle.writer.specs.Text.{scalarText, nameText, notesText, blanks, closing};
 ghost use Rattle.text_rules.specs.Text.{symbolText, stringText, clobText};
 ghost use Rattle.tape.specs.declared.Frame.the-variants.{Struct};
-ghost use Rattle.writer.specs.Steps.{nameIn, notesIn, taken, front, separating, Plain, item, items, nodeAt, sizeAt, problemAt};
+ghost use Rattle.writer.specs.Steps.{nameIn, notesIn, sizeTaken, front, separating, Plain, item, items, nodeAt, sizeAt, problemAt};
 use crate::whitespace_config;
 use crate::whitespace_config::Separator;
 use tape::Frame;
@@ -122,10 +122,10 @@ fn write_text_name(buf: &mut [u8], pos: usize, tape: &[u8], at: usize, end: usiz
     requires { ⌜ pos ≤ limit ⌝ }
     requires { ⌜ at ≤ end ⌝ }
     requires { ⌜ end + 8 ≤ length (now tape) ⌝ }
-    requires { ⌜ nameOf Struct (part (now tape) at end) ≡ some (nameIn Struct (part (now tape) at end), taken (nameOf Struct (part (now tape) at end))) ⌝ }
+    requires { ⌜ nameOf Struct (part (now tape) at end) ≡ some (nameIn Struct (part (now tape) at end), sizeTaken (nameOf Struct (part (now tape) at end))) ⌝ }
     requires { ⌜ getD (now tape) at 0 < 7 ⌝ }
     ensures text { λ r. ⌜ Wrote (now (buf .entry)) (now (buf .exit)) pos (r .pos) (nameText (nameIn Struct (part (now (tape .entry)) at end))) ⌝ }
-    ensures place { λ r. ⌜ r .at ≡ at + taken (nameOf Struct (part (now (tape .entry)) at end)) ⌝ }
+    ensures place { λ r. ⌜ r .at ≡ at + sizeTaken (nameOf Struct (part (now (tape .entry)) at end)) ⌝ }
 {
     let n = tape::u32_at(tape, at + 1) as usize;
     let from = at + 5;
@@ -150,9 +150,9 @@ fn write_name(buf: &mut [u8], pos: usize, tape: &[u8], at: usize, end: usize) ->
     requires { ⌜ pos ≤ limit ⌝ }
     requires { ⌜ at ≤ end ⌝ }
     requires { ⌜ end + 8 ≤ length (now tape) ⌝ }
-    requires { ⌜ nameOf Struct (part (now tape) at end) ≡ some (nameIn Struct (part (now tape) at end), taken (nameOf Struct (part (now tape) at end))) ⌝ }
+    requires { ⌜ nameOf Struct (part (now tape) at end) ≡ some (nameIn Struct (part (now tape) at end), sizeTaken (nameOf Struct (part (now tape) at end))) ⌝ }
     ensures text { λ r. ⌜ Wrote (now (buf .entry)) (now (buf .exit)) pos (r .pos) (nameText (nameIn Struct (part (now (tape .entry)) at end))) ⌝ }
-    ensures place { λ r. ⌜ r .at ≡ at + taken (nameOf Struct (part (now (tape .entry)) at end)) ⌝ }
+    ensures place { λ r. ⌜ r .at ≡ at + sizeTaken (nameOf Struct (part (now (tape .entry)) at end)) ⌝ }
 {
     // 6 is text, 7 an identifier
     if tape[at] < 7 {
@@ -176,9 +176,9 @@ fn encode_field_name(
     requires { ⌜ pos ≤ limit ⌝ }
     requires { ⌜ at ≤ end ⌝ }
     requires { ⌜ end + 8 ≤ length (now tape) ⌝ }
-    requires { ⌜ nameOf frame (part (now tape) at end) ≡ some (nameIn frame (part (now tape) at end), taken (nameOf frame (part (now tape) at end))) ⌝ }
+    requires { ⌜ nameOf frame (part (now tape) at end) ≡ some (nameIn frame (part (now tape) at end), sizeTaken (nameOf frame (part (now tape) at end))) ⌝ }
     ensures text { λ r. ⌜ Wrote (now (buf .entry)) (now (buf .exit)) pos (r .pos) (nameText (nameIn frame (part (now (tape .entry)) at end))) ⌝ }
-    ensures place { λ r. ⌜ r .at ≡ at + taken (nameOf frame (part (now (tape .entry)) at end)) ⌝ }
+    ensures place { λ r. ⌜ r .at ≡ at + sizeTaken (nameOf frame (part (now (tape .entry)) at end)) ⌝ }
 {
     match frame {
         Frame::Struct => write_name(buf, pos, tape, at, end),
@@ -251,10 +251,10 @@ fn write_front(
     requires { ⌜ pos ≤ limit ⌝ }
     requires { ⌜ at ≤ end ⌝ }
     requires { ⌜ end + 8 ≤ length (now tape) ⌝ }
-    requires { ⌜ headOf frame (part (now tape) at end) ≡ some (headAt frame (part (now tape) at end), taken (headOf frame (part (now tape) at end))) ⌝ }
-    requires { ⌜ at + taken (headOf frame (part (now tape) at end)) < end ⌝ }
+    requires { ⌜ headOf frame (part (now tape) at end) ≡ some (headAt frame (part (now tape) at end), sizeTaken (headOf frame (part (now tape) at end))) ⌝ }
+    requires { ⌜ at + sizeTaken (headOf frame (part (now tape) at end)) < end ⌝ }
     ensures text { λ r. ⌜ Wrote (now (buf .entry)) (now (buf .exit)) pos (r .pos) (front layout width (headAt frame (part (now (tape .entry)) at end))) ⌝ }
-    ensures place { λ r. ⌜ r .at ≡ at + taken (headOf frame (part (now (tape .entry)) at end)) ⌝ }
+    ensures place { λ r. ⌜ r .at ≡ at + sizeTaken (headOf frame (part (now (tape .entry)) at end)) ⌝ }
 {
     let o = whitespace_config::write_blanks(buf, pos, width);
     let n = encode_field_name(buf, o, tape, at, end, frame);
@@ -294,10 +294,10 @@ fn write_symbol(buf: &mut [u8], pos: usize, tape: &[u8], at: usize, end: usize) 
     requires { ⌜ pos ≤ limit ⌝ }
     requires { ⌜ at ≤ end ⌝ }
     requires { ⌜ end + 8 ≤ length (now tape) ⌝ }
-    requires { ⌜ 0 < taken (scalarOf (part (now tape) at end)) ⌝ }
+    requires { ⌜ 0 < sizeTaken (scalarOf (part (now tape) at end)) ⌝ }
     requires { ⌜ getD (now tape) at 0 ≡ 6 ⌝ }
-    ensures text { λ r. ⌜ Wrote (now (buf .entry)) (now (buf .exit)) pos (r .pos) (past (scalarOf (part (now (tape .entry)) at end)) [] (λ s n. scalarText s)) ⌝ }
-    ensures place { λ r. ⌜ r .at ≡ at + taken (scalarOf (part (now (tape .entry)) at end)) ⌝ }
+    ensures text { λ r. ⌜ Wrote (now (buf .entry)) (now (buf .exit)) pos (r .pos) (reading (scalarOf (part (now (tape .entry)) at end)) [] (λ s n. scalarText s)) ⌝ }
+    ensures place { λ r. ⌜ r .at ≡ at + sizeTaken (scalarOf (part (now (tape .entry)) at end)) ⌝ }
 {
     let n = tape::u32_at(tape, at + 1) as usize;
     let from = at + 5;
@@ -320,9 +320,9 @@ fn write_leaf(buf: &mut [u8], pos: usize, tape: &[u8], at: usize, end: usize) ->
     requires { ⌜ pos ≤ limit ⌝ }
     requires { ⌜ at ≤ end ⌝ }
     requires { ⌜ end + 8 ≤ length (now tape) ⌝ }
-    requires { ⌜ 0 < taken (scalarOf (part (now tape) at end)) ⌝ }
-    ensures text { λ r. ⌜ Wrote (now (buf .entry)) (now (buf .exit)) pos (r .pos) (past (scalarOf (part (now (tape .entry)) at end)) [] (λ s n. scalarText s)) ⌝ }
-    ensures place { λ r. ⌜ r .at ≡ at + taken (scalarOf (part (now (tape .entry)) at end)) ⌝ }
+    requires { ⌜ 0 < sizeTaken (scalarOf (part (now tape) at end)) ⌝ }
+    ensures text { λ r. ⌜ Wrote (now (buf .entry)) (now (buf .exit)) pos (r .pos) (reading (scalarOf (part (now (tape .entry)) at end)) [] (λ s n. scalarText s)) ⌝ }
+    ensures place { λ r. ⌜ r .at ≡ at + sizeTaken (scalarOf (part (now (tape .entry)) at end)) ⌝ }
 {
     let k = tape[at];
     if k == 2 {

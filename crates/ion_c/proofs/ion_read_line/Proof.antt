@@ -3,7 +3,7 @@ use mathlib.Core.Path.{ap, _∙_}
 use mir.Syntax.{w64}
 use mir.ValLaws.{toZ-ofZ}
 use Rattle.line_reader.specs.Book.{Call}
-use Rattle.line_reader.specs.Steps.{called}
+use Rattle.line_reader.specs.Calls.{called}
 use Rattle.ion_c.specs.Code.{code}
 use Rattle.ion_c.proofs.Small.{step-small}
 use borrow.Author.Needs.{needs}

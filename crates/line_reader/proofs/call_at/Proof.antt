@@ -49,7 +49,7 @@ use denote.Triple.Spec.{Meets, tripleOf}
 use denote.Triple.Table.{entered, cited}
 use denote.Triple.Walked.{says, Stays, stay-none, stay-none-slice, gave-slice, walkOf, goes-none, goes-none-slice, goes-gave-slice, Walks, ends-at, walked, walk-meets}
 use denote.Exit.{yes}
-use Rattle.line_reader.specs.Steps.{step, called}
+use Rattle.line_reader.specs.Calls.{step, called}
 use Rattle.line_reader.specs.declared.Session.{Session}
 use Rattle.tape.specs.declared.answer.Answer.{Answer}
 use Rattle.line_reader.specs.declared.Called.{Called}

@@ -3,7 +3,7 @@ use mathlib.Core.Path.{sym}
 use native.Mathlib.Omega.{arith}
 use lib.ListN.{drop, length-drop}
 use Rattle.line_reader.specs.Book.{endMark}
-use Rattle.line_reader.specs.Steps.{past, called}
+use Rattle.line_reader.specs.Calls.{pastText, called}
 use Rattle.line_reader.proofs.LineLaws.{step-read}
 use Rattle.line_reader.proofs.CutLaws.{first-within}
 use Rattle.line_reader.proofs.BookLaws.{step-past, step-end}
@@ -12,7 +12,7 @@ use Rattle.line_reader.proofs.line_at.Statement.{statement}
 use Rattle.line_reader.proofs.line_at.Tie as tie
 
 returns : tie.Need-returns
-unfolding called past
+unfolding called pastText
 returns c =
     let a = c .before .before .before .args in
     sym (step-past (a .text .now) (a .at) (a .out .now) (omega arith))

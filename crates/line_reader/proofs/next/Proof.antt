@@ -46,7 +46,7 @@ use denote.Triple.Entry.{onEntry}
 use denote.Triple.Spec.{Meets, tripleOf}
 use denote.Triple.Table.{entered, cited}
 use denote.Triple.Walked.{says, Stays, stay-ref, gave-slice, walkOf, goes-ref, goes-gave-slice, Walks, ends-at, walked, walk-meets}
-use Rattle.line_reader.specs.Steps.{step, called}
+use Rattle.line_reader.specs.Calls.{step, called}
 use Rattle.line_reader.specs.declared.Session.{Session}
 use Rattle.line_reader.specs.declared.Called.{Called}
 use Rattle.line_reader.proofs.Placed.{α, B}

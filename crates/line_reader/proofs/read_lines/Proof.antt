@@ -59,7 +59,7 @@ use Rattle.tape.specs.declared.answer.Answer.{Answer}
 use Rattle.tape.specs.declared.answer.Answer.the-variants.{End}
 use Rattle.tape.proofs.answer.Answer as S
 use Rattle.tape.proofs.answer.Answer.Laws as S′
-use Rattle.line_reader.specs.Steps.{step, called}
+use Rattle.line_reader.specs.Calls.{step, called}
 use Rattle.line_reader.specs.declared.Session.{Session}
 use Rattle.line_reader.proofs.Again.{LentAgain, lends-again, comes-back}
 use Rattle.line_reader.proofs.RunLaws.{Upto, stored, stored-long, upto-none, upto-more, stored-more, upto-ran}

@@ -3,7 +3,7 @@ use denote.Ref.{now}
 use lib.Dec.{eqb}
 use lib.ListN.{getD}
 use Rattle.tape.proofs.Parts.{part-first}
-use Rattle.tape.specs.Tape.{free}
+use Rattle.tape.specs.Tape.{freeAt}
 use Rattle.tape.proofs.CodeReading.{if-not}
 use borrow.Author.Needs.{needs}
 use Rattle.tape.proofs.is_free.Statement.{statement}
@@ -25,22 +25,22 @@ enum-told-4 : tie.Need-enum-told-4
 enum-told-4 c = search needs
 
 returns : tie.Need-returns
-unfolding free
+unfolding freeAt
 returns c =
     let a = c .before .before .before .args in
     let f = part-first (now (a .tape)) (a .at) (a .end) (c .before .before .before .pre .0) in
     rw (c .before .enum-told .given .1, f) (if-not (eqb (getD (now (a .tape)) (a .at) 0) 13))
 
 returns-2 : tie.Need-returns-2
-unfolding free
+unfolding freeAt
 returns-2 c = rw (c .enum-told2 .given .1)
 
 returns-3 : tie.Need-returns-3
-unfolding free
+unfolding freeAt
 returns-3 c = rw (c .enum-told3 .given .1)
 
 returns-4 : tie.Need-returns-4
-unfolding free
+unfolding freeAt
 returns-4 c = rw (c .enum-told4 .given .1)
 
 pub is-free-spec : {M : Type 1} → statement M

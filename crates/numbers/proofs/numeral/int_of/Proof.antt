@@ -8,7 +8,7 @@ use lib.IntN.{ℤ, pos, negsuc}
 use lib.ListN.{drop}
 use mir.Syntax.{w64}
 use mir.Val.{SFits}
-use Rattle.numbers.specs.Numeral.{Numeral, intOf}
+use Rattle.numbers.specs.Numeral.{Numeral, rangedInt}
 use Rattle.numbers.proofs.Signed.{read-back}
 use Rattle.numbers.proofs.NumeralLaws.{int-some, int-some-below, int-none, int-none-below}
 use Rattle.text_rules.proofs.ReadingLaws.{refused}
@@ -17,7 +17,7 @@ use Rattle.numbers.proofs.numeral.int_of.Statement.{statement}
 use Rattle.numbers.proofs.numeral.int_of.Tie as tie
 
 returns : tie.Need-returns
-unfolding intOf
+unfolding rangedInt
 returns c = λ t h. refused (rw (c .before .if1 .taken, c .if2 .taken))
 
 sub-minus : tie.Need-sub-minus
@@ -34,7 +34,7 @@ returns-2 c =
     let f : SFits w64 z = record { sfits = omega (arith, c .before .if3 .taken, c .before .before .if2 .left) } in
     let b = read-back w64 (c .minus .result) z (c .minus .ensures) f in
     λ t h. record {
-      is = rw (c .before .before .before .if1 .taken) (ap (λ (k : ℕ). intOf true k (drop (x .end) t)) q ∙ int-some-below (x .m - 1) (drop (x .end) t) (f .sfits) ∙ ap (λ (y : ℤ). some (Numeral.int y, drop (x .end) t)) (sym b));
+      is = rw (c .before .before .before .if1 .taken) (ap (λ (k : ℕ). rangedInt true k (drop (x .end) t)) q ∙ int-some-below (x .m - 1) (drop (x .end) t) (f .sfits) ∙ ap (λ (y : ℤ). some (Numeral.int y, drop (x .end) t)) (sym b));
       place = (omega arith, h);
     }
 

@@ -12,7 +12,7 @@ use Rattle.tape.specs.Tree.{encodeName}
 use Rattle.tape.specs.Tape.{kind, nameOf, notesOf, nameFault, walk}
 use Rattle.tape.specs.Refusal.{annotated, noted, headNumbered, numbered}
 use Rattle.tape.specs.Steps.{headAt}
-use Rattle.tape.specs.CheckSteps.{numberIn, nameIn, frameOf, notesFront}
+use Rattle.tape.specs.CheckSteps.{numberIn, nameNumberIn, frameOf, notesFront}
 use Rattle.tape.specs.declared.Frame.{Frame}
 use Rattle.tape.specs.declared.check.Front.the-variants as F
 use Rattle.tape.proofs.Walking.{walk-end}
@@ -144,7 +144,7 @@ module _ (t : ℕ) (c : lts.After-either (callees t) (at t) own.Post Inv μ-loop
       omega arith
 
   -- the annotations behind it, by what was gathered with the name
-  named : notesFront behind notes₀ (c .either .result) (notesOf (part tape behind end)) ≡ notesFront behind notes₀ (numbers₀ || nameIn frame (part tape place end)) (notesOf (part tape behind end))
+  named : notesFront behind notes₀ (c .either .result) (notesOf (part tape behind end)) ≡ notesFront behind notes₀ (numbers₀ || nameNumberIn frame (part tape place end)) (notesOf (part tape behind end))
   named = ap (λ (b : Bool). notesFront behind notes₀ b (notesOf (part tape behind end))) (c .either .ensures ∙ ap (λ (b : Bool). numbers₀ || b) (c .before .name-number .ensures))
 
 -- ---- behind a head

@@ -1,7 +1,7 @@
 -- `tape::check::name_number` meets its contract. Assumes nothing.
 use mathlib.Core.Path.{_∙_}
 use Rattle.tape.specs.Tape.{nameOf}
-use Rattle.tape.specs.CheckSteps.{nameIn}
+use Rattle.tape.specs.CheckSteps.{nameNumberIn}
 use Rattle.tape.proofs.CodeFacts.{number-name}
 use borrow.Author.Needs.{needs}
 use Rattle.tape.proofs.check.name_number.Statement.{statement}
@@ -26,15 +26,15 @@ returns : tie.Need-returns
 returns c = rw (c .before .enum-told .given .1) (c .is-number .ensures ∙ number-name _)
 
 returns-2 : tie.Need-returns-2
-unfolding nameIn nameOf
+unfolding nameNumberIn nameOf
 returns-2 c = rw (c .enum-told2 .given .1)
 
 returns-3 : tie.Need-returns-3
-unfolding nameIn nameOf
+unfolding nameNumberIn nameOf
 returns-3 c = rw (c .enum-told3 .given .1)
 
 returns-4 : tie.Need-returns-4
-unfolding nameIn nameOf
+unfolding nameNumberIn nameOf
 returns-4 c = rw (c .enum-told4 .given .1)
 
 pub name-number-spec : {M : Type 1} → statement M

@@ -6,7 +6,7 @@ use mathlib.Core.Bool.{true}
 use borrow.Author.Tests.{le-leb, lt-leb}
 use lib.ListN.{length, getD}
 use Rattle.text_rules.specs.Digits.{isDigit}
-use Rattle.text_rules.specs.DigitSteps.{Ran}
+use Rattle.text_rules.specs.DigitSteps.{RunJoined}
 use Rattle.text_rules.specs.declared.digits.Joined.{Joined}
 use Rattle.text_rules.specs.declared.digits.Joined.the-variants.{Digits as DigitsV, Over}
 use Rattle.text_rules.proofs.DigitReading.{ran-stop, ran-more, ran-over, no-digit, no-byte}
@@ -15,7 +15,7 @@ use Rattle.text_rules.proofs.digits.digits_at.Statement.{statement}
 use Rattle.text_rules.proofs.digits.digits_at.Tie as tie
 
 abbrev Inv-loop : tie.InvT-loop
-Inv-loop text from acc n₀ i₀ n i = (from ≤ i) × (i ≤ length text) × (n < 2 ^ 64) × ((r : Joined) → Ran text i n r → Ran text from acc r)
+Inv-loop text from acc n₀ i₀ n i = (from ≤ i) × (i ≤ length text) × (n < 2 ^ 64) × ((r : Joined) → RunJoined text i n r → RunJoined text from acc r)
 
 abbrev μ-loop : tie.MeasureT-loop
 μ-loop text from acc n₀ i₀ n i = length text - i

@@ -2,7 +2,7 @@
 use mathlib.Core.Path.{_≡_, refl}
 use Prim.Native.Nat.{ℕ, _+_, _-_, _*_, _/_, _%_, _≤_, _<_}
 use native.Mathlib.Omega.{arith}
-use Rattle.text_rules.specs.DigitSteps.{packed, word}
+use Rattle.text_rules.specs.DigitSteps.{packed, digitWord}
 use Rattle.text_rules.proofs.DigitWords.{tens-of, remainders, lanes-word, word-small}
 use borrow.Author.Needs.{needs}
 use Rattle.text_rules.proofs.digits.lanes.Statement.{statement}
@@ -41,7 +41,7 @@ tens-is h a b c d ha hb hc hd e = tens-of a b c d h (h * 103 / 1024) ha hb hc hd
 abbrev joined : ℕ → ℕ
 joined h = tens (h * 103 / 1024) + (h - 10 * tens (h * 103 / 1024)) * 256
 
-whole : (h a b c d : ℕ) → a < 100 → b < 100 → c < 100 → d < 100 → h ≡ packed a b c d → joined h ≡ word a b c d
+whole : (h a b c d : ℕ) → a < 100 → b < 100 → c < 100 → d < 100 → h ≡ packed a b c d → joined h ≡ digitWord a b c d
 whole h a b c d ha hb hc hd e = lanes-word a b c d h (tens (h * 103 / 1024)) e (tens-is h a b c d ha hb hc hd e)
 
 under : (h t m : ℕ) → h ≡ 10 * t + m → 10 * t ≤ h

@@ -4,14 +4,14 @@ use mathlib.Core.Path.{_≡_, refl, sym, _∙_}
 use native.Mathlib.Omega.{arith}
 use lib.ListN.{length, drop}
 use borrow.Author.Tests.{not-true, not-false}
-use Rattle.text_rules.specs.Digits.{past}
+use Rattle.text_rules.specs.Digits.{behindDigits}
 use Rattle.text_rules.proofs.WordsLaws.{passed-stop, passed-end, past-digit}
 use borrow.Author.Needs.{needs}
 use Rattle.text_rules.proofs.words.digits_end.Statement.{statement}
 use Rattle.text_rules.proofs.words.digits_end.Tie as tie
 
 abbrev Inv-loop : tie.InvT-loop
-Inv-loop text from i₀ i = (from ≤ i) × (i ≤ length text) × (past (drop i text) ≡ past (drop from text))
+Inv-loop text from i₀ i = (from ≤ i) × (i ≤ length text) × (behindDigits (drop i text) ≡ behindDigits (drop from text))
 
 abbrev μ-loop : tie.MeasureT-loop
 μ-loop text from i₀ i = length text - i

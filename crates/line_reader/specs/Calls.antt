@@ -11,12 +11,12 @@ use Rattle.line_reader.specs.Cut.{toFirst}
 use Rattle.line_reader.specs.Book.{Call, Turn, endMark, byBook}
 
 -- "A call at an offset past the text gives 10", which keeps the offset and the buffer
-unfoldable pub past : Turn
-past at buf = record { answer = refused 10; at = at; buf = buf }
+unfoldable pub pastText : Turn
+pastText at buf = record { answer = refused 10; at = at; buf = buf }
 
 -- one call on a text, at any offset: 10, end mark, then the bytes through the next LF by the book
 unfoldable pub step : List ℕ → Turn
-step text at buf = if (ltb (length text) at) (past at buf) (if (eqb at (length text)) (endMark at buf) (byBook (toFirst (drop at text)) at buf))
+step text at buf = if (ltb (length text) at) (pastText at buf) (if (eqb at (length text)) (endMark at buf) (byBook (toFirst (drop at text)) at buf))
 
 -- n calls, each from what the last one left
 unfoldable pub calls : ℕ → List ℕ → ℕ → List ℕ → List Call
