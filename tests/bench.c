@@ -1,4 +1,5 @@
-/* Times ion_write in a layout, or ion_write_tree, over tape files: thread processor time, best of many. Usage: bench LAYOUT|tree FILE.. */
+/* Times ion_write in a layout, or ion_write_tree, over tape files: thread processor time, best of many. With `once` there is one call for each
+   file, for count.py. Usage: bench [once] LAYOUT|tree FILE.. */
 #include "../bindings/c/ion.h"
 
 #include <stdio.h>
@@ -15,14 +16,15 @@ static double now(void) {
 static uint8_t tape[1 << 20], out[1 << 24];
 
 int main(int count, char **words) {
-    int tree = !strcmp(words[1], "tree");
-    uint32_t layout = atoi(words[1]);
-    for (int k = 2; k < count; k++) {
+    int once = !strcmp(words[1], "once");
+    int tree = !strcmp(words[1 + once], "tree");
+    uint32_t layout = atoi(words[1 + once]);
+    for (int k = 2 + once; k < count; k++) {
         FILE *f = fopen(words[k], "rb");
         if (!f) return 1;
         size_t n = fread(tape, 1, sizeof tape, f);
         fclose(f);
-        int turns = 1 + 200000 / (int)(n + 20), runs = 300;
+        int turns = once ? 1 : 1 + 200000 / (int)(n + 20), runs = once ? 1 : 300;
         double best = 1e18;
         int64_t r = 0;
         for (int i = 0; i < runs; i++) {

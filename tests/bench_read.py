@@ -2,16 +2,17 @@
 
     python3 tests/bench_read.py [ROUNDS]
 
-Needs Debian's libjansson-dev. Processor time, best of many, all in one run.
+Needs Debian's libjansson-dev. Our side is the archive that `rt staticlib ion_c` makes, or that of the folder LECHUQTA_LIB_DIR. Processor
+time, best of many, all in one run.
 """
-import os
 import subprocess
 import sys
 import tempfile
 
+import builds
+
 ROUNDS = int(sys.argv[1]) if len(sys.argv) > 1 else 4
-subprocess.run(['rt', 'staticlib', 'ion_c'], check=True, stdout=subprocess.DEVNULL)
-subprocess.run(['gcc', '-O2', '-o', 'target/bench_read', 'tests/bench_read.c', 'target/staticlib/libion_c.a', '-ljansson'], check=True)
+PROGRAM = builds.c_program('bench_read', '-ljansson')
 
 
 def filled(unit, size, before='', behind=''):
@@ -52,7 +53,7 @@ def measured(kind, text):
     with tempfile.NamedTemporaryFile() as f:
         f.write(text.encode())
         f.flush()
-        said = subprocess.run(['target/bench_read', kind, f.name], stdout=subprocess.PIPE, check=True).stdout.split()
+        said = subprocess.run([PROGRAM, kind, f.name], stdout=subprocess.PIPE, check=True).stdout.split()
     return int(said[-3]), int(said[-2]), float(said[-1])
 
 

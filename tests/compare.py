@@ -3,33 +3,34 @@ back, which must give the tape itself, and the lines of Lines texts one by one, 
 gives where they are damaged (tests/grammar.py). Compares answer and buffer on damaged tapes with tests/model.py. The driver checks what
 it does not send: all of the buffer that a call must leave alone or zero.
 
-    rt staticlib ion_c && gcc -O2 -o target/driver tests/driver.c target/staticlib/libion_c.a
-    ORACLE=path/to/oracle python3 tests/compare.py [TAPES [SEED]]
-    ORACLE=path/to/oracle python3 tests/compare.py --minutes 10 [--seed SEED]
+    ION_RUST_FILES=folder tests/oracle/build
+    python3 tests/compare.py [TAPES [SEED]]
+    python3 tests/compare.py --minutes 10 [--seed SEED]
 
-The first form compares one batch of so many tapes. The second goes on with batches until the time is over, each with the next seed, from
-SEED or a random one. Both start with the systematic tapes. DRIVER names another driver than target/driver.
+The first line builds the Rust's side, for whoever has its files; once is enough. Our side is the archive that `rt staticlib ion_c` makes, or
+that of the folder LECHUQTA_LIB_DIR. The first form compares one batch of so many tapes. The second goes on with batches until the time is
+over, each with the next seed, from SEED or a random one. Both start with the systematic tapes.
 Prints what was compared; or the first difference, its tape or text in hex, both answers and the seed that makes it again, and exits 1.
 """
 import argparse
 import collections
-import os
 import random
 import struct
 import subprocess
 import sys
 import time
 
+import builds
 import grammar
 import model
 from random_tapes import IDS, nested, stream, tree, value
 from tapes import ask, node, tape
 
-DRIVER = os.environ.get('DRIVER', 'target/driver')
 READ, LINES, TREE = 16, 17, 18
 MODES = {0: 'Compact', 1: 'Lines', 2: 'Pretty', READ: 'reading', LINES: 'line calls', TREE: 'tree'}
 AMPLE = 1 << 16
 done = collections.Counter()
+driver = None  # the program of driver.c, once main has made it
 
 
 class Difference(Exception):
@@ -52,12 +53,12 @@ def told_calls(calls):
 def run(frames):
     """What the driver says to (mode, room, bytes) frames. It ends by itself where a buffer is not as it must be: then which frame it was."""
     said = [bytes([m]) + struct.pack('<II', room, len(t)) + t for m, room, t in frames]
-    ran = subprocess.run([DRIVER], input=b''.join(said), stdout=subprocess.PIPE)
+    ran = subprocess.run([driver], input=b''.join(said), stdout=subprocess.PIPE)
     if ran.returncode:
         for frame, alone in zip(frames, said):
-            code = subprocess.run([DRIVER], input=alone, stdout=subprocess.PIPE).returncode
+            code = subprocess.run([driver], input=alone, stdout=subprocess.PIPE).returncode
             if code:
-                raise differs(*frame, 'a buffer as document 01 has it', 'status %d of the driver (tests/driver.c)' % code)
+                raise differs(*frame, 'a buffer as docs/FORMAT.md has it', 'status %d of the driver (tests/driver.c)' % code)
         raise Difference('status %d of the driver, which no frame gives by itself' % ran.returncode)
     return ran.stdout
 
@@ -271,6 +272,7 @@ def batch(seed, count):
 
 
 def main():
+    global driver
     said = argparse.ArgumentParser()
     said.add_argument('tapes', nargs='?', type=int)
     said.add_argument('once', nargs='?', type=int, metavar='seed')
@@ -279,6 +281,8 @@ def main():
     said = said.parse_args()
     seed = next((s for s in (said.once, said.seed) if s is not None), random.SystemRandom().randrange(10**9) if said.minutes else 1)
     tapes = said.tapes or (1000 if said.minutes else 10000)
+    builds.oracle()
+    driver = builds.c_program('driver')
     end = time.monotonic() + 60 * said.minutes
     batches = 0
     try:

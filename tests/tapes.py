@@ -1,12 +1,13 @@
-"""Tapes of document 01, made from tuples; and the oracle, asked for their texts.
+"""Tapes (docs/FORMAT.md), made from tuples; and the oracle (tests/oracle), asked for the Rust's texts of them.
 
 A value is ('null', type), ('bool', b), ('int', i), ('float', bits), ('dec', negative, magnitude, exponent),
 ('ts', precision, year, month, day, hour, minute, second, offset, digits, fraction), ('sym', bytes), ('id', n), ('str', bytes),
 ('clob', bytes), ('list', values), ('sexp', values), ('struct', [(name, value), ..]), ('notes', [symbols], value) or ('marker',).
 """
-import os
 import struct
 import subprocess
+
+from builds import oracle
 
 UNKNOWN = 32767
 KINDS = {'list': 10, 'sexp': 11, 'struct': 12}
@@ -48,9 +49,8 @@ def tape(values):
 
 def ask(frames):
     """The Rust's texts of (mode, tape) frames; mode 0, 1, 2 for the layouts, 3 for the tree text. None where it has none."""
-    oracle = os.environ['ORACLE']
     said = b''.join(bytes([m]) + struct.pack('<I', len(t)) + t for m, t in frames)
-    out = subprocess.run([oracle, 'batch'], input=said, stdout=subprocess.PIPE, check=True).stdout
+    out = subprocess.run([oracle(), 'batch'], input=said, stdout=subprocess.PIPE, check=True).stdout
     texts, at = [], 0
     for _ in frames:
         n = struct.unpack_from('<I', out, at)[0]

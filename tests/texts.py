@@ -1,4 +1,7 @@
-"""What the program `texts` must print, asked of the Rust: ORACLE=path/to/oracle python3 tests/texts.py > crates/texts/stdout"""
+"""What the program `texts` must print, asked of the Rust (tests/oracle/build makes the oracle, for whoever has the Rust's files):
+
+    python3 tests/texts.py > crates/texts/stdout
+"""
 import sys
 
 from tapes import UNKNOWN, ask, tape

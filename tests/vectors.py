@@ -1,9 +1,11 @@
 #!/usr/bin/env python3
 """Makes the list that crates/vectors replays: tapes with their four texts or refusals (crates/vectors/README.md has the format).
 
-    ORACLE=path/to/oracle python3 tests/vectors.py
+    ION_RUST_FILES=folder tests/oracle/build
+    python3 tests/vectors.py
 
-The texts are the Rust's, asked of the oracle; the refusals are document 01's, from tests/model.py. Where both speak they must agree, and
+The first line builds the oracle, for whoever has the Rust's files; once is enough. The texts are the Rust's, asked of the oracle; the
+refusals are those of docs/FORMAT.md, from tests/model.py. Where both speak they must agree, and
 every text must read back to its tape by tests/grammar.py, or the script stops. Nothing is asked of our own crates. The tapes are the
 systematic ones below and random ones from a fixed seed, so a second run makes the same bytes. Prints what is covered, and stops where
 something that should be is not.
@@ -79,7 +81,7 @@ KINDS = ['null', 'bool', 'int', 'float', 'decimal', 'timestamp', 'symbol', 'iden
 
 
 def fit(kind, place):
-    """Whether document 01 lets the kind stand there."""
+    """Whether the kind may stand there (docs/FORMAT.md)."""
     if place in ('name', 'annotation'):
         return kind in (6, 7)
     return kind < 13 or kind == 13 and place != 'annotated' or kind == 14 and place == 'top'
@@ -413,7 +415,7 @@ for _ in range(300):
 # --- The list.
 
 def held(t, y, text):
-    """What the program tries with a text follows from document 01: the rooms, and reading back."""
+    """What the program tries with a text follows from docs/FORMAT.md: the rooms, and reading back."""
     for room in {len(text) + 9, len(text), max(len(text) - 1, 0), len(text) // 2, 0}:
         due = (len(text), text + b'\xa5' * (room - len(text))) if room >= len(text) else (-6, text[:room])
         assert model.answer(text, b'\xa5' * room) == due

@@ -1,0 +1,1 @@
+// Stand-in for src/element/element_writer.rs: nothing in it is used by what is compiled.

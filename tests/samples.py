@@ -1,0 +1,104 @@
+"""The sample tapes that bench.py and count.py measure, always the same bytes.
+
+    python3 tests/samples.py FOLDER
+
+writes them as files. Every tape but `lines` has one top-level node, so that it has a tree text too; none has annotations, so that it has
+the streaming texts.
+"""
+import calendar
+import os
+import random
+import sys
+
+from tapes import UNKNOWN, tape
+
+
+def sym(text):
+    return ('sym', text.encode())
+
+
+def string(text):
+    return ('str', text.encode())
+
+
+def record(r):
+    day = r.randrange(1, 29)
+
+    def when(digits):
+        return ('ts', 4, 2026, 11, day, r.randrange(24), r.randrange(60), r.randrange(60), r.choice([0, -300, 60, UNKNOWN]), digits,
+                r.randrange(10**digits))
+    fields = [
+        ('id', ('int', r.randrange(10**8))),
+        ('object', sym(r.choice(['vega', 'm31', 'ceres', 'NGC_7293']))),
+        ('name', string(r.choice(['Andromeda galaxy', "Barnard's star", 'Helix nebula, centre field']))),
+        ('rise', when(0)), ('set', when(3)), ('best', when(9)),
+        ('day', ('ts', 2, 2026, 11, day, 0, 0, 0, UNKNOWN, 0, 0)),
+        ('magnitude', ('dec', r.random() < .2, r.randrange(2000), -2)),
+        ('exposure', ('dec', 0, r.randrange(10**9), -6)),
+        ('priority', ('int', r.randrange(10))),
+        ('visible', ('bool', r.random() < .5)),
+        ('moon', ('null', 4)),
+        ('radec', ('list', [('dec', 0, r.randrange(36 * 10**7), -6), ('dec', 1, r.randrange(9 * 10**7), -6)])),
+        ('filters', ('list', [sym(x) for x in ('u', 'g', 'r', 'i', 'z')])),
+        ('rule', ('sexp', [sym('and'), ('sexp', [sym('>'), sym('altitude'), ('int', 30)]), sym('dark')])),
+        ('site', ('struct', [(sym('dome'), ('int', 2)), (sym('code name'), string('La "Silla"'))])),
+    ]
+    return ('struct', [(sym(name), v) for name, v in fields])
+
+
+def timestamp(r):
+    p = r.randrange(5)
+    year = r.choice([1, 4, 99, 100, 400, 999, 1000, 1900, 2000, 2024, 9999, r.randrange(1, 10000)])
+    month = r.randrange(1, 13) if p >= 1 else 0
+    last = calendar.monthrange(year, month)[1] if month else 0
+    day = r.choice([1, last, r.randrange(1, last + 1)]) if p >= 2 else 0
+    hour = r.choice([0, 9, 10, 23]) if p >= 3 else 0
+    minute = r.choice([0, 9, 10, 59]) if p >= 3 else 0
+    second = r.choice([0, 9, 10, 59]) if p == 4 else 0
+    offsets = [UNKNOWN, 0, 1, -1, 5, -5, 59, -59, 60, -60, 61, -61, 1439, -1439]
+    offset = r.choice(offsets + [r.randrange(-1439, 1440)]) if p >= 3 else UNKNOWN
+    digits = r.randrange(10) if p == 4 else 0
+    fraction = r.choice([0, 10**digits - 1, r.randrange(10**digits), r.randrange(10**(digits // 2))])
+    return ('ts', p, year, month, day, hour, minute, second, offset, digits, fraction)
+
+
+def nested(depth, inner):
+    """Lists, sexps and structs in turn, each in the one before."""
+    for i in reversed(range(depth)):
+        kind = ('list', 'sexp', 'struct')[i % 3]
+        inner = (kind, [(sym('a'), inner)] if kind == 'struct' else [inner])
+    return inner
+
+
+def samples():
+    r = random.Random(1)
+    yield 'two', [('list', [('int', 1), ('int', 2)])]
+    yield 'record', [record(r)]
+    records = [record(r) for _ in range(100)]
+    yield 'passlist', [('list', records)]
+    yield 'lines', records
+    yield 'ints', [('list', [('int', r.randrange(-10**r.randrange(1, 19), 10**r.randrange(1, 19))) for _ in range(1000)])]
+    yield 'decimals', [('list', [('dec', r.random() < .5, r.randrange(10**r.randrange(1, 19)), r.randrange(-24, 6)) for _ in range(1000)])]
+    yield 'timestamps', [('list', [timestamp(r) for _ in range(1000)])]
+    words = ['alpha', 'beta_2', '$x', 'true', 'a b', '$7', 'gamma', 'é', 'delta']
+    yield 'symbols', [('list', [sym(r.choice(words)) for _ in range(1000)])]
+    yield 'strings', [('list', [string('The quick brown fox jumps over the lazy dog, %d times.' % i) for i in range(1000)])]
+    yield 'escapes', [('list', [string('a "b" c\td\n\\ \'e\' é %d' % i) for i in range(1000)])]
+    yield 'clob', [('clob', bytes(range(256)) * 64)]
+    yield 'textclob', [('clob', b'plain ASCII text, all of it raw; ' * 500)]
+    yield 'deep', [('list', [nested(63, ('int', 1)) for _ in range(50)])]
+
+
+def write(folder):
+    """Each as NAME.tape in the folder; gives the names with their files and whether the tape has a tree text."""
+    for name, values in samples():
+        path = os.path.join(folder, name + '.tape')
+        with open(path, 'wb') as f:
+            f.write(tape(values))
+        yield name, path, len(values) == 1
+
+
+if __name__ == '__main__':
+    os.makedirs(sys.argv[1], exist_ok=True)
+    for written in write(sys.argv[1]):
+        print(written[1])
