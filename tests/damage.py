@@ -1,4 +1,4 @@
-"""Written lists damaged in many ways, and what document 01's line book answers on each damaged text.
+"""Written lists damaged in many ways, and what the line book (docs/FORMAT.md) answers on each damaged text.
 
     python3 tests/damage.py
 

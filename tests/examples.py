@@ -2,7 +2,7 @@
 """The published examples of Ion 1.0, as a list for crates/examples (its format is in crates/vectors/README.md).
 
 Run it to write crates/examples/stdin and stdout. The examples are those of the pages at amazon-ion.github.io/ion-docs, under their pages and
-sections. They were transcribed from memory, without the network. Comments beside them are left out, and so is an example that is a sketch
+sections. They were transcribed from memory. Comments beside them are left out, and so is an example that is a sketch
 (`...`); among them stand a few companions that a section's sentences call for.
 
 `takes(text, nodes ..)` is read here, with the nodes written by hand; `out(row, texts ..)` is Ion and refused here, for the reason that a row

@@ -1,9 +1,8 @@
-"""Document 01's reader, modelled in Python from the document: `read` gives a text's top-level values, `book` the calls of the line book.
+"""The reader of docs/FORMAT.md, modelled in Python: `read` gives a text's top-level values, `book` the calls of the line book.
 
-No code is shared with our crates. The grammar was written from the document's section on the reader and its readings, without sight of
-crates/reader; the book from the section on line reading, after crates/line_reader had been read. Python's own UTF-8 decoder, calendar and
-regular expressions do the work. Values are the tuples of tapes.py. Held against the hand-made table of tests/readings.py, which found one
-mistake in it (`-0` was taken as a decimal):
+No code is shared with our crates. The grammar was written without sight of crates/reader; the book after crates/line_reader had been read.
+Python's own UTF-8 decoder, calendar and regular expressions do the work. Values are the tuples of tapes.py. Held against the hand-made table
+of tests/readings.py:
 
     python3 tests/grammar.py
 """

@@ -1,4 +1,4 @@
-"""Runs the program `lines` on worked tapes; what it must print is document 01's sentence or the text of tests/model.py.
+"""Runs the program `lines` on worked tapes; what it must print is written down here or the text of tests/model.py.
 
     rt check lines && python3 tests/lines.py
 """
@@ -100,7 +100,7 @@ def main():
     in_pieces(text_of(MOST), [1, 5000, 1, 4096, 65], model.stream(1, text_of(MOST)))
     in_pieces(string_of(MOST), [4096] * 15 + [4095], model.stream(1, string_of(MOST)))
     in_pieces(string_of(MOST + 1), [30000, 30000, 5536], TOO_LONG)
-    print('lines: %d runs as 01 says' % runs)
+    print('lines: %d runs, none different' % runs)
 
 
 if __name__ == '__main__':

@@ -1,9 +1,8 @@
-"""Document 01's writers, modelled in Python from the document: `stream` and `tree` give a tape's text or refusal, `answer` the answer
-and the whole buffer, `expect` both for a layout.
+"""The writers of docs/FORMAT.md, modelled in Python: `stream` and `tree` give a tape's text or refusal, `answer` the answer and the whole
+buffer, `expect` both for a layout.
 
-A reviewer wrote it. No code is shared with our crates or with the Rust: Python's own UTF-8 decoder, calendar and regular expressions
-judge the tape. Only the lone digit of `write_scientific` (`7.d-29`), which the document leaves to the source, is the source's.
-Values are the tuples of tapes.py.
+No code is shared with our crates or with the Rust: Python's own UTF-8 decoder, calendar and regular expressions judge the tape. The lone
+digit of a decimal (`7.d-29`) is as the Rust writes it. Values are the tuples of tapes.py.
 """
 import calendar
 import re
@@ -17,7 +16,7 @@ FLOATS = {NAN: b'nan', 0x7FF0 << 48: b'+inf', 0xFFF0 << 48: b'-inf', 0: b'0e0', 
 
 
 class Refused(Exception):
-    """Carries the number of document 01's table."""
+    """Carries the number of the refusal."""
 
 
 # The tape, read in its order: each node's header (2), then 3, then 4.

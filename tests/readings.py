@@ -1,10 +1,10 @@
 #!/usr/bin/env python3
-"""The reader on worked texts: a table of texts and what document 01 says they mean.
+"""The reader on worked texts: a table of texts and what they mean by docs/FORMAT.md.
 
 `yes(text, nodes ..)` is a text with the top-level nodes of its tape, `no(texts ..)` are texts outside the grammar (refusal 8), and
-`too_long(text)` is one whose tape is longer than the program's buffer (refusal 9). The comments are the document's sentences. What is
-expected is written by hand or follows from the sentence above it; it is not the program's answer. Run it to write
-crates/readings/stdin (each text, then a byte 255) and crates/readings/stdout (each tape in hex, or the refusal).
+`too_long(text)` is one whose tape is longer than the program's buffer (refusal 9). The comments are sentences of document 01, which
+docs/FORMAT.md restates. What is expected is written by hand or follows from the sentence above it; it is not the program's answer. Run it
+to write crates/readings/stdin (each text, then a byte 255) and crates/readings/stdout (each tape in hex, or the refusal).
 """
 import os
 

@@ -1,9 +1,9 @@
 #!/usr/bin/env python3
-"""The writer on worked tapes: a table of tapes and what document 01 says they give.
+"""The writer on worked tapes: a table of tapes and what they give by docs/FORMAT.md.
 
-`gives(layout, values, text)` has its text written down here by hand, from the document's examples and sentences. `refuses(number, tape)`
-has its number so. `row(layout, tape, room)` is left to tests/model.py, which was made from the document; the rows written by hand are
-held against it too. Nothing expected here was ever asked of the program or of the Rust.
+`gives(layout, values, text)` has its text written down here by hand. `refuses(number, tape)` has its number so. The comments are sentences
+of document 01, which docs/FORMAT.md restates. `row(layout, tape, room)` is left to tests/model.py; the rows written by hand are held
+against it too. Nothing expected here was ever asked of the program or of the Rust.
 Run it to write crates/writings/stdin (frames: layout or `t`, u32 room, u32 length, tape) and crates/writings/stdout (answer and whole buffer).
 """
 import os

@@ -1,8 +1,8 @@
 /* Ion text for C and C++ (x86-64 Linux): tapes written as text, texts read back as tapes. Link target/staticlib/libion_c.a, which
    `rt staticlib ion_c` makes and which needs nothing but memset.
 
-   A tape is the binary form of a list of values, document 01's section "The tape": nodes, then u32 body length and u32 number of top-level
-   nodes, all little-endian.
+   A tape is the binary form of a list of values: nodes, then u32 body length and u32 number of top-level nodes, all little-endian.
+   docs/FORMAT.md has the nodes byte by byte, the texts, and the grammar of what is read.
 
    Every call answers the count of bytes that it finished at the start of `out`, or one of the refusals below. Where more than one refusal
    would do, the first in the list at the function comes. `out` has any length; bytes behind it are never touched, nor is the tape or text.
@@ -33,7 +33,7 @@ enum {
 /* The end mark of ion_read_line. ion_write answers 0 too, for a tape of no values. */
 enum { ION_END = 0 };
 
-/* Refusals, as they are answered: minus the number in document 01's table "Returned numbers". */
+/* Refusals, as they are answered: minus the number in the table of docs/FORMAT.md, "Refusals". */
 enum {
     ION_MISFIT = -1,
     ION_BAD_NODE = -2,
@@ -84,7 +84,7 @@ int64_t ion_write_tree(const uint8_t *tape, size_t tape_length, uint8_t *out, si
 /* Reads a text of any number of values as their tape.
 
    Answers, the first that holds:
-     ION_OUTSIDE_GRAMMAR  the text is not one of document 01's grammar
+     ION_OUTSIDE_GRAMMAR  the text is not of the grammar (docs/FORMAT.md, "Reading a text")
      ION_TAPE_TOO_LONG    its tape is longer than the lesser of `out` and ION_TAPE_MAX
      the count            the tape's length, at least 8
 

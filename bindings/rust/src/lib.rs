@@ -1,9 +1,9 @@
 //! Amazon Ion text for pass lists: safe calls over the proved static library `ion_c`.
 //!
-//! A *tape* is the binary form of a list of values (document 01, "The tape"). [`write()`] and [`write_tree`] turn a tape into text, [`read`]
-//! turns a text into its tape, and [`read_line`] does so line by line, going on behind a damaged line. Each works in a lent buffer of any
-//! length and answers the count of bytes that it finished there, or a [`Refusal`]. No input makes a call panic. [`to_text`],
-//! [`to_tree_text`], [`to_tape`] and [`lines`] are the same with a buffer of their own.
+//! A *tape* is the binary form of a list of values; the repository's `docs/FORMAT.md` has it byte by byte, with the texts and the grammar.
+//! [`write()`] and [`write_tree`] turn a tape into text, [`read`] turns a text into its tape, and [`read_line`] does so line by line, going on
+//! behind a damaged line. Each works in a lent buffer of any length and answers the count of bytes that it finished there, or a [`Refusal`]. No
+//! input makes a call panic. [`to_text`], [`to_tree_text`], [`to_tape`] and [`lines`] are the same with a buffer of their own.
 //!
 //! ```
 //! use lechuqta::{lines, to_tape, to_text, to_tree_text, Layout, Refusal};

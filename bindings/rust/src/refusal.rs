@@ -3,7 +3,7 @@
 use std::error::Error;
 use std::fmt;
 
-/// Why a call was refused: the rows of document 01's table "Returned numbers".
+/// Why a call was refused: the rows of the table "Refusals" in the repository's `docs/FORMAT.md`.
 ///
 /// What a refused call leaves in its buffer is said at each function.
 #[derive(Clone, Copy, Debug, PartialEq, Eq, Hash)]

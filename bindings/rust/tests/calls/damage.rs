@@ -1,6 +1,6 @@
-//! Demand 3: a Lines text with one run of bytes replaced by others, read line by line. The lines that end before the run come first, as
-//! written; then each line between gets the answer that document 01's line book gives for its own bytes and the buffer; then come the lines
-//! behind a line feed of the rest, as written; then the end mark, again and again.
+//! Damage: a Lines text with one run of bytes replaced by others, read line by line. The lines that end before the run come first, as
+//! written; then each line between gets the answer that the line book (docs/FORMAT.md) gives for its own bytes and the buffer; then come the
+//! lines behind a line feed of the rest, as written; then the end mark, again and again.
 
 use crate::check::pattern;
 use crate::random::Random;

@@ -1,4 +1,4 @@
-//! Document 01's examples, and its sentences on layouts and on the tree text.
+//! The examples of docs/FORMAT.md, and its sentences on layouts and on the tree text.
 
 use crate::check::*;
 use crate::tapes::*;

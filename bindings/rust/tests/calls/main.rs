@@ -1,5 +1,5 @@
-//! The calls from Rust: limits, refusals, document 01's examples, the round trip, damaged texts. What is expected is written out or built
-//! here from document 01, node by node; every check compares the answer and the whole buffer, with guard bytes around it.
+//! The calls from Rust: limits, refusals, examples, the round trip, damaged texts. What is expected is written out or built here from
+//! docs/FORMAT.md, node by node; every check compares the answer and the whole buffer, with guard bytes around it.
 
 mod check;
 mod damage;

@@ -1,4 +1,4 @@
-//! Tapes made by hand: document 01's section "The tape", node by node.
+//! Tapes made by hand, node by node as docs/FORMAT.md has them.
 
 pub type Node = Vec<u8>;
 
