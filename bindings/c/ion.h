@@ -12,7 +12,7 @@
    - `out` shares no byte with the tape or the text, and `at` none with either.
    - Nobody else writes the tape, text, `at` or `out` during the call.
    The library has no state and keeps no pointer: threads may call it at once, each with its own `out`. It takes no heap, and of the stack
-   about 36 KiB at the greatest depth, as measured. */
+   less than 64 KiB at the greatest depth, as bindings/c/limits.c measures. */
 #ifndef LECHUQTA_ION_H
 #define LECHUQTA_ION_H
 

@@ -1,11 +1,13 @@
 /* The calls at their limits, from C: every answer at least once, and, but for the longest tapes and the
-   deepest, every byte of the buffer and beside it. Prints what is wrong and ends
+   deepest, every byte of the buffer and beside it; and how much of the stack they take. Prints what is wrong and ends
    with 1, or prints how many calls were checked. bindings/rust/tests has many more. */
+#define _XOPEN_SOURCE 700
 #include "ion.h"
 
 #include <stdio.h>
 #include <stdlib.h>
 #include <string.h>
+#include <ucontext.h>
 
 enum { ROOM = 64, GUARD = 16, KEPT = -1 };
 
@@ -161,12 +163,51 @@ static void line_reader(void) {
     check("no text, the end mark", ion_read_line(NULL, 0, &at, NULL, 0), ION_END, 0, "", 0, KEPT);
 }
 
+/* The calls at the greatest depth. */
+static void deepest(void) {
+    static uint8_t text[2 * 64 + 1], tape[5 * 64 + 8], room[1 << 15];
+    uint64_t at = 0;
+    memset(text, '[', 64);
+    memset(text + 64, ']', 64);
+    text[128] = '\n';
+    if (ion_read(text, sizeof text, tape, sizeof tape) != sizeof tape) exit(2);
+    if (ion_read_line(text, sizeof text, &at, room, sizeof room) != sizeof tape) exit(2);
+    for (uint32_t layout = ION_COMPACT; layout <= ION_PRETTY; layout++)
+        if (ion_write(layout, tape, sizeof tape, room, sizeof room) < 128) exit(2);
+    if (ion_write_tree(tape, sizeof tape, room, sizeof room) != 128) exit(2);
+}
+
+/* They run on a stack of their own, which is filled before, so that what they took of it can be told. */
+static uint8_t own_stack[256 << 10];
+
+static void run_deepest(void) {
+    static ucontext_t caller, callee;
+    getcontext(&callee);
+    callee.uc_stack.ss_sp = own_stack;
+    callee.uc_stack.ss_size = sizeof own_stack;
+    callee.uc_link = &caller;
+    makecontext(&callee, deepest, 0);
+    swapcontext(&caller, &callee);
+}
+
+static void stack(void) {
+    size_t untouched = 0;
+    memset(own_stack, 0xA5, sizeof own_stack);
+    run_deepest();
+    while (untouched < sizeof own_stack && own_stack[untouched] == 0xA5) untouched++;
+    if (sizeof own_stack - untouched >= 64 << 10) {
+        printf("the calls take %zu bytes of stack\n", sizeof own_stack - untouched);
+        wrong++;
+    }
+}
+
 int main(void) {
     refill();
     writers();
     depth_and_length();
     readers();
     line_reader();
+    stack();
     if (wrong) printf("limits: %d wrong\n", wrong);
     else printf("limits: %d calls as they must be\n", checked);
     return wrong != 0;
