@@ -10,6 +10,8 @@ use lib.ListN.{length, drop, length-drop}
 use Rattle.output.specs.Logic.{then}
 use Rattle.output.specs.Wrote.{Wrote, limit, leBytes}
 use Rattle.text_rules.proofs.Places.{next}
+use Rattle.tokens.specs.Steps.{Kept}
+use Rattle.tokens.proofs.Keeping.{kept-all, kept-before}
 use Rattle.tokens.specs.declared.quoted.Step.{Step}
 use Rattle.tokens.specs.declared.quoted.Step.the-variants.{Next, Bad}
 use Rattle.tape.specs.Tree.{Head, Node, Nodes, size, tag, sized, encodeHead, encode, encodes}
@@ -18,7 +20,7 @@ use Rattle.reader.specs.Grammar.{opens, scalar, closes, gap, head, free,
 use Rattle.reader.specs.Steps.{Skipped, Read, Counted, noteCount, freeBy, BodyAt, ValueAt, RunAt}
 use Rattle.reader.specs.declared.heads.Run.{Run}
 use Rattle.reader.specs.declared.heads.Run.the-variants.{Whole, Broken}
-use Rattle.reader.proofs.Laying.{laid-none, laid-then, laid-sized}
+use Rattle.reader.proofs.Laying.{laid-none, laid-then-kept, laid-then, laid-sized}
 use Rattle.reader.proofs.HeadSteps.{free-count}
 use Rattle.reader.proofs.Reading.{body-nest, body-deep, body-scalar, value-headless, value-head, further, further-none, further-some, sequence-end, sequence-child}
 
@@ -63,15 +65,15 @@ nested text at m (suc l) f k o e n h =
 
 module _ {text : List ℕ} {at : ℕ} (inside : at ≤ length text) {m : Bool} {k : Frame} (open-here : opens (drop at text) ≡ some k) where
   pub body-at-deep : {left p : ℕ} {b : List ℕ} → left ≡ 0 → BodyAt text at m left b b p Bad
-  body-at-deep {left} z = record { told = λ f l. (ap (λ (i : ℕ). body f m i (drop at text)) z ∙ body-deep f m (drop at text) k open-here, refl) }
+  body-at-deep {left} z = record { told = λ f l. (ap (λ (i : ℕ). body f m i (drop at text)) z ∙ body-deep f m (drop at text) k open-here, kept-all) }
 
   module _ {left : ℕ} (room : left ≡ 0 → ⊥) where
-    pub body-at-broken : {p q : ℕ} {b b1 : List ℕ} → RunAt text (at + 1) k (left - 1) b b1 q 0 Broken → BodyAt text at m left b b1 p Bad
-    body-at-broken {p} {q} {b} {b1} h = record {
+    pub body-at-broken : {p q : ℕ} {b b1 : List ℕ} → p ≤ limit → q ≡ min (p + 5) limit → RunAt text (at + 1) k (left - 1) b b1 q 0 Broken → BodyAt text at m left b b1 p Bad
+    body-at-broken {p} {q} {b} {b1} lp u h = record {
       told = body-told text at m left b b1 p Bad (opens-inside text at k inside open-here) λ f l.
           let i = opens-inside text at k inside open-here in
           let g = h .told f (omega arith) in
-          (nested text at m left f k none open-here room (g .0), g .1);
+          (nested text at m left f k none open-here room (g .0), kept-before (omega arith) (g .1));
     }
 
     pub body-at-nest : {p q z a e c : ℕ} {b b1 b2 : List ℕ} → q ≡ min (p + 5) limit → RunAt text (at + 1) k (left - 1) b b1 q 0 (Whole a e c) → Wrote b1 b2 p z (tag k ∷ leBytes 4 (e - q)) → BodyAt text at m left b b2 p (Next a e)
@@ -85,12 +87,12 @@ module _ {text : List ℕ} {at : ℕ} (inside : at ≤ length text) {m : Bool} {
 
 -- ---- a value with its head
 
-pub value-at-headless : {text : List ℕ} {at left p : ℕ} {k : Frame} {b b' : List ℕ} → head k (drop at text) ≡ none → length b' ≡ length b → ValueAt text at k left b b' p Bad
+pub value-at-headless : {text : List ℕ} {at left p : ℕ} {k : Frame} {b b' : List ℕ} → head k (drop at text) ≡ none → Kept p b b' → ValueAt text at k left b b' p Bad
 value-at-headless {text} {at} {left} {p} {k} h e = record { told = λ f l. (value-headless f k left (drop at text) h, e) }
 
 -- a head, and then what is behind it
-pub value-at-head : {text : List ℕ} {at a c left p q : ℕ} {m : Bool} {k : Frame} {b b1 b' : List ℕ} (r : Step) → Counted encodeHead noteCount text at b b1 p 0 (head k (drop at text)) (Whole a q c) → m ≡ freeBy k c → BodyAt text a m left b1 b' q r → ValueAt text at k left b b' p r
-value-at-head {text} {at} {a} {c} {left} {p} {q} {m} {k} {b} {b1} {b'} r h w g = go r g
+pub value-at-head : {text : List ℕ} {at a c left p q : ℕ} {m : Bool} {k : Frame} {b b1 b' : List ℕ} (r : Step) → p ≤ limit → Counted encodeHead noteCount text at b b1 p 0 (head k (drop at text)) (Whole a q c) → m ≡ freeBy k c → BodyAt text a m left b1 b' q r → ValueAt text at k left b b' p r
+value-at-head {text} {at} {a} {c} {left} {p} {q} {m} {k} {b} {b1} {b'} r lp h w g = go r g
   where
     is : free k (h .0 .1) ≡ m
     is = let z : noteCount (h .0) ≡ c = omega (arith, h .2) in free-count k (h .0 .1) ∙ ap (freeBy k) z ∙ sym w
@@ -102,12 +104,12 @@ value-at-head {text} {at} {a} {c} {left} {p} {q} {m} {k} {b} {b1} {b'} r h w g =
     go (Next y e) g = record {
       told = λ f l.
           let n = g .told f (omega (arith, h .3)) in
-          ((h .0, n .0), value-head f k left (drop at text) (drop a text) (h .0) (some (n .0, drop y text)) (h .1) (behind f (some (n .0, drop y text)) (n .1)), omega (arith, h .3, n .2), n .3, laid-then (h .5) (n .4));
+          ((h .0, n .0), value-head f k left (drop at text) (drop a text) (h .0) (some (n .0, drop y text)) (h .1) (behind f (some (n .0, drop y text)) (n .1)), omega (arith, h .3, n .2), n .3, laid-then lp (h .5) (n .4));
     }
     go Bad g = record {
       told = λ f l.
           let n = g .told f (omega (arith, h .3)) in
-          (value-head f k left (drop at text) (drop a text) (h .0) none (h .1) (behind f none (n .0)), n .1 ∙ h .5 .same);
+          (value-head f k left (drop at text) (drop a text) (h .0) none (h .1) (behind f none (n .0)), laid-then-kept lp (h .5) (n .1));
     }
 
 -- ---- a sequence
@@ -137,14 +139,14 @@ module _ {text : List ℕ} {at first : ℕ} (s : Skipped text at first) {k : Fra
     run-no-gap {left} {p} {m} {behind} {next} {b} {b'} v e = record {
       told = run-told text at k left b b' p m Broken λ f l.
           let g = v .told f (omega arith) in
-          (child text at first k s open-still f left (some (g .0, drop behind text)) (g .1) ∙ further-none f left k (g .0) (drop behind text) e, g .4 .same);
+          (child text at first k s open-still f left (some (g .0, drop behind text)) (g .1) ∙ further-none f left k (g .0) (drop behind text) e, g .4 .kept);
     }
 
     -- a child, and then the rest of the sequence
-    pub run-more : {left p m behind next on : ℕ} {b b2 b' : List ℕ} (r : Run) → ValueAt text first k left b b2 p (Next behind next) → gap k (drop behind text) ≡ some (drop on text) → behind ≤ on → on ≤ length text
+    pub run-more : {left p m behind next on : ℕ} {b b2 b' : List ℕ} (r : Run) → p ≤ limit → ValueAt text first k left b b2 p (Next behind next) → gap k (drop behind text) ≡ some (drop on text) → behind ≤ on → on ≤ length text
         → RunAt text on k left b2 b' next (m + 1) r → RunAt text at k left b b' p m r
     unfolding size encode
-    run-more {left} {p} {m} {behind} {next} {on} {b} {b2} {b'} (Whole a e n) v gp lo hi h = record {
+    run-more {left} {p} {m} {behind} {next} {on} {b} {b2} {b'} (Whole a e n) lp v gp lo hi h = record {
       told = run-told text at k left b b' p m (Whole a e n) λ f l.
           let g = v .told f (omega arith) in
           let r = h .told f (omega arith) in (
@@ -153,12 +155,12 @@ module _ {text : List ℕ} {at first : ℕ} (s : Skipped text at first) {k : Fra
             omega arith,
             omega arith,
             r .4,
-            laid-then (g .4) (r .5),
+            laid-then lp (g .4) (r .5),
           );
     }
-    run-more {left} {p} {m} {behind} {next} {on} {b} {b2} {b'} Broken v gp lo hi h = record {
+    run-more {left} {p} {m} {behind} {next} {on} {b} {b2} {b'} Broken lp v gp lo hi h = record {
       told = run-told text at k left b b' p m Broken λ f l.
           let g = v .told f (omega arith) in
           let r = h .told f (omega arith) in
-          (child text at first k s open-still f left (some (g .0, drop behind text)) (g .1) ∙ further-some f left k (g .0) (drop behind text) (drop on text) none gp (r .0), r .1 ∙ g .4 .same);
+          (child text at first k s open-still f left (some (g .0, drop behind text)) (g .1) ∙ further-some f left k (g .0) (drop behind text) (drop on text) none gp (r .0), laid-then-kept lp (g .4) (r .1));
     }

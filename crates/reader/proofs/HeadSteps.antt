@@ -18,6 +18,7 @@ use Rattle.text_rules.proofs.Places.{byte-at, end-at}
 use Rattle.text_rules.proofs.DigitLaws.{never}
 use Rattle.text_rules.proofs.WordsLaws.{kind-nothing, kind-plain, no-keyword, identifier-other}
 use Rattle.tokens.specs.Token.{wordSymbol, bareSymbol, symbol}
+use Rattle.tokens.specs.Steps.{Kept}
 use Rattle.tokens.specs.TokenSteps.{SymbolAt}
 use Rattle.tokens.specs.declared.quoted.Step.{Step}
 use Rattle.tokens.specs.declared.quoted.Step.the-variants.{Next, Bad}
@@ -29,7 +30,8 @@ use Rattle.reader.specs.Grammar.{skip, note, notes, field, name, head, f
 use Rattle.reader.specs.Steps.{Laid, Read, Counted, MarksAt, noteCount, freeBy}
 use Rattle.reader.specs.declared.heads.Run.{Run}
 use Rattle.reader.specs.declared.heads.Run.the-variants.{Whole, Broken}
-use Rattle.reader.proofs.Laying.{laid, laid-none, laid-then, laid-before, laid-sized}
+use Rattle.tokens.proofs.Keeping.{kept-before}
+use Rattle.reader.proofs.Laying.{laid, laid-none, laid-then-kept, laid-then, laid-before, laid-sized}
 
 -- ---- a symbol's node
 
@@ -148,18 +150,18 @@ marks-kept {text} {at} {n} {p} {m} {b} h hi lp = record { told = ([], notes-end 
 pub marks-end : {text : List ℕ} {at n p m : ℕ} {b b' : List ℕ} → b' ≡ b → note (drop at text) ≡ none → at ≤ length text → p ≤ limit → MarksAt text at n b b' p m (Whole at p m)
 marks-end {text} {at} {n} {p} {m} {b} {b'} e h hi lp = subst (λ (z : List ℕ). MarksAt text at n b z p m (Whole at p m)) (sym e) (marks-kept h hi lp)
 
-pub marks-over : {text : List ℕ} {at n p m : ℕ} {b b' u : List ℕ} {s : Sym} → n ≡ 0 → note (drop at text) ≡ some (s, u) → length b' ≡ length b → MarksAt text at n b b' p m Broken
+pub marks-over : {text : List ℕ} {at n p m : ℕ} {b b' u : List ℕ} {s : Sym} → n ≡ 0 → note (drop at text) ≡ some (s, u) → Kept p b b' → MarksAt text at n b b' p m Broken
 marks-over {text} {at} {n} {p} {m} {u = u} {s = s} z h lb = record { told = (ap (λ (j : ℕ). notes j (drop at text)) z ∙ notes-over (drop at text) u s h, lb); few = tt }
 
-pub marks-more : {text : List ℕ} {at n p q m : ℕ} {b b1 b' : List ℕ} (next n' : ℕ) (s : Sym) (r : Run) → n ≡ suc n' → note (drop at text) ≡ some (s, drop next text) → at < next → Laid b b1 p q (encodeSym s)
+pub marks-more : {text : List ℕ} {at n p q m : ℕ} {b b1 b' : List ℕ} (next n' : ℕ) (s : Sym) (r : Run) → n ≡ suc n' → note (drop at text) ≡ some (s, drop next text) → at < next → p ≤ limit → Laid b b1 p q (encodeSym s)
     → MarksAt text next n' b1 b' q (m + 1) r → MarksAt text at n b b' p m r
 unfolding encodeSyms
-marks-more {text} {at} {n} {p} {q} {m} next n' s (Whole a e c) z h lo w k = let g = k .told in record {
-  told = (s ∷ g .0, ap (λ (j : ℕ). notes j (drop at text)) z ∙ notes-more n' (drop at text) (drop next text) s (some (g .0, drop a text)) h (g .1), omega (arith, g .2), omega (arith, g .3), g .4, laid-then w (g .5));
+marks-more {text} {at} {n} {p} {q} {m} next n' s (Whole a e c) z h lo lp w k = let g = k .told in record {
+  told = (s ∷ g .0, ap (λ (j : ℕ). notes j (drop at text)) z ∙ notes-more n' (drop at text) (drop next text) s (some (g .0, drop a text)) h (g .1), omega (arith, g .2), omega (arith, g .3), g .4, laid-then lp w (g .5));
   few = omega (arith, k .few);
 }
-marks-more {text} {at} {n} {p} {q} {m} next n' s Broken z h lo w k = let g = k .told in record {
-  told = (ap (λ (j : ℕ). notes j (drop at text)) z ∙ notes-more n' (drop at text) (drop next text) s none h (g .0), g .1 ∙ w .same);
+marks-more {text} {at} {n} {p} {q} {m} next n' s Broken z h lo lp w k = let g = k .told in record {
+  told = (ap (λ (j : ℕ). notes j (drop at text)) z ∙ notes-more n' (drop at text) (drop next text) s none h (g .0), laid-then-kept lp w (g .1));
   few = tt;
 }
 
@@ -172,15 +174,15 @@ pub notes-no : (text : List ℕ) (at p : ℕ) (b b' : List ℕ) → b' ≡ b →
 notes-no text at p b b' e h hi lp = subst (λ (z : List ℕ). Counted encodeNotes length text at b z p 0 (notes 16 (drop at text)) (Whole at p 0)) (sym e) (notes-kept text at p b h hi lp)
 
 module _ (text : List ℕ) (at a p : ℕ) {q s : ℕ} {b b1 b2 : List ℕ} (x : Sym) (first : note (drop at text) ≡ some (x, drop a text)) (lo : at < a) (w : Laid b b1 s q (encodeSym x)) where
-  pub notes-broken : MarksAt text a 15 b1 b2 q 0 Broken → Counted encodeNotes length text at b b2 p 0 (notes 16 (drop at text)) Broken
-  notes-broken k = let g = k .told in (notes-more 15 (drop at text) (drop a text) x none first (g .0), g .1 ∙ w .same)
+  pub notes-broken : p ≤ limit → s ≡ min (p + 2) limit → MarksAt text a 15 b1 b2 q 0 Broken → Counted encodeNotes length text at b b2 p 0 (notes 16 (drop at text)) Broken
+  notes-broken lp m k = let g = k .told in (notes-more 15 (drop at text) (drop a text) x none first (g .0), kept-before (omega arith) (laid-then-kept (omega arith) w (g .1)))
 
   pub notes-some : {b3 : List ℕ} {z e c y : ℕ} → s ≡ min (p + 2) limit → MarksAt text a 15 b1 b2 q 0 (Whole z e c) → Wrote b2 b3 p y (13 ∷ (c + 1) ∷ []) → Counted encodeNotes length text at b b3 p 0 (notes 16 (drop at text)) (Whole z e (c + 1))
   unfolding encodeNotes encodeSyms
   notes-some {b3} {z} {e} {c} {y} m k v =
       let g = k .told in
       let n : c + 1 ≡ suc (length (g .0)) = omega (arith, g .2) in
-      let l : Laid b b3 p e ((13 ∷ (c + 1) ∷ []) ++ (encodeSym x ++ encodeSyms (g .0))) = laid-before m (laid-then w (g .5)) v in
+      let l : Laid b b3 p e ((13 ∷ (c + 1) ∷ []) ++ (encodeSym x ++ encodeSyms (g .0))) = laid-before m (laid-then (omega arith) w (g .5)) v in
       (x ∷ g .0, notes-more 15 (drop at text) (drop a text) x (some (g .0, drop z text)) first (g .1), omega (arith, g .2), omega (arith, g .3), g .4, subst (λ (i : ℕ). Laid b b3 p e (13 ∷ i ∷ (encodeSym x ++ encodeSyms (g .0)))) n l)
 
 -- ---- a name
@@ -216,12 +218,12 @@ head-then : (t u : List ℕ) (k : Frame) (x : Option Sym) (o : Option (List Sym 
 unfolding head
 head-then t u k x o h e = rw (h, e)
 
-pub head-notes : (text : List ℕ) (at p q : ℕ) (b b1 b' : List ℕ) (a : ℕ) (k : Frame) (r : Run) → Read encodeName text at b b1 p (name k (drop at text)) (Next a q) → Counted encodeNotes length text a b1 b' q 0 (notes 16 (drop a text)) r
+pub head-notes : (text : List ℕ) (at p q : ℕ) (b b1 b' : List ℕ) (a : ℕ) (k : Frame) (r : Run) → p ≤ limit → Read encodeName text at b b1 p (name k (drop at text)) (Next a q) → Counted encodeNotes length text a b1 b' q 0 (notes 16 (drop a text)) r
     → Counted encodeHead noteCount text at b b' p 0 (head k (drop at text)) r
 unfolding encodeHead
-head-notes text at p q b b1 b' a k (Whole z e c) m g =
-    ((m .0, g .0), head-then (drop at text) (drop a text) k (m .0) (some (g .0, drop z text)) (m .1) (g .1), g .2, omega (arith, m .2, g .3), g .4, laid-then (m .4) (g .5))
-head-notes text at p q b b1 b' a k Broken m g = (head-then (drop at text) (drop a text) k (m .0) none (m .1) (g .0), g .1 ∙ m .4 .same)
+head-notes text at p q b b1 b' a k (Whole z e c) lp m g =
+    ((m .0, g .0), head-then (drop at text) (drop a text) k (m .0) (some (g .0, drop z text)) (m .1) (g .1), g .2, omega (arith, m .2, g .3), g .4, laid-then lp (m .4) (g .5))
+head-notes text at p q b b1 b' a k Broken lp m g = (head-then (drop at text) (drop a text) k (m .0) none (m .1) (g .0), laid-then-kept lp (m .4) (g .1))
 
 -- where a marker may stand, by the number of annotations
 pub free-count : (k : Frame) (ss : List Sym) → free k ss ≡ freeBy k (length ss)

@@ -7,7 +7,9 @@ use native.Mathlib.Omega.{arith}
 use lib.ListN.{length, take, drop, set, length-append, length-drop}
 use lib.Seq.{sets, take-length}
 use Rattle.output.specs.Wrote.{Wrote, limit, leBytes}
-use Rattle.output.proofs.Laws.{wrote-length, sets-append, sets-front, set-sets, length-le}
+use Rattle.output.proofs.Laws.{sets-append, sets-front, set-sets, length-le}
+use Rattle.tokens.specs.Steps.{Kept}
+use Rattle.tokens.proofs.Keeping.{kept-all, kept-then, kept-before, wrote-kept}
 use Rattle.tape.specs.Tree.{sized}
 use Rattle.reader.specs.Steps.{Laid}
 
@@ -19,22 +21,26 @@ sets-before (x ∷ s) t l i =
     ∙ sets-before s t (set l i x) (suc i)
 
 pub laid : {a b : List ℕ} {p r : ℕ} {s : List ℕ} → Wrote a b p r s → Laid a b p r s
-laid w = record { same = wrote-length w; count = w .count; bytes = λ l. w .bytes }
+laid w = record { kept = wrote-kept w; count = w .count; bytes = λ l. w .bytes }
 
 pub laid-none : (a : List ℕ) (p : ℕ) → p ≤ limit → Laid a a p p []
-laid-none a p h = record { same = refl; count = omega arith; bytes = λ l. refl }
+laid-none a p h = record { kept = kept-all; count = omega arith; bytes = λ l. refl }
 
 pub laid-bound : {a b : List ℕ} {p r : ℕ} {s : List ℕ} → Laid a b p r s → r ≤ limit
 laid-bound g = let e = g .count in omega arith
 
+-- a text, and then the buffer is kept before the place behind it
+pub laid-then-kept : {a b c : List ℕ} {p q : ℕ} {s : List ℕ} → p ≤ limit → Laid a b p q s → Kept q b c → Kept p a c
+laid-then-kept l v k = let q′ = v .count in kept-then (v .kept) (kept-before (omega arith) k)
+
 -- one text after another
-pub laid-then : {a b c : List ℕ} {p q r : ℕ} {s t : List ℕ} → Laid a b p q s → Laid b c q r t → Laid a c p r (s ++ t)
-laid-then {a} {b} {c} {p} {q} {r} {s} {t} v w =
+pub laid-then : {a b c : List ℕ} {p q r : ℕ} {s t : List ℕ} → p ≤ limit → Laid a b p q s → Laid b c q r t → Laid a c p r (s ++ t)
+laid-then {a} {b} {c} {p} {q} {r} {s} {t} h v w =
     let q′ = v .count in
     let r′ = w .count in
     let n = length-append s t in
     record {
-      same = w .same ∙ v .same;
+      kept = laid-then-kept h v (w .kept);
       count = simp length-append (omega arith);
       bytes = λ l.
           let e : q ≡ p + length s = omega arith in
@@ -48,15 +54,17 @@ laid-then {a} {b} {c} {p} {q} {r} {s} {t} v w =
 laid-as : {a b : List ℕ} {p r : ℕ} (u v : List ℕ) → Laid a b p r u → length u ≡ length v → (p + length v < limit → u ≡ v) → Laid a b p r v
 laid-as {a} {b} {p} {r} u v g n f =
     let r′ = g .count in
-    record { same = g .same; count = omega arith; bytes = λ l. g .bytes (omega arith) ∙ ap (sets a p) (f l) }
+    record { kept = g .kept; count = omega arith; bytes = λ l. g .bytes (omega arith) ∙ ap (sets a p) (f l) }
 
 -- h, put in before t
 pub laid-before : {a b c : List ℕ} {p s e z : ℕ} {h t : List ℕ} → s ≡ min (p + length h) limit → Laid a b s e t → Wrote b c p z h → Laid a c p e (h ++ t)
 laid-before {a} {b} {c} {p} {s} {e} {z} {h} {t} m g w =
     let e′ = g .count in
     let n = length-append h t in
+    let i = g .kept .same in
+    let j = w .room in
     record {
-      same = wrote-length w ∙ g .same;
+      kept = kept-then (kept-before (omega arith) (g .kept)) (wrote-kept w);
       count = simp length-append (omega arith);
       bytes = λ l.
           let k : s ≡ p + length h = omega arith in
@@ -81,7 +89,7 @@ laid-sized {a} {b} {c} {p} {s} {e} {z} {t} k m g w =
 pub laid-tape : {a b c d : List ℕ} {pos p q : ℕ} {s : List ℕ} (m : ℕ) → Laid a b 0 pos s → Wrote b c pos p (leBytes 4 pos) → Wrote c d p q (leBytes 4 m) → Laid a d 0 q (s ++ leBytes 4 (length s) ++ leBytes 4 m)
 laid-tape {a} {b} {c} {d} {pos} {p} {q} {s} m g v w =
     let n = g .count in
-    laid-as (s ++ leBytes 4 pos ++ leBytes 4 m) (s ++ leBytes 4 (length s) ++ leBytes 4 m) (laid-then (laid-then g (laid v)) (laid w)) (long pos ∙ sym (long (length s)))
+    laid-as (s ++ leBytes 4 pos ++ leBytes 4 m) (s ++ leBytes 4 (length s) ++ leBytes 4 m) (laid-then (omega arith) (laid-then (omega arith) g (laid v)) (laid w)) (long pos ∙ sym (long (length s)))
     (λ l. ap (λ (i : ℕ). s ++ leBytes 4 i ++ leBytes 4 m) (omega (arith, long (length s))))
   where
     long : (i : ℕ) → length (s ++ leBytes 4 i ++ leBytes 4 m) ≡ length s + 8

@@ -9,6 +9,7 @@ use lib.ListN.{length, drop}
 use lib.Seq.{sets}
 use Rattle.output.specs.Logic.{or}
 use Rattle.output.specs.Wrote.{limit}
+use Rattle.tokens.specs.Steps.{Kept}
 use Rattle.tokens.specs.declared.quoted.Step.{Step}
 use Rattle.tokens.specs.declared.quoted.Step.the-variants.{Next, Bad}
 use Rattle.numbers.specs.Numeral.{numeral}
@@ -30,7 +31,7 @@ use Rattle.reader.specs.declared.Made.the-variants.{Length, Nothing}
 -- put in afterwards is the distance of two positions, so the bytes are said only where the limit was not reached: every tape that fits
 -- into a buffer.
 pub record Laid (a b : List ℕ) (p r : ℕ) (s : List ℕ) : Type 0 where
-  pub same : length b ≡ length a
+  pub kept : Kept p a b
   pub count : r ≡ min (p + length s) limit
   pub bytes : p + length s < limit → b ≡ sets a p s
 
@@ -51,10 +52,10 @@ openerIs o (Opens k) = o ≡ some k
 openerIs o Other = o ≡ none
 
 -- A rule read something up to a place that is lo at least, and what it read is written from p on, as enc says. Where it reads nothing the
--- buffer keeps its length.
+-- buffer is kept before p.
 abbrev pub Read : {A : Type 0} → (A → List ℕ) → List ℕ → ℕ → List ℕ → List ℕ → ℕ → Option (A × List ℕ) → Step → Type 0
 Read {A} enc text lo b b' p o (Next at pos) = (x : A) × (o ≡ some (x, drop at text)) × (lo ≤ at) × (at ≤ length text) × Laid b b' p pos (enc x)
-Read enc text lo b b' p o Bad = (o ≡ none) × (length b' ≡ length b)
+Read enc text lo b b' p o Bad = (o ≡ none) × Kept p b b'
 
 -- the same, where a rule that reads nothing leaves the buffer as it was
 abbrev pub Tried : {A : Type 0} → (A → List ℕ) → List ℕ → ℕ → List ℕ → List ℕ → ℕ → Option (A × List ℕ) → Step → Type 0
@@ -64,7 +65,7 @@ Tried enc text lo b b' p o Bad = (o ≡ none) × (b' ≡ b)
 -- the same as Read, with a number of parts, m of them counted before
 abbrev pub Counted : {A : Type 0} → (A → List ℕ) → (A → ℕ) → List ℕ → ℕ → List ℕ → List ℕ → ℕ → ℕ → Option (A × List ℕ) → Run → Type 0
 Counted {A} enc parts text lo b b' p m o (Whole at pos count) = (x : A) × (o ≡ some (x, drop at text)) × (count ≡ m + parts x) × (lo ≤ at) × (at ≤ length text) × Laid b b' p pos (enc x)
-Counted enc parts text lo b b' p m o Broken = (o ≡ none) × (length b' ≡ length b)
+Counted enc parts text lo b b' p m o Broken = (o ≡ none) × Kept p b b'
 
 -- no annotation stands at a place, if r is false
 pub record MayNote (text : List ℕ) (at : ℕ) (r : Bool) : Type 0 where
@@ -105,7 +106,7 @@ clobNode s = Node.scalar (Scalar.clob s)
 abbrev pub nullNode : ℕ → Node
 nullNode t = Node.scalar (Scalar.null t)
 
--- `number` without floats
+-- `numbers` without floats
 unfoldable pub timedNumber : List ℕ → Option (Node × List ℕ)
 timedNumber t = or (taken (λ x. Node.scalar (Scalar.timestamp x)) (timestamp t)) (taken numeralNode (numeral t))
 

@@ -1,3 +1,4 @@
+pub mod Keeping
 pub mod QuotedSteps
 pub mod QuotedMany
 pub mod ClobSteps

@@ -13,15 +13,16 @@ use lib.ListN.{length, take, drop, getD, length-drop, drop-of-length-le}
 use lib.Seq.{drop-cons}
 use Rattle.output.specs.Logic.{then, on, byte}
 use Rattle.output.specs.Wrote.{Wrote, limit}
-use Rattle.output.proofs.Laws.{wrote-none, wrote-then, wrote-length}
+use Rattle.output.proofs.Laws.{wrote-none, wrote-then}
 use Rattle.text_rules.specs.Texts.{starts}
 use Rattle.text_rules.specs.Utf8.{charAt}
 use Rattle.tokens.specs.Quoted.{isRaw, raw, quote, character, characters, quoted, rawByte, clobByte, clobBytes}
-use Rattle.tokens.specs.Steps.{Copied, Copies, isPlain, isPlainByte, RunTo}
+use Rattle.tokens.specs.Steps.{Kept, Copied, Copies, isPlain, isPlainByte, RunTo}
 use Rattle.tokens.specs.declared.quoted.Step.{Step}
 use Rattle.tokens.specs.declared.quoted.Step.the-variants.{Next, Bad}
 use Rattle.text_rules.proofs.EscapesLaws.{byte-at}
 use Rattle.text_rules.proofs.Utf8Chars.{ascii}
+use Rattle.tokens.proofs.Keeping.{kept-all, wrote-then-kept}
 
 -- what is read of a text: the bytes that it means, and the text behind it
 abbrev pub Read : Type 0
@@ -109,7 +110,7 @@ module _ {step : List ℕ → Read} {q : ℕ} {text : List ℕ} where
   }
 
   -- a piece that is wrong
-  pub at-wrong : {at p : ℕ} {b b' : List ℕ} → at < length text → (getD text at 0 ≡ q → ⊥) → step (drop at text) ≡ none → length b' ≡ length b → ManyAt step q text at b b' p Bad
+  pub at-wrong : {at p : ℕ} {b b' : List ℕ} → at < length text → (getD text at 0 ≡ q → ⊥) → step (drop at text) ≡ none → Kept p b b' → ManyAt step q text at b b' p Bad
   unfolding quote
   at-wrong {at} {p} {b} {b'} h e w l = record {
     told = many-told step q text at b b' p Bad λ f _. (many-wrong step q f (drop at text) (rw (byte-at text at h, ne-eqb (getD text at 0) q e)) w, l);
@@ -120,7 +121,7 @@ module _ {step : List ℕ → Read} {q : ℕ} {text : List ℕ} where
   unfolding quote
   at-end {at} {p} {b} w h =
       let e : drop at text ≡ [] = drop-of-length-le text {i = at} h in
-      record { told = many-told step q text at b b p Bad λ f l. (many-wrong step q f (drop at text) (rw e) (rw e w), refl) }
+      record { told = many-told step q text at b b p Bad λ f l. (many-wrong step q f (drop at text) (rw e) (rw e w), kept-all) }
 
   -- a piece, and then the others
   pub at-piece : {at next p z : ℕ} {b b1 b' : List ℕ} (r : Step) → at < length text → (getD text at 0 ≡ q → ⊥)
@@ -139,7 +140,7 @@ module _ {step : List ℕ → Read} {q : ℕ} {text : List ℕ} where
         let t = k .told in
         let lo : suc at ≤ next = t .2 in
         let y = g .told f (omega arith) in
-        (many-more step q f (t .0) (drop at text) (drop next text) none (rw (byte-at text at h, ne-eqb (getD text at 0) q n)) (t .1) (y .0), y .1 ∙ wrote-length (t .4));
+        (many-more step q f (t .0) (drop at text) (drop next text) none (rw (byte-at text at h, ne-eqb (getD text at 0) q n)) (t .1) (y .0), wrote-then-kept (t .4) (y .1));
   }
 
   -- a run of plain bytes, and then the others
@@ -162,7 +163,7 @@ module _ {step : List ℕ → Read} {q : ℕ} {text : List ℕ} where
           let lo : at ≤ e = run .ahead in
           let lo2 = y .2 in
           (take (e - at) (drop at text) ++ y .0, h ∙ ap (λ (o : Read). then o (prefix (take (e - at) (drop at text)))) (y .1), omega arith, y .3, wrote-then w (y .4))
-      passed f Bad h y = (h ∙ ap (λ (o : Read). then o (prefix (take (e - at) (drop at text)))) (y .0), y .1 ∙ wrote-length w)
+      passed f Bad h y = (h ∙ ap (λ (o : Read). then o (prefix (take (e - at) (drop at text)))) (y .0), wrote-then-kept w (y .1))
 
 -- ---- with the fuel of the definitions
 

@@ -12,7 +12,7 @@ use Rattle.output.specs.Wrote.{Wrote}
 use Rattle.text_rules.specs.Texts.{starts}
 use Rattle.text_rules.specs.Words.{word, behindWord, kindOf}
 use Rattle.tokens.specs.Quoted.{quoted}
-use Rattle.tokens.specs.Steps.{Copies}
+use Rattle.tokens.specs.Steps.{Kept, Copies}
 use Rattle.text_rules.specs.WordSteps.{WordAt}
 use Rattle.text_rules.specs.Text.{Sym}
 use Rattle.tokens.specs.Token.{wordSymbol, bareSymbol, quotedSymbol, symbol}
@@ -58,7 +58,7 @@ module _ {text : List ℕ} {at : ℕ} {w : Word} (a : WordAt text at w) {b b' : 
       let l : at < w .end = word-ahead a (λ r. no-number n (sym e ∙ r)) in
       record { told = (rw (a .rest) i, l, a .inside, h) }
 
-  pub bare-bad : (k : Kind) → w .kind ≡ k → wordSymbol k (word (drop at text)) ≡ none → length b' ≡ length b → SymbolAt text (suc at) b b' p (bareSymbol (drop at text)) S.Bad
+  pub bare-bad : (k : Kind) → w .kind ≡ k → wordSymbol k (word (drop at text)) ≡ none → Kept p b b' → SymbolAt text (suc at) b b' p (bareSymbol (drop at text)) S.Bad
   bare-bad k e h l = record { told = (bare-none (drop at text) k (sym (a .kind) ∙ e) h, l) }
 
 -- ---- a symbol, by its first byte
@@ -82,7 +82,7 @@ module _ (text : List ℕ) (at : ℕ) where
       rw (s, next text at, e)
 
 module _ (text : List ℕ) (at : ℕ) {b b' : List ℕ} {p : ℕ} where
-  pub symbol-end : at ≡ length text → length b' ≡ length b → SymbolAt text (suc at) b b' p (symbol (drop at text)) S.Bad
+  pub symbol-end : at ≡ length text → Kept p b b' → SymbolAt text (suc at) b b' p (symbol (drop at text)) S.Bad
   symbol-end h l = record { told = (ap symbol (end-at text at h) ∙ no-symbol, l) }
 
   pub symbol-unquoted : (r : SymbolRead) → at < length text → (getD text at 0 ≡ byte "'" → ⊥) → SymbolAt text (suc at) b b' p (bareSymbol (drop at text)) r → SymbolAt text (suc at) b b' p (symbol (drop at text)) r

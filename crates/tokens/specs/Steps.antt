@@ -5,7 +5,7 @@ use mathlib.Core.Bool.{Bool, true, not, _&&_, _||_}
 use mathlib.Core.List.{List}
 use mathlib.Core.Option.{Option, none, some}
 use lib.Dec.{eqb, leb, ltb}
-use lib.ListN.{length, drop, getD}
+use lib.ListN.{length, take, drop, getD}
 use Rattle.output.specs.Logic.{if, byte}
 use Rattle.output.specs.Wrote.{Wrote}
 use Rattle.text_rules.specs.Escapes.{hex}
@@ -15,10 +15,15 @@ use Rattle.tokens.specs.declared.quoted.Step.the-variants.{Next, Bad}
 use Rattle.tokens.specs.declared.quoted.Hex.{Hex}
 use Rattle.tokens.specs.declared.quoted.Hex.the-variants as Hex
 
--- A reader read up to a place that is lo at least, and wrote the bytes that it read at p; or nothing is read there, and the buffer keeps its length.
+-- What a reader leaves that fails: it may have written from p on, and the buffer keeps its length and the bytes before p.
+pub record Kept (p : ℕ) (b b' : List ℕ) : Type 0 where
+  pub same : length b' ≡ length b
+  pub front : take p b' ≡ take p b
+
+-- A reader read up to a place that is lo at least, and wrote the bytes that it read at p; or nothing is read there, and the buffer is kept before p.
 abbrev pub Copied : List ℕ → ℕ → List ℕ → List ℕ → ℕ → Option (List ℕ × List ℕ) → Step → Type 0
 Copied text lo b b' p o (Next at pos) = (x : List ℕ) × (o ≡ some (x, drop at text)) × (lo ≤ at) × (at ≤ length text) × Wrote b b' p pos x
-Copied text lo b b' p o Bad = (o ≡ none) × (length b' ≡ length b)
+Copied text lo b b' p o Bad = (o ≡ none) × Kept p b b'
 
 pub record Copies (text : List ℕ) (lo : ℕ) (b b' : List ℕ) (p : ℕ) (o : Option (List ℕ × List ℕ)) (r : Step) : Type 0 where
   pub told : Copied text lo b b' p o r

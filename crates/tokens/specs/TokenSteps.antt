@@ -12,6 +12,7 @@ use Rattle.output.specs.Wrote.{Wrote}
 use Rattle.text_rules.specs.Texts.{same}
 use Rattle.text_rules.specs.Text.{Sym}
 use Rattle.tokens.specs.Token.{spelled}
+use Rattle.tokens.specs.Steps.{Kept}
 use Rattle.tokens.specs.declared.values.NullRead.{NullRead}
 use Rattle.tokens.specs.declared.values.NullRead.the-variants as N
 use Rattle.tokens.specs.declared.values.BoolRead.{BoolRead}
@@ -56,11 +57,11 @@ spelledFloat t =
     (or (spelled (ascii "0e0") 0 t) (spelled (ascii "-0e0") 0x8000_0000_0000_0000 t)))
 
 -- A symbol was read up to a place that is lo at least and its text written at p; or it is a number, and the buffer is as it was; or there is none,
--- and the buffer keeps its length.
+-- and the buffer is kept before p.
 abbrev pub SymbolTold : List ℕ → ℕ → List ℕ → List ℕ → ℕ → Option (Sym × List ℕ) → SymbolRead → Type 0
 SymbolTold text lo b b' p o (S.Text at pos) = (w : List ℕ) × (o ≡ some (Sym.text w, drop at text)) × (lo ≤ at) × (at ≤ length text) × Wrote b b' p pos w
 SymbolTold text lo b b' p o (S.Id n at) = (o ≡ some (Sym.id n, drop at text)) × (lo ≤ at) × (at ≤ length text) × (b' ≡ b)
-SymbolTold text lo b b' p o S.Bad = (o ≡ none) × (length b' ≡ length b)
+SymbolTold text lo b b' p o S.Bad = (o ≡ none) × Kept p b b'
 
 pub record SymbolAt (text : List ℕ) (lo : ℕ) (b b' : List ℕ) (p : ℕ) (o : Option (Sym × List ℕ)) (r : SymbolRead) : Type 0 where
   pub told : SymbolTold text lo b b' p o r

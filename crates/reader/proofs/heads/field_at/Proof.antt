@@ -42,7 +42,7 @@ same-length-2 c = search needs
 returns-2 : tie.Need-returns-2
 returns-2 c =
     let k = rw (c .before .before .before .before .before .a .given .1) at (c .before .before .before .before .before .before .before .before .before .symbol-at .ensures) in
-    (field-alone _ _ _ (k .1) (c .before .before .before .skip-blanks .ensures .is) (rw (c .enum-told2 .given .1) at (c .before .before .mark-at .ensures)), k .4 .same)
+    (field-alone _ _ _ (k .1) (c .before .before .before .skip-blanks .ensures .is) (rw (c .enum-told2 .given .1) at (c .before .before .mark-at .ensures)), k .4 .kept)
 
 skip-blanks-requires-2 : tie.Need-skip-blanks-requires-2
 skip-blanks-requires-2 c κs =

@@ -1,5 +1,6 @@
 -- `heads::symbol_at` meets its contract. Assumes nothing.
 use native.Mathlib.Omega.{arith}
+use Rattle.tokens.proofs.Keeping.{kept-before}
 use Rattle.reader.proofs.HeadSteps.{symbol-text, symbol-id}
 use borrow.Author.Needs.{needs}
 use Rattle.reader.proofs.heads.symbol_at.Statement.{statement}
@@ -50,7 +51,9 @@ same-length-3 : tie.Need-same-length-3
 same-length-3 c = search needs
 
 returns-3 : tie.Need-returns-3
-returns-3 c = (rw (c .enum-told .given .1) at (c .before .before .before .before .symbol-at .ensures)) .told
+returns-3 c =
+    let k = rw (c .enum-told .given .1) at (c .before .before .before .before .symbol-at .ensures) in
+    (k .told .0, kept-before (omega (arith, c .before .before .before .before .before .before .ahead .ensures, c .before .before .before .before .before .before .before .before .before .pre .1)) (k .told .1))
 
 pub symbol-at-spec : {M : Type 1} → statement M
 symbol-at-spec =

@@ -1,5 +1,6 @@
 -- `scalars::clob_at` meets its contract. Assumes nothing.
 use native.Mathlib.Omega.{arith}
+use Rattle.tokens.proofs.Keeping.{kept-before}
 use Rattle.reader.specs.Steps.{clobNode}
 use Rattle.reader.proofs.ScalarSteps.{taken-none, copied-clob}
 use borrow.Author.Needs.{needs}
@@ -24,7 +25,7 @@ same-length c = search needs
 returns : tie.Need-returns
 returns c =
     let k = rw (c .enum-told .given .1) at (c .before .before .before .before .clob-at .ensures) in
-    (taken-none clobNode (k .told .0), k .told .1)
+    (taken-none clobNode (k .told .0), kept-before (omega (arith, c .before .before .before .before .before .before .ahead .ensures, c .before .before .before .before .before .before .before .before .before .pre .1)) (k .told .1))
 
 sub-put-header : tie.Need-sub-put-header
 sub-put-header c =

@@ -1,5 +1,5 @@
 -- `scalars::null_at` meets its contract. Assumes nothing.
-use mathlib.Core.Path.{refl}
+use Rattle.tokens.proofs.Keeping.{kept-all}
 use Rattle.tape.specs.Tree.{encode, encodeScalar}
 use Rattle.reader.specs.Steps.{nullNode}
 use Rattle.reader.proofs.ScalarSteps.{taken-none, read-some}
@@ -19,7 +19,7 @@ enum-told c = search needs
 returns : tie.Need-returns
 returns c =
     let k = rw (c .enum-told .given .1) at (c .before .before .null-behind .ensures) in
-    (taken-none nullNode (k .is), refl)
+    (taken-none nullNode (k .is), kept-all)
 
 put2-requires : tie.Need-put2-requires
 put2-requires c κs = search needs

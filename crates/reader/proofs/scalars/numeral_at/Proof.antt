@@ -1,7 +1,7 @@
 -- `scalars::numeral_at` meets its contract. Assumes nothing.
-use mathlib.Core.Path.{refl}
 use mir.Syntax.{w32, w64}
 use mir.ValLaws.{toZ-ofZ}
+use Rattle.tokens.proofs.Keeping.{kept-all}
 use Rattle.tape.specs.Tree.{encode}
 use Rattle.reader.specs.Grammar.{numeralNode}
 use Rattle.reader.proofs.ScalarSteps.{taken-none, read-some}
@@ -48,7 +48,7 @@ returns-2 c =
 returns-3 : tie.Need-returns-3
 returns-3 c =
     let k = rw (c .enum-told .given .1) at (c .before .before .numeral-at .ensures) in
-    (taken-none numeralNode (k .is), refl)
+    (taken-none numeralNode (k .is), kept-all)
 
 pub numeral-at-spec : {M : Type 1} → statement M
 numeral-at-spec =

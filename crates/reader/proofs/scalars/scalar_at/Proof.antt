@@ -1,6 +1,7 @@
 -- `scalars::scalar_at` meets its contract. Assumes nothing.
 use native.Mathlib.Omega.{arith}
-use mathlib.Core.Path.{refl, sym, _∙_}
+use mathlib.Core.Path.{sym, _∙_}
+use Rattle.tokens.proofs.Keeping.{kept-all}
 use Rattle.reader.proofs.ScalarSteps.{scalar-end, scalar-string, scalar-quoted, scalar-clob, scalar-number, scalar-word}
 use borrow.Author.Needs.{needs}
 use Rattle.reader.proofs.scalars.scalar_at.Statement.{statement}
@@ -9,7 +10,7 @@ use Rattle.reader.proofs.scalars.scalar_at.Tie as tie
 returns : tie.Need-returns
 returns c =
     let x = c .before .before .before .args in
-    (scalar-end (x .m) (x .text .now) (x .at) (c .if1 .taken), refl)
+    (scalar-end (x .m) (x .text .now) (x .at) (c .if1 .taken), kept-all)
 
 shared-slice-read-b : tie.Need-shared-slice-read-b
 shared-slice-read-b c = search needs

@@ -1,5 +1,6 @@
 -- `scalars::string_at` meets its contract. Assumes nothing.
 use native.Mathlib.Omega.{arith}
+use Rattle.tokens.proofs.Keeping.{kept-before}
 use Rattle.reader.proofs.ScalarSteps.{string-none, copied-string}
 use borrow.Author.Needs.{needs}
 use Rattle.reader.proofs.scalars.string_at.Statement.{statement}
@@ -27,7 +28,7 @@ returns : tie.Need-returns
 returns c =
     let x = c .before .before .before .before .before .before .before .before .before .args in
     let k = rw (c .enum-told .given .1) at (c .before .before .before .before .characters-at .ensures) in
-    (string-none (x .text .now) (x .at) (c .before .before .before .before .before .before .before .before .before .pre .0) (c .before .before .before .before .before .before .before .before .before .pre .2) (k .told .0), k .told .1)
+    (string-none (x .text .now) (x .at) (c .before .before .before .before .before .before .before .before .before .pre .0) (c .before .before .before .before .before .before .before .before .before .pre .2) (k .told .0), kept-before (omega (arith, c .before .before .before .before .before .before .ahead .ensures, c .before .before .before .before .before .before .before .before .before .pre .1)) (k .told .1))
 
 sub-put-header : tie.Need-sub-put-header
 sub-put-header c =

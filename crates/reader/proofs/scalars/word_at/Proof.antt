@@ -5,6 +5,7 @@ use lib.Ieee.{nan}
 use lib.ListN.{drop}
 use Rattle.text_rules.specs.Text.{Sym}
 use Rattle.text_rules.specs.Words.{word}
+use Rattle.tokens.proofs.Keeping.{kept-all}
 use Rattle.tape.specs.Tree.{Scalar, Node, encode, encodeScalar, encodeSym}
 use Rattle.tape.proofs.Numbers.{float-bits-nan}
 use Rattle.reader.proofs.ScalarSteps.{word-none, word-here, word-null}
@@ -109,7 +110,7 @@ unfolding encode encodeScalar
 returns-5 c = word-here (c .before .before .before .before .before .before .before .word-at .ensures) (c .before .before .before .before .before .before .before .before .before .before .args .m) _ Node.marker (c .before .before .before .before .before .enum-told5 .given .1) refl (rw (c .before .before .before .before .if1 .taken)) (c .before .before .put .ensures)
 
 returns-6 : tie.Need-returns-6
-returns-6 c = (word-none (c .before .before .before .word-at .ensures) (c .before .before .before .before .before .before .args .m) _ (c .before .enum-told5 .given .1) (rw (c .if1 .left)), refl)
+returns-6 c = (word-none (c .before .before .before .word-at .ensures) (c .before .before .before .before .before .before .args .m) _ (c .before .enum-told5 .given .1) (rw (c .if1 .left)), kept-all)
 
 same-length-6 : tie.Need-same-length-6
 same-length-6 c = search needs
@@ -129,7 +130,7 @@ returns-8 c =
     word-here w (x .m) _ (Node.scalar (Scalar.symbol (Sym.text (word (drop (x .at) (x .text .now)))))) (c .before .before .before .before .before .enum-told6 .given .1) refl refl (rw (w .bytes) at (c .before .before .put-text .ensures))
 
 returns-9 : tie.Need-returns-9
-returns-9 c = (word-none (c .before .before .word-at .ensures) (c .before .before .before .before .before .args .m) _ (c .enum-told7 .given .1) refl, refl)
+returns-9 c = (word-none (c .before .before .word-at .ensures) (c .before .before .before .before .before .args .m) _ (c .enum-told7 .given .1) refl, kept-all)
 
 pub word-at-spec : {M : Type 1} → statement M
 word-at-spec =

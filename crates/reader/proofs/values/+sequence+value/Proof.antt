@@ -162,8 +162,8 @@ sequence-loop-again t c =
       g .2,
       omega (arith, w .2),
       laid-bound (w .4),
-      w .4 .same ∙ l .inv .4,
-      λ r b' h. l .inv .5 r b' (run-more (s .ensures) e r v (g .0) (g .1) (g .2) h),
+      w .4 .kept .same ∙ l .inv .4,
+      λ r b' h. l .inv .5 r b' (run-more (s .ensures) e r (l .inv .3) v (g .0) (g .1) (g .2) h),
     )
 
 value-head-at-requires : (t : ℕ) → value-lts.Need-head-at-requires (value-calls t) (value-at t) value.Post
@@ -208,7 +208,7 @@ value-same-length-2 t c = c .before .before .scalar-at .kept .1 .1 .1 .0 ∙ c .
 value-returns-2 : (t : ℕ) → value-lts.Need-returns-2 (value-calls t) (value-at t) value.Post
 value-returns-2 t c =
     let h = rw (c .before .before .before .before .before .before .before .before .before .a .given .1) at (c .before .before .before .before .before .before .before .before .before .before .before .before .before .head-at .ensures) in
-    value-at-head _ h (c .before .before .before .before .free-of .ensures) (body-at-scalar _ (h .4) (rw (c .before .before .before .before .before .enum-told2 .given .1) at (c .before .before .before .before .before .before .before .opener-at .ensures)) (c .before .before .scalar-at .ensures))
+    value-at-head _ (c .before .before .before .before .before .before .before .before .before .before .before .before .before .before .before .before .before .pre .1 .1) h (c .before .before .before .before .free-of .ensures) (body-at-scalar _ (h .4) (rw (c .before .before .before .before .before .enum-told2 .given .1) at (c .before .before .before .before .before .before .before .opener-at .ensures)) (c .before .before .scalar-at .ensures))
 
 value-same-length-3 : (t : ℕ) → value-lts.Need-same-length-3 (value-calls t) (value-at t) value.Post
 value-same-length-3 t c = c .before .before .before .before .before .before .before .before .before .before .head-at .kept .1 .1 .1 .0
@@ -217,7 +217,7 @@ value-returns-3 : (t : ℕ) → value-lts.Need-returns-3 (value-calls t) (value-
 value-returns-3 t c =
     let h = rw (c .before .before .before .before .before .before .a .given .1) at (c .before .before .before .before .before .before .before .before .before .before .head-at .ensures) in
     let o = rw (c .before .before .inner .given .1) at (c .before .before .before .before .opener-at .ensures) in
-    value-at-head _ h refl (body-at-deep (h .4) o (c .if1 .taken))
+    value-at-head _ (c .before .before .before .before .before .before .before .before .before .before .before .before .before .before .pre .1 .1) h refl (body-at-deep (h .4) o (c .if1 .taken))
 
 value-ahead-requires : (t : ℕ) → value-lts.Need-ahead-requires (value-calls t) (value-at t) value.Post
 value-ahead-requires t c κs = tt
@@ -250,7 +250,7 @@ value-returns-4 : (t : ℕ) → value-lts.Need-returns-4 (value-calls t) (value-
 value-returns-4 t c =
     let h = rw (c .before .before .before .before .before .before .before .before .before .before .before .before .before .a .given .1) at (c .before .before .before .before .before .before .before .before .before .before .before .before .before .before .before .before .before .head-at .ensures) in
     let o = rw (c .before .before .before .before .before .before .before .before .before .inner .given .1) at (c .before .before .before .before .before .before .before .before .before .before .before .opener-at .ensures) in
-    value-at-head _ h refl (body-at-broken (h .4) o (c .before .before .before .before .before .before .before .if1 .left) (rw (c .enum-told3 .given .1) at (c .before .before .before .before .sequence .ensures)))
+    value-at-head _ (c .before .before .before .before .before .before .before .before .before .before .before .before .before .before .before .before .before .before .before .before .before .pre .1 .1) h refl (body-at-broken (h .4) o (c .before .before .before .before .before .before .before .if1 .left) (laid-bound (h .5)) (c .before .before .before .before .before .before .ahead .ensures) (rw (c .enum-told3 .given .1) at (c .before .before .before .before .sequence .ensures)))
 
 value-tag-of-requires : (t : ℕ) → value-lts.Need-tag-of-requires (value-calls t) (value-at t) value.Post
 value-tag-of-requires t c κs = search needs
@@ -270,7 +270,7 @@ value-returns-5 : (t : ℕ) → value-lts.Need-returns-5 (value-calls t) (value-
 value-returns-5 t c =
     let h = rw (c .before .before .before .before .before .before .before .before .before .before .before .before .before .before .before .before .before .before .before .a .given .1) at (c .before .before .before .before .before .before .before .before .before .before .before .before .before .before .before .before .before .before .before .before .before .before .before .head-at .ensures) in
     let o = rw (c .before .before .before .before .before .before .before .before .before .before .before .before .before .before .before .inner .given .1) at (c .before .before .before .before .before .before .before .before .before .before .before .before .before .before .before .before .before .opener-at .ensures) in
-    value-at-head _ h refl (body-at-nest (h .4) o (c .before .before .before .before .before .before .before .before .before .before .before .before .before .if1 .left) (c .before .before .before .before .before .before .before .before .before .before .before .before .ahead .ensures) (rw (c .before .before .before .before .before .before .z .given .1) at (c .before .before .before .before .before .before .before .before .before .before .sequence .ensures)) (rw (c .before .before .before .tag-of .ensures) at (c .before .before .put-header .ensures)))
+    value-at-head _ (c .before .before .before .before .before .before .before .before .before .before .before .before .before .before .before .before .before .before .before .before .before .before .before .before .before .before .before .pre .1 .1) h refl (body-at-nest (h .4) o (c .before .before .before .before .before .before .before .before .before .before .before .before .before .if1 .left) (c .before .before .before .before .before .before .before .before .before .before .before .before .ahead .ensures) (rw (c .before .before .before .before .before .before .z .given .1) at (c .before .before .before .before .before .before .before .before .before .before .sequence .ensures)) (rw (c .before .before .before .tag-of .ensures) at (c .before .before .put-header .ensures)))
 
 pub +sequence+value-spec : {M : Type 1} → statement M
 +sequence+value-spec = close μ-sequence μ-value

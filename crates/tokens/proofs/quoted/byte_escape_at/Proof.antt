@@ -1,13 +1,13 @@
 -- `quoted::byte_escape_at` meets its contract. Assumes nothing.
-use mathlib.Core.Path.{refl}
 use native.Mathlib.Omega.{arith}
 use Rattle.tokens.proofs.QuotedSteps.{copies-as, byte-escape-x, byte-escape-letter, escape-end}
+use Rattle.tokens.proofs.Keeping.{kept-all}
 use borrow.Author.Needs.{needs}
 use Rattle.tokens.proofs.quoted.byte_escape_at.Statement.{statement}
 use Rattle.tokens.proofs.quoted.byte_escape_at.Tie as tie
 
 returns : tie.Need-returns
-returns c = record { told = (escape-end _ _ (c .if1 .taken) .1, refl) }
+returns c = record { told = (escape-end _ _ (c .if1 .taken) .1, kept-all) }
 
 shared-slice-read-if2 : tie.Need-shared-slice-read-if2
 shared-slice-read-if2 c = search needs

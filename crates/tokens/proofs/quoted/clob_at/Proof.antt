@@ -1,8 +1,8 @@
 -- `quoted::clob_at` meets its contract. Assumes nothing.
-use mathlib.Core.Path.{refl}
 use native.Mathlib.Omega.{arith}
 use borrow.Author.Tests.{not-true, not-false}
 use Rattle.tokens.proofs.ClobSteps.{clob-unopened, clob-broken, clob-unclosed, clob-whole, stripped-no, stripped-yes}
+use Rattle.tokens.proofs.Keeping.{kept-all, wrote-kept}
 use borrow.Author.Needs.{needs}
 use Rattle.tokens.proofs.quoted.clob_at.Statement.{statement}
 use Rattle.tokens.proofs.quoted.clob_at.Tie as tie
@@ -14,7 +14,7 @@ word-stands-requires : tie.Need-word-stands-requires
 word-stands-requires c κs = search needs
 
 returns : tie.Need-returns
-returns c = record { told = (clob-unopened _ (stripped-no (c .before .word-stands .ensures) (not-true _ (c .if1 .taken))), refl) }
+returns c = record { told = (clob-unopened _ (stripped-no (c .before .word-stands .ensures) (not-true _ (c .if1 .taken))), kept-all) }
 
 add-clob-bytes-at : tie.Need-add-clob-bytes-at
 add-clob-bytes-at c = omega (arith, stripped-yes (c .before .word-stands .ensures) (not-false _ (c .if1 .left)) .1)
@@ -50,7 +50,7 @@ same-length-2 c = search needs
 returns-3 : tie.Need-returns-3
 returns-3 c =
     let h = rw (c .before .before .before .before .end .given .1) at (c .before .before .before .before .before .before .before .before .clob-bytes-at .ensures) in
-    record { told = (clob-unclosed _ _ _ _ (stripped-yes (c .before .before .before .before .before .before .before .before .before .before .before .word-stands .ensures) (not-false _ (c .before .before .before .before .before .before .before .before .before .before .if1 .left)) .0) (h .told .1) (stripped-no (c .before .word-stands2 .ensures) (not-true _ (c .if2 .taken))), search needs) }
+    record { told = (clob-unclosed _ _ _ _ (stripped-yes (c .before .before .before .before .before .before .before .before .before .before .before .word-stands .ensures) (not-false _ (c .before .before .before .before .before .before .before .before .before .before .if1 .left)) .0) (h .told .1) (stripped-no (c .before .word-stands2 .ensures) (not-true _ (c .if2 .taken))), wrote-kept (h .told .4)) }
 
 add-t14 : tie.Need-add-t14
 add-t14 c = omega (arith, stripped-yes (c .before .word-stands2 .ensures) (not-false _ (c .if2 .left)) .1)

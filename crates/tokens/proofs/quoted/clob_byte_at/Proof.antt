@@ -1,7 +1,7 @@
 -- `quoted::clob_byte_at` meets its contract. Assumes nothing.
-use mathlib.Core.Path.{refl}
 use native.Mathlib.Omega.{arith}
 use Rattle.tokens.proofs.QuotedSteps.{copies-as, clob-byte-escape, clob-byte-raw, clob-byte-low, clob-byte-high}
+use Rattle.tokens.proofs.Keeping.{kept-all}
 use borrow.Author.Needs.{needs}
 use Rattle.tokens.proofs.quoted.clob_byte_at.Statement.{statement}
 use Rattle.tokens.proofs.quoted.clob_byte_at.Tie as tie
@@ -26,12 +26,12 @@ returns c =
 returns-2 : tie.Need-returns-2
 returns-2 c =
     let a = c .before .before .before .before .before .args in
-    record { told = (clob-byte-low (a .text .now) (a .at) (c .before .before .before .before .before .pre .0) (c .before .if1 .left) (c .if2 .taken), refl) }
+    record { told = (clob-byte-low (a .text .now) (a .at) (c .before .before .before .before .before .pre .0) (c .before .if1 .left) (c .if2 .taken), kept-all) }
 
 returns-3 : tie.Need-returns-3
 returns-3 c =
     let a = c .before .before .before .before .before .before .args in
-    record { told = (clob-byte-high (a .text .now) (a .at) (c .before .before .before .before .before .before .pre .0) (c .before .before .if1 .left) (c .if3 .taken), refl) }
+    record { told = (clob-byte-high (a .text .now) (a .at) (c .before .before .before .before .before .before .pre .0) (c .before .before .if1 .left) (c .if3 .taken), kept-all) }
 
 put-requires : tie.Need-put-requires
 put-requires c κs = search needs

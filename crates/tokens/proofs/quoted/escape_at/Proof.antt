@@ -1,13 +1,13 @@
 -- `quoted::escape_at` meets its contract. Assumes nothing.
-use mathlib.Core.Path.{refl}
 use native.Mathlib.Omega.{arith}
 use Rattle.tokens.proofs.QuotedSteps.{copies-as, escape-x, escape-u, escape-U, escape-letter, escape-end}
+use Rattle.tokens.proofs.Keeping.{kept-all}
 use borrow.Author.Needs.{needs}
 use Rattle.tokens.proofs.quoted.escape_at.Statement.{statement}
 use Rattle.tokens.proofs.quoted.escape_at.Tie as tie
 
 returns : tie.Need-returns
-returns c = record { told = (escape-end _ _ (c .if1 .taken) .0, refl) }
+returns c = record { told = (escape-end _ _ (c .if1 .taken) .0, kept-all) }
 
 shared-slice-read-b : tie.Need-shared-slice-read-b
 shared-slice-read-b c = search needs

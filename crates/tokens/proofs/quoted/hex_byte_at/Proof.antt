@@ -1,7 +1,7 @@
 -- `quoted::hex_byte_at` meets its contract. Assumes nothing.
-use mathlib.Core.Path.{refl}
 use native.Mathlib.Omega.{arith}
 use Rattle.tokens.proofs.QuotedSteps.{hex-byte}
+use Rattle.tokens.proofs.Keeping.{kept-all}
 use borrow.Author.Needs.{needs}
 use Rattle.tokens.proofs.quoted.hex_byte_at.Statement.{statement}
 use Rattle.tokens.proofs.quoted.hex_byte_at.Tie as tie
@@ -18,7 +18,7 @@ enum-told c = search needs
 returns : tie.Need-returns
 returns c =
     let h = rw (c .enum-told .given .1) at (c .before .before .hex-at .ensures) in
-    record { told = (rw (h .told), refl) }
+    record { told = (rw (h .told), kept-all) }
 
 cast-put : tie.Need-cast-put
 cast-put c =

@@ -1,10 +1,10 @@
 -- `quoted::letter_at` meets its contract. Assumes nothing.
-use mathlib.Core.Path.{refl}
 use mathlib.Core.List.{[], _∷_}
 use native.Mathlib.Omega.{arith}
 use borrow.Author.Tests.{lt-ltb, le-ltb}
 use Rattle.tokens.specs.Quoted.{letterEscape}
 use Rattle.text_rules.proofs.EscapesLaws.{byte-at}
+use Rattle.tokens.proofs.Keeping.{kept-all}
 use borrow.Author.Needs.{needs}
 use Rattle.tokens.proofs.quoted.letter_at.Statement.{statement}
 use Rattle.tokens.proofs.quoted.letter_at.Tie as tie
@@ -20,7 +20,7 @@ unfolding letterEscape
 returns c =
     let a = c .before .before .before .before .before .args in
     let h = rw (le-ltb _ _ (c .if1 .taken)) at (c .before .letter-value .ensures) in
-    record { told = (rw (byte-at (a .text .now) (a .at) (c .before .before .before .before .before .pre .0), h), refl) }
+    record { told = (rw (byte-at (a .text .now) (a .at) (c .before .before .before .before .before .pre .0), h), kept-all) }
 
 put-requires : tie.Need-put-requires
 put-requires c κs = search needs

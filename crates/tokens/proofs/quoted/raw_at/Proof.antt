@@ -1,12 +1,13 @@
 -- `quoted::raw_at` meets its contract. Assumes nothing.
 use Prim.Native.Nat.{_+_, _-_}
-use mathlib.Core.Path.{_≡_, refl, sym, _∙_}
+use mathlib.Core.Path.{_≡_, sym, _∙_}
 use native.Mathlib.Omega.{arith}
 use lib.ListN.{take, drop}
 use borrow.Author.Tests.{ne-eqb, le-leb}
 use Rattle.tokens.specs.Quoted.{isRaw}
 use Rattle.text_rules.proofs.Utf8Chars.{char-in}
 use Rattle.tokens.proofs.QuotedSteps.{raw-at}
+use Rattle.tokens.proofs.Keeping.{kept-all}
 use borrow.Author.Needs.{needs}
 use Rattle.tokens.proofs.quoted.raw_at.Statement.{statement}
 use Rattle.tokens.proofs.quoted.raw_at.Tie as tie
@@ -18,13 +19,13 @@ returns : tie.Need-returns
 unfolding isRaw
 returns c =
     let a = c .before .before .before .before .args in
-    record { told = (raw-at (a .text .now) (a .at) (c .before .before .before .before .pre .0) ∙ rw (c .if1 .taken), refl) }
+    record { told = (raw-at (a .text .now) (a .at) (c .before .before .before .before .pre .0) ∙ rw (c .if1 .taken), kept-all) }
 
 returns-2 : tie.Need-returns-2
 unfolding isRaw
 returns-2 c =
     let a = c .before .before .before .before .before .args in
-    record { told = (raw-at (a .text .now) (a .at) (c .before .before .before .before .before .pre .0) ∙ rw (c .if2 .taken), refl) }
+    record { told = (raw-at (a .text .now) (a .at) (c .before .before .before .before .before .pre .0) ∙ rw (c .if2 .taken), kept-all) }
 
 char-len-requires : tie.Need-char-len-requires
 char-len-requires c κs = search needs
@@ -33,7 +34,7 @@ returns-3 : tie.Need-returns-3
 unfolding isRaw
 returns-3 c =
     let a = c .before .before .before .before .before .before .before .args in
-    record { told = (raw-at (a .text .now) (a .at) (c .before .before .before .before .before .before .before .pre .0) ∙ simp (ne-eqb _ _ (c .before .before .before .if1 .left), ne-eqb _ _ (c .before .before .if2 .left), sym (c .before .char-len .ensures) ∙ c .if3 .taken), refl) }
+    record { told = (raw-at (a .text .now) (a .at) (c .before .before .before .before .before .before .before .pre .0) ∙ simp (ne-eqb _ _ (c .before .before .before .if1 .left), ne-eqb _ _ (c .before .before .if2 .left), sym (c .before .char-len .ensures) ∙ c .if3 .taken), kept-all) }
 
 add-end : tie.Need-add-end
 add-end c = omega (arith, c .before .char-len .ensures, char-in (c .before .before .before .before .before .before .before .args .text .now) (c .before .before .before .before .before .before .before .args .at) (c .before .before .before .before .before .before .before .pre .0))

@@ -1,9 +1,10 @@
 -- `quoted::scalar_at` meets its contract. Assumes nothing.
-use mathlib.Core.Path.{refl, sym, _∙_}
+use mathlib.Core.Path.{sym, _∙_}
 use native.Mathlib.Omega.{arith}
 use borrow.Author.Tests.{not-true, not-false}
 use Rattle.tokens.proofs.QuotedSteps.{scalar-none, scalar-no, scalar-yes}
 use Rattle.text_rules.proofs.Utf8Scalar.{scalar-small}
+use Rattle.tokens.proofs.Keeping.{kept-all}
 use borrow.Author.Needs.{needs}
 use Rattle.tokens.proofs.quoted.scalar_at.Statement.{statement}
 use Rattle.tokens.proofs.quoted.scalar_at.Tie as tie
@@ -20,7 +21,7 @@ enum-told c = search needs
 returns : tie.Need-returns
 returns c =
     let h = rw (c .enum-told .given .1) at (c .before .before .hex-at .ensures) in
-    record { told = (scalar-none _ _ (h .told), refl) }
+    record { told = (scalar-none _ _ (h .told), kept-all) }
 
 is-scalar-requires : tie.Need-is-scalar-requires
 is-scalar-requires c κs = search needs
@@ -28,7 +29,7 @@ is-scalar-requires c κs = search needs
 returns-2 : tie.Need-returns-2
 returns-2 c =
     let h = rw (c .before .before .before .v .given .1) at (c .before .before .before .before .before .hex-at .ensures) in
-    record { told = (scalar-no _ _ _ _ (h .told .0) (sym (c .before .is-scalar .ensures) ∙ not-true _ (c .if1 .taken)), refl) }
+    record { told = (scalar-no _ _ _ _ (h .told .0) (sym (c .before .is-scalar .ensures) ∙ not-true _ (c .if1 .taken)), kept-all) }
 
 put-utf8-requires : tie.Need-put-utf8-requires
 put-utf8-requires c κs = (search needs, scalar-small _ (sym (c .before .before .is-scalar .ensures) ∙ not-false _ (c .before .if1 .left)))

@@ -1,6 +1,7 @@
 -- `values::bare_symbol_at` meets its contract: each arm is told which kind it has. Assumes nothing.
 use mathlib.Core.Path.{refl}
 use Rattle.tokens.proofs.SymbolSteps.{bare-text, bare-number, bare-bad}
+use Rattle.tokens.proofs.Keeping.{kept-all}
 use borrow.Author.Needs.{needs}
 use Rattle.tokens.proofs.values.bare_symbol_at.Statement.{statement}
 use Rattle.tokens.proofs.values.bare_symbol_at.Tie as tie
@@ -54,22 +55,22 @@ returns-2 : tie.Need-returns-2
 returns-2 c = bare-number (c .before .before .before .word-at .ensures) _ (c .before .k .given .1) refl
 
 returns-3 : tie.Need-returns-3
-returns-3 c = bare-bad (c .before .before .word-at .ensures) _ (c .enum-told2 .given .1) refl refl
+returns-3 c = bare-bad (c .before .before .word-at .ensures) _ (c .enum-told2 .given .1) refl kept-all
 
 returns-4 : tie.Need-returns-4
-returns-4 c = bare-bad (c .before .before .word-at .ensures) _ (c .enum-told3 .given .1) refl refl
+returns-4 c = bare-bad (c .before .before .word-at .ensures) _ (c .enum-told3 .given .1) refl kept-all
 
 returns-5 : tie.Need-returns-5
-returns-5 c = bare-bad (c .before .before .word-at .ensures) _ (c .enum-told4 .given .1) refl refl
+returns-5 c = bare-bad (c .before .before .word-at .ensures) _ (c .enum-told4 .given .1) refl kept-all
 
 returns-6 : tie.Need-returns-6
-returns-6 c = bare-bad (c .before .before .word-at .ensures) _ (c .enum-told5 .given .1) refl refl
+returns-6 c = bare-bad (c .before .before .word-at .ensures) _ (c .enum-told5 .given .1) refl kept-all
 
 returns-7 : tie.Need-returns-7
-returns-7 c = bare-bad (c .before .before .word-at .ensures) _ (c .enum-told6 .given .1) refl refl
+returns-7 c = bare-bad (c .before .before .word-at .ensures) _ (c .enum-told6 .given .1) refl kept-all
 
 returns-8 : tie.Need-returns-8
-returns-8 c = bare-bad (c .before .before .word-at .ensures) _ (c .enum-told7 .given .1) refl refl
+returns-8 c = bare-bad (c .before .before .word-at .ensures) _ (c .enum-told7 .given .1) refl kept-all
 
 pub bare-symbol-at-spec : {M : Type 1} → statement M
 bare-symbol-at-spec =

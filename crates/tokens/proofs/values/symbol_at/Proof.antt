@@ -1,13 +1,13 @@
 -- `values::symbol_at` meets its contract. Assumes nothing.
-use mathlib.Core.Path.{refl}
 use native.Mathlib.Omega.{arith}
 use Rattle.tokens.proofs.SymbolSteps.{symbol-end, symbol-unquoted, symbol-quoted, symbol-broken}
+use Rattle.tokens.proofs.Keeping.{kept-all}
 use borrow.Author.Needs.{needs}
 use Rattle.tokens.proofs.values.symbol_at.Statement.{statement}
 use Rattle.tokens.proofs.values.symbol_at.Tie as tie
 
 returns : tie.Need-returns
-returns c = symbol-end (c .before .before .before .args .text .now) (c .before .before .before .args .at) (c .if1 .taken) refl
+returns c = symbol-end (c .before .before .before .args .text .now) (c .before .before .before .args .at) (c .if1 .taken) kept-all
 
 shared-slice-read-if2 : tie.Need-shared-slice-read-if2
 shared-slice-read-if2 c = search needs
