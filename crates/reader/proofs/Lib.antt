@@ -4,5 +4,7 @@ pub mod Between
 pub mod HeadSteps
 pub mod ScalarSteps
 pub mod Reading
+pub mod Shorter
+pub mod Enough
 pub mod Cycle
 pub mod Whole

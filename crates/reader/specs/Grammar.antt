@@ -1,5 +1,5 @@
 -- The grammar, as the function that gives a text's meaning. A rule takes a text and gives what it read and the text behind it, or `none`.
--- `body` and `sequence` recurse on a number that no text of the length uses up (`meaning`).
+-- `body` and `sequence` go f steps deep at most: for a text of n bytes every f above 2n gives the same (`sequence-enough`).
 -- Assumes nothing: these are definitions.
 use Prim.Native.Nat.{ℕ, zero, suc, _*_}
 use mathlib.Core.List.{List, [], _∷_}
@@ -165,12 +165,14 @@ unfoldable mutual
   sequence (suc f) k left t =
       on (closes k (skip t))
       (λ r. some (Nodes.nil, r))
-      (then (headed (λ m u. body f m left u) k (skip t)) (λ n. then (gap k (n .1)) (λ u. then (sequence f k left u) (λ ns. some (Nodes.more (n .0 .0) (n .0 .1) (ns .0), ns .1)))))
+      (then (headed (λ m u. body f m left u) k (skip t)) (λ n.
+      then (gap k (n .1)) (λ u.
+      then (sequence f k left u) (λ ns. some (Nodes.more (n .0 .0) (n .0 .1) (ns .0), ns .1)))))
 
 -- a value in the frame k
 unfoldable pub value : ℕ → Frame → ℕ → List ℕ → Option ((Head × Node) × List ℕ)
 value f k left t = headed (λ m u. body f m left u) k t
 
--- What a whole text means. A text of n bytes takes at most 2n + 1 calls in a row
+-- what a whole text means: the number of steps is enough
 unfoldable pub meaning : List ℕ → Option Nodes
 meaning t = then (sequence (suc (2 * length t)) Top 64 t) (λ r. some (r .0))

@@ -2,6 +2,8 @@ pub mod Keeping
 pub mod QuotedSteps
 pub mod QuotedMany
 pub mod ClobSteps
+pub mod Shorter
+pub mod Enough
 pub mod QuotedBack
 pub mod ClobBack
 pub mod Utf8Back

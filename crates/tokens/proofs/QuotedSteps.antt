@@ -1,5 +1,5 @@
 -- The steps of reading quoted text and clobs at a place of a text. Assumes nothing.
-use Prim.Native.Nat.{ℕ, suc, _+_, _-_, _*_, _^_, _≤_, _<_}
+use Prim.Native.Nat.{ℕ, suc, _+_, _*_, _^_, _≤_, _<_}
 use mathlib.Core.Path.{_≡_, refl, _∙_}
 use mathlib.Core.Bool.{Bool, true, false, not, _&&_}
 use mathlib.Core.List.{List, [], _∷_}
@@ -11,9 +11,9 @@ use native.Mathlib.Omega.{arith}
 use lib.Dec.{eqb, leb}
 use lib.ListN.{length, take, drop, getD, drop-of-length-le}
 use lib.Seq.{drop-drop, getD-drop}
-use borrow.Author.Tests.{lt-ltb, le-leb, lt-leb, eq-eqb, ne-eqb}
+use borrow.Author.Tests.{lt-ltb, le-leb, lt-leb, ne-eqb}
 use Rattle.output.specs.Logic.{if, then, byte}
-use Rattle.text_rules.specs.Texts.{starts, strip}
+use Rattle.text_rules.specs.Texts.{starts}
 use Rattle.text_rules.specs.Utf8.{charAt, isScalar, utf8}
 use Rattle.text_rules.specs.Escapes.{hexValue, hex}
 use Rattle.tokens.specs.Quoted.{scalarEscape, letterEscape, escape, isRaw, raw, character, byteEscape, rawByte, clobByte}
@@ -157,17 +157,3 @@ scalar-yes w v t u e y = rw (e, y)
 
 pub hex-byte : (v : ℕ) (t u : List ℕ) → hex 2 0 t ≡ some (v, u) → then {B = List ℕ × List ℕ} (hex 2 0 t) (λ v. some (v .0 ∷ [], v .1)) ≡ some (v ∷ [], u)
 hex-byte v t u e = rw e
-
--- ---- a word at a place
-
-pub strip-short : (w t : List ℕ) (i j : ℕ) → i < length w → length t ≤ j → strip (drop i w) (drop j t) ≡ none
-unfolding strip
-strip-short w t i j h l = let e : drop j t ≡ [] = drop-of-length-le t {i = j} l in rw (byte-at w i h, e)
-
-pub strip-other : (w t : List ℕ) (i j : ℕ) → i < length w → j < length t → (getD t j 0 ≡ getD w i 0 → ⊥) → strip (drop i w) (drop j t) ≡ none
-unfolding strip
-strip-other w t i j h l e = rw (byte-at w i h, byte-at t j l, ne-eqb _ _ e)
-
-pub strip-byte : (w t : List ℕ) (i j : ℕ) → i < length w → j < length t → getD t j 0 ≡ getD w i 0 → strip (drop i w) (drop j t) ≡ strip (drop (i + 1) w) (drop (j + 1) t)
-unfolding strip
-strip-byte w t i j h l e = rw (byte-at w i h, byte-at t j l, eq-eqb _ _ e)

@@ -15,7 +15,7 @@ use Rattle.output.specs.Logic.{if, then, on, byte, ascii}
 use Rattle.text_rules.specs.Texts.{starts, strip}
 use Rattle.text_rules.specs.Utf8.{charAt, isScalar, after, valid, utf8}
 use Rattle.text_rules.specs.Escapes.{letter, hexValue, hex}
-use Rattle.tokens.specs.Quoted.{quote, scalarEscape, letterEscape, escape, isRaw, raw, character, quoted, string, byteEscape, rawByte, clobByte, clobBytes, clob}
+use Rattle.tokens.specs.Quoted.{quote, scalarEscape, letterEscape, escape, isRaw, raw, character, quoted, byteEscape, rawByte, clobByte, clobBytes, clob}
 use Rattle.text_rules.proofs.Table.{same}
 use Rattle.text_rules.proofs.Utf8View.{Char, char-at, valid-char, View, view, utf8-char, ascii-char}
 use Rattle.tokens.proofs.QuotedMany.{Read, prefix, many, characters-many, clob-many}
@@ -71,33 +71,34 @@ high-hex : (c : ℕ) → 128 ≤ c → hexValue c ≡ none
 unfolding hexValue
 high-hex c h = rw (le-leb (byte "0") c (omega arith), lt-leb c (byte "9") (omega arith), le-leb (byte "a") c (omega arith), lt-leb c (byte "f") (omega arith), le-leb (byte "A") c (omega arith), lt-leb c (byte "F") (omega arith))
 
-letter-small : (c v : ℕ) → letter c ≡ some v → v < 128
-letter-small c v e = small-some 128 (letter c) v (go (decLe 128 c)) e
+-- a rule that gives nothing above 127, and small numbers below
+small-all : (n : ℕ) (f : ℕ → Option ℕ) → ((c : ℕ) → c < 128 → small n (f c) ≡ true) → ((c : ℕ) → 128 ≤ c → f c ≡ none) → (c v : ℕ) → f c ≡ some v → v < n
+small-all n f low high c v e = small-some n (f c) v (go (decLe 128 c)) e
   where
-    go : Dec (128 ≤ c) → small 128 (letter c) ≡ true
-    go (no h) = low-letter c (omega arith)
-    go (yes h) = ap (small 128) (high-letter c h)
+    go : Dec (128 ≤ c) → small n (f c) ≡ true
+    go (no h) = low c (omega arith)
+    go (yes h) = ap (small n) (high c h)
+
+letter-small : (c v : ℕ) → letter c ≡ some v → v < 128
+letter-small = small-all 128 letter low-letter high-letter
 
 hex-small : (c v : ℕ) → hexValue c ≡ some v → v < 16
-hex-small c v e = small-some 16 (hexValue c) v (go (decLe 128 c)) e
+hex-small = small-all 16 hexValue low-hex high-hex
+
+-- an escape by a letter is one byte below 128
+letter-one : (t x u : List ℕ) → letterEscape t ≡ some (x, u) → (v : ℕ) × (x ≡ v ∷ []) × (v < 128)
+unfolding letterEscape
+letter-one [] x u e = absurd (let z : _≡_ {A = ℕ} 0 1 = cc in omega arith)
+letter-one (c ∷ t) x u e = go (letter c) refl e
   where
-    go : Dec (128 ≤ c) → small 16 (hexValue c) ≡ true
-    go (no h) = low-hex c (omega arith)
-    go (yes h) = ap (small 16) (high-hex c h)
+    go : (o : Option ℕ) → letter c ≡ o → then {B = List ℕ × List ℕ} o (λ v. some (v ∷ [], t)) ≡ some (x, u) → (v : ℕ) × (x ≡ v ∷ []) × (v < 128)
+    go none h e = absurd (let z : _≡_ {A = ℕ} 0 1 = cc in omega arith)
+    go (some v) h e = (v, sym (ap got e), letter-small c v h)
 
 -- ---- quoted text
 
-pub valid-utf8 : (v : ℕ) → isScalar v ≡ true → (s : List ℕ) → valid (utf8 v ++ s) ≡ valid s
-valid-utf8 v e s = valid-char (utf8-char v e) s
-
 letter-char : (t x u : List ℕ) → letterEscape t ≡ some (x, u) → Char x
-unfolding letterEscape
-letter-char [] x u e = absurd (let z : _≡_ {A = ℕ} 0 1 = cc in omega arith)
-letter-char (c ∷ t) x u e = go (letter c) refl e
-  where
-    go : (o : Option ℕ) → letter c ≡ o → then {B = List ℕ × List ℕ} o (λ v. some (v ∷ [], t)) ≡ some (x, u) → Char x
-    go none h e = absurd (let z : _≡_ {A = ℕ} 0 1 = cc in omega arith)
-    go (some v) h e = subst Char (ap got e) (ascii-char v (letter-small c v h))
+letter-char t x u e = let l = letter-one t x u e in subst Char (sym (l .1)) (ascii-char (l .0) (l .2))
 
 scalar-char : (w : ℕ) (t x u : List ℕ) → scalarEscape w t ≡ some (x, u) → Char x
 unfolding scalarEscape
@@ -150,9 +151,6 @@ character-char t x u e = go (starts (byte "\\") t) e
     go true e = escape-char (drop 1 t) x u e
     go false e = raw-char t x u e
 
-pub valid-raw : (t x u : List ℕ) → raw t ≡ some (x, u) → (s : List ℕ) → valid (x ++ s) ≡ valid s
-valid-raw t x u e s = valid-char (raw-char t x u e) s
-
 pub valid-character : (t x u : List ℕ) → character t ≡ some (x, u) → (s : List ℕ) → valid (x ++ s) ≡ valid s
 valid-character t x u e s = valid-char (character-char t x u e) s
 
@@ -165,14 +163,6 @@ unfolding quoted
 quoted-valid q t x r e =
     many-all character (λ x. valid x ≡ true) valid-nothing (λ t v u y s h. valid-character t v u s y ∙ h)
     (suc (length t)) q t x r (sym (characters-many (suc (length t)) q t) ∙ e)
-
-pub string-valid : (t x r : List ℕ) → string t ≡ some (x, r) → valid x ≡ true
-unfolding string
-string-valid t x r e = go (starts (byte "\"") t) e
-  where
-    go : (p : Bool) → if p (quoted (byte "\"") (drop 1 t)) none ≡ some (x, r) → valid x ≡ true
-    go true e = quoted-valid (byte "\"") (drop 1 t) x r e
-    go false e = absurd (let z : _≡_ {A = ℕ} 0 1 = cc in omega arith)
 
 -- ---- clobs
 
@@ -190,13 +180,7 @@ bytes-one a h zero = h
 bytes-one a h (suc k) = omega arith
 
 letter-bytes : (t x u : List ℕ) → letterEscape t ≡ some (x, u) → Bytes x
-unfolding letterEscape
-letter-bytes [] x u e = absurd (let z : _≡_ {A = ℕ} 0 1 = cc in omega arith)
-letter-bytes (c ∷ t) x u e = go (letter c) refl e
-  where
-    go : (o : Option ℕ) → letter c ≡ o → then {B = List ℕ × List ℕ} o (λ v. some (v ∷ [], t)) ≡ some (x, u) → Bytes x
-    go none h e = absurd (let z : _≡_ {A = ℕ} 0 1 = cc in omega arith)
-    go (some v) h e = subst Bytes (ap got e) (bytes-one v (let s = letter-small c v h in omega arith))
+letter-bytes t x u e = let l = letter-one t x u e in subst Bytes (sym (l .1)) (bytes-one (l .0) (omega (arith, l .2)))
 
 -- the number that hex digits name
 hex-bound : (w a b : ℕ) (t : List ℕ) (v : ℕ) (u : List ℕ) → a < b → hex w a t ≡ some (v, u) → v < b * 16 ^ w

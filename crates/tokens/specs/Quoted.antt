@@ -46,7 +46,8 @@ raw (c ∷ t) = if (isRaw c && leb 1 (charAt (c ∷ t) 0)) (some (take (charAt (
 unfoldable pub character : List ℕ → Option (List ℕ × List ℕ)
 character t = if (starts (byte "\\") t) (escape (drop 1 t)) (raw t)
 
--- the characters of quoted text, through its mark q. Each takes a byte at least, so a text of n bytes takes at most n + 1 calls
+-- The characters of quoted text, through its mark q, in f steps at most. Each takes a byte at least, so for a text of n bytes every f above n
+-- gives the same (`characters-enough`).
 unfoldable pub characters : ℕ → ℕ → List ℕ → Option (List ℕ × List ℕ)
 characters zero q t = none
 characters (suc f) q t =
@@ -74,7 +75,7 @@ rawByte (c ∷ t) = if (leb 0x20 c && leb c 0x7E) (some (c ∷ [], t)) none
 unfoldable pub clobByte : List ℕ → Option (List ℕ × List ℕ)
 clobByte t = if (starts (byte "\\") t) (byteEscape (drop 1 t)) (rawByte t)
 
--- the bytes of a clob, through `"`
+-- the bytes of a clob, through `"`, in f steps at most, in the same way (`clob-enough`)
 unfoldable pub clobBytes : ℕ → List ℕ → Option (List ℕ × List ℕ)
 clobBytes zero t = none
 clobBytes (suc f) t =
@@ -84,4 +85,7 @@ clobBytes (suc f) t =
 
 -- one token: `{{"`, bytes, `"}}`
 unfoldable pub clob : List ℕ → Option (List ℕ × List ℕ)
-clob t = then (strip (ascii "{{\"") t) (λ u. then (clobBytes (suc (length u)) u) (λ v. then (strip (ascii "}}") (v .1)) (λ r. some (v .0, r))))
+clob t =
+    then (strip (ascii "{{\"") t) (λ u.
+    then (clobBytes (suc (length u)) u) (λ v.
+    then (strip (ascii "}}") (v .1)) (λ r. some (v .0, r))))
