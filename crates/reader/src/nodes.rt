@@ -18,16 +18,13 @@ pub fn put2(buf: &mut [u8], pos: usize, a: u8, b: u8) -> usize
     output::put(buf, p, b)
 }
 
-// A kind byte and four bytes of a number, for which there is room: the compiler stores them at once.
+// A kind byte and four bytes of a number, for which there is room: two stores.
 fn header_at(buf: &mut [u8], pos: usize, kind: u8, n: usize)
     requires { ⌜ pos + 5 ≤ length (now buf) ⌝ }
     ensures { λ _. ⌜ now (buf .exit) ≡ sets (now (buf .entry)) pos (kind ∷ leBytes 4 n) ⌝ }
 {
     buf[pos] = kind;
-    buf[pos + 1] = (n % 256) as u8;
-    buf[pos + 2] = (n / 256 % 256) as u8;
-    buf[pos + 3] = (n / 256 / 256 % 256) as u8;
-    buf[pos + 4] = (n / 256 / 256 / 256 % 256) as u8;
+    output::store_4(buf, pos + 1, int::far(n));
 }
 
 // A kind byte and four bytes of a number: an identifier, or the length of what stands behind them.
@@ -51,14 +48,7 @@ fn wide_at(buf: &mut [u8], pos: usize, kind: u8, n: u64)
     ensures { λ _. ⌜ now (buf .exit) ≡ sets (now (buf .entry)) pos (kind ∷ leBytes 8 n) ⌝ }
 {
     buf[pos] = kind;
-    buf[pos + 1] = (n % 256) as u8;
-    buf[pos + 2] = (n / 256 % 256) as u8;
-    buf[pos + 3] = (n / 256 / 256 % 256) as u8;
-    buf[pos + 4] = (n / 256 / 256 / 256 % 256) as u8;
-    buf[pos + 5] = (n / 256 / 256 / 256 / 256 % 256) as u8;
-    buf[pos + 6] = (n / 256 / 256 / 256 / 256 / 256 % 256) as u8;
-    buf[pos + 7] = (n / 256 / 256 / 256 / 256 / 256 / 256 % 256) as u8;
-    buf[pos + 8] = (n / 256 / 256 / 256 / 256 / 256 / 256 / 256 % 256) as u8;
+    output::store_8(buf, pos + 1, n);
 }
 
 // A kind byte and eight bytes of a number.

@@ -1,9 +1,8 @@
 -- `nodes::wide_at` meets its contract: its stores are those of the text. Assumes nothing.
-use Prim.Native.Nat.{suc, _+_}
-use mathlib.Core.Path.{_≡_}
+use mathlib.Core.Path.{_∙_}
+use native.Mathlib.Numerals.{add-one}
 use native.Mathlib.Omega.{arith}
 use lib.ListN.{length-set}
-use Rattle.output.specs.Wrote.{leBytes}
 use borrow.Author.Needs.{needs}
 use Rattle.reader.proofs.nodes.wide_at.Statement.{statement}
 use Rattle.reader.proofs.nodes.wide_at.Tie as tie
@@ -11,123 +10,17 @@ use Rattle.reader.proofs.nodes.wide_at.Tie as tie
 slice-write-buf : tie.Need-slice-write-buf
 slice-write-buf c = search needs
 
-cast-buf : tie.Need-cast-buf
-cast-buf c = search needs
+add-store-8 : tie.Need-add-store-8
+add-store-8 c = search needs
 
-add-buf : tie.Need-add-buf
-add-buf c = search needs
-
-slice-write-buf-2 : tie.Need-slice-write-buf-2
-slice-write-buf-2 c = simp length-set (omega arith)
-
-cast-buf-2 : tie.Need-cast-buf-2
-cast-buf-2 c = search needs
-
-add-buf-2 : tie.Need-add-buf-2
-add-buf-2 c = search needs
-
-slice-write-buf-3 : tie.Need-slice-write-buf-3
-slice-write-buf-3 c = simp length-set (omega arith)
-
-cast-buf-3 : tie.Need-cast-buf-3
-cast-buf-3 c = search needs
-
-add-buf-3 : tie.Need-add-buf-3
-add-buf-3 c = search needs
-
-slice-write-buf-4 : tie.Need-slice-write-buf-4
-slice-write-buf-4 c = simp length-set (omega arith)
-
-cast-buf-4 : tie.Need-cast-buf-4
-cast-buf-4 c = search needs
-
-add-buf-4 : tie.Need-add-buf-4
-add-buf-4 c = search needs
-
-slice-write-buf-5 : tie.Need-slice-write-buf-5
-slice-write-buf-5 c = simp length-set (omega arith)
-
-cast-buf-5 : tie.Need-cast-buf-5
-cast-buf-5 c = search needs
-
-add-buf-5 : tie.Need-add-buf-5
-add-buf-5 c = search needs
-
-slice-write-buf-6 : tie.Need-slice-write-buf-6
-slice-write-buf-6 c = simp length-set (omega arith)
-
-cast-buf-6 : tie.Need-cast-buf-6
-cast-buf-6 c = search needs
-
-add-buf-6 : tie.Need-add-buf-6
-add-buf-6 c = search needs
-
-slice-write-buf-7 : tie.Need-slice-write-buf-7
-slice-write-buf-7 c = simp length-set (omega arith)
-
-cast-buf-7 : tie.Need-cast-buf-7
-cast-buf-7 c = search needs
-
-add-buf-7 : tie.Need-add-buf-7
-add-buf-7 c = search needs
-
-slice-write-buf-8 : tie.Need-slice-write-buf-8
-slice-write-buf-8 c = simp length-set (omega arith)
-
-cast-buf-8 : tie.Need-cast-buf-8
-cast-buf-8 c = search needs
-
-add-buf-8 : tie.Need-add-buf-8
-add-buf-8 c = search needs
-
-slice-write-buf-9 : tie.Need-slice-write-buf-9
-slice-write-buf-9 c = simp length-set (omega arith)
+store-8-requires : tie.Need-store-8-requires
+store-8-requires c κs = simp length-set (omega arith)
 
 same-length : tie.Need-same-length
-same-length c = simp length-set
+same-length c = c .before .before .store-8 .kept .0 ∙ simp length-set
 
 returns : tie.Need-returns
-unfolding leBytes
-returns c =
-    let p = c .args .pos in
-    let e1 : p + 1 ≡ suc p = omega arith in
-    let e2 : p + 2 ≡ suc (suc p) = omega arith in
-    let e3 : p + 3 ≡ suc (suc (suc p)) = omega arith in
-    let e4 : p + 4 ≡ suc (suc (suc (suc p))) = omega arith in
-    let e5 : p + 5 ≡ suc (suc (suc (suc (suc p)))) = omega arith in
-    let e6 : p + 6 ≡ suc (suc (suc (suc (suc (suc p))))) = omega arith in
-    let e7 : p + 7 ≡ suc (suc (suc (suc (suc (suc (suc p)))))) = omega arith in
-    let e8 : p + 8 ≡ suc (suc (suc (suc (suc (suc (suc (suc p))))))) = omega arith in
-    rw (e1, e2, e3, e4, e5, e6, e7, e8)
+returns c = rw add-one at (c .before .before .store-8 .ensures)
 
 pub wide-at-spec : {M : Type 1} → statement M
-wide-at-spec =
-    tie.close
-    (tie.spec
-    slice-write-buf
-    cast-buf
-    add-buf
-    slice-write-buf-2
-    cast-buf-2
-    add-buf-2
-    slice-write-buf-3
-    cast-buf-3
-    add-buf-3
-    slice-write-buf-4
-    cast-buf-4
-    add-buf-4
-    slice-write-buf-5
-    cast-buf-5
-    add-buf-5
-    slice-write-buf-6
-    cast-buf-6
-    add-buf-6
-    slice-write-buf-7
-    cast-buf-7
-    add-buf-7
-    slice-write-buf-8
-    cast-buf-8
-    add-buf-8
-    slice-write-buf-9
-    same-length
-    returns)
+wide-at-spec = tie.close (tie.spec slice-write-buf add-store-8 store-8-requires same-length returns)
