@@ -1,7 +1,7 @@
 -- The returns of `value` and `sequence`, and a turn of the loop of `sequence`, as laws of what their contracts say. Assumes nothing.
 use Prim.Native.Nat.{ℕ, zero, suc, _+_, _-_, _*_, _≤_, _<_, min}
 use mathlib.Core.Path.{_≡_, refl, sym, ap, _∙_}
-use mathlib.Core.List.{List, [], _∷_}
+use mathlib.Core.List.{List, _∷_}
 use mathlib.Core.Bool.{Bool}
 use mathlib.Core.Option.{Option, none, some}
 use native.Mathlib.Omega.{arith}
@@ -21,8 +21,9 @@ use Rattle.reader.specs.Steps.{Skipped, Read, Counted, noteCount, freeBy
 use Rattle.reader.specs.declared.heads.Run.{Run}
 use Rattle.reader.specs.declared.heads.Run.the-variants.{Whole, Broken}
 use Rattle.reader.proofs.Laying.{laid-none, laid-then-kept, laid-then, laid-sized}
+use Rattle.reader.proofs.Shorter.{opens-some}
 use Rattle.reader.proofs.HeadSteps.{free-count}
-use Rattle.reader.proofs.Reading.{body-nest, body-deep, body-scalar, value-headless, value-head, further, further-none, further-some, sequence-end, sequence-child}
+use Rattle.reader.proofs.Reading.{body-nest, body-deep, body-scalar, body-nothing, value-headless, value-head, further, further-none, further-some, sequence-end, sequence-child}
 
 -- ---- a value behind its head
 
@@ -33,22 +34,8 @@ body-told : (text : List ℕ) (at : ℕ) (m : Bool) (left : ℕ) (b b' : List �
 body-told text at m left b b' p r h g zero l = absurd (omega arith)
 body-told text at m left b b' p r h g (suc f) l = g f l
 
--- a text that opens a frame is not empty
-opens-nothing : {k : Frame} → opens [] ≡ some k → ⊥
-unfolding opens
-opens-nothing e = let z : _≡_ {A = ℕ} 0 1 = cc in omega arith
-
 pub opens-inside : (text : List ℕ) (at : ℕ) (k : Frame) → at ≤ length text → opens (drop at text) ≡ some k → at < length text
-opens-inside text at k h e = go (drop at text) refl
-  where
-    go : (t : List ℕ) → drop at text ≡ t → at < length text
-    go [] q = absurd (opens-nothing (sym (ap opens q) ∙ e))
-    go (c ∷ t) q = let n : length (drop at text) ≡ suc (length t) = ap length q in let d = length-drop at text in omega arith
-
-body-nothing : (f : ℕ) (m : Bool) (l : ℕ) (t : List ℕ) → opens t ≡ none → scalar m t ≡ none → body f m l t ≡ none
-unfolding body
-body-nothing zero m l t h e = refl
-body-nothing (suc f) m l t h e = rw (h, e)
+opens-inside text at k h e = omega (arith, opens-some (drop at text) k e, length-drop at text)
 
 pub body-at-scalar : {text : List ℕ} {at : ℕ} {m : Bool} {left p : ℕ} {b b' : List ℕ} (r : Step) → at ≤ length text → opens (drop at text) ≡ none → Read encode text (suc at) b b' p (scalar m (drop at text)) r → BodyAt text at m left b b' p r
 body-at-scalar {text} {at} {m} {left} {p} {b} {b'} (Next a e) hi o h = record {

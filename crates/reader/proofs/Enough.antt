@@ -13,7 +13,7 @@ use Rattle.tape.specs.Tree.{Head, Node, Nodes}
 use Rattle.tape.specs.declared.Frame.{Frame}
 use Rattle.tape.specs.declared.Frame.the-variants.{Top}
 use Rattle.reader.specs.Grammar.{opens, scalar, skip, closes, gap, head, free, body, value, sequence, meaning}
-use Rattle.reader.proofs.Reading.{body-nest, body-deep, body-scalar, value-headless, value-head, sequence-end, further, further-none, further-some, sequence-child}
+use Rattle.reader.proofs.Reading.{body-nest, body-deep, body-scalar, body-nothing, value-headless, value-head, sequence-end, further, further-none, further-some, sequence-child}
 use Rattle.reader.proofs.Shorter.{skip-left, gap-left, head-left, opens-some, value-left}
 
 -- two ways on that agree on what is left
@@ -21,14 +21,10 @@ then-same : {A B : Type 0} {n : ℕ} (o : Option (A × List ℕ)) (g h : A × Li
 then-same none g h l e = refl
 then-same (some v) g h (fewer l) e = e v l
 
-body-nothing : (f : ℕ) (m : Bool) (l : ℕ) → body f m l [] ≡ none
-unfolding body opens scalar
-body-nothing zero m l = refl
-body-nothing (suc f) m l = refl
-
 -- two numbers of which one is 0 are enough for the empty text alone
 body-empty : (f g : ℕ) (m : Bool) (l : ℕ) (t : List ℕ) → 2 * length t ≤ 0 → body f m l t ≡ body g m l t
-body-empty f g m l [] h = body-nothing f m l ∙ sym (body-nothing g m l)
+unfolding opens scalar
+body-empty f g m l [] h = body-nothing f m l [] refl refl ∙ sym (body-nothing g m l [] refl refl)
 body-empty f g m l (c ∷ t) h = absurd (omega arith)
 
 -- a value, by the sequence inside it

@@ -10,7 +10,7 @@ use borrow.Author.Tests.{ne-eqb}
 use Rattle.output.specs.Logic.{then, byte, ascii}
 use Rattle.output.specs.Wrote.{Wrote, limit, leBytes}
 use Rattle.text_rules.specs.Text.{Sym}
-use Rattle.text_rules.specs.Texts.{starts, strip}
+use Rattle.text_rules.specs.Texts.{strip}
 use Rattle.text_rules.specs.Words.{isStart, isPart, word, behindWord, kindOf}
 use Rattle.text_rules.specs.WordSteps.{Spanned}
 use Rattle.text_rules.specs.declared.words.Kind.the-variants.{Refused}
@@ -31,6 +31,7 @@ use Rattle.reader.specs.Steps.{Laid, Read, Counted, MarksAt, noteCount, 
 use Rattle.reader.specs.declared.heads.Run.{Run}
 use Rattle.reader.specs.declared.heads.Run.the-variants.{Whole, Broken}
 use Rattle.tokens.proofs.Keeping.{kept-before}
+use Rattle.tokens.proofs.SymbolSteps.{bare-none, no-symbol, is-bare}
 use Rattle.reader.proofs.Laying.{laid, laid-none, laid-then-kept, laid-then, laid-before, laid-sized}
 
 -- ---- a symbol's node
@@ -48,21 +49,12 @@ module _ {text : List ℕ} {at p s : ℕ} {b b1 b2 : List ℕ} where
 
 -- ---- whether an annotation may stand at a place
 
-no-note : (t : List ℕ) → symbol t ≡ none → note t ≡ none
+pub note-none : (t : List ℕ) → symbol t ≡ none → note t ≡ none
 unfolding note
-no-note t h = rw h
-
-unmarked : (t : List ℕ) → starts (byte "'") t ≡ false → symbol t ≡ bareSymbol t
-unfolding symbol
-unmarked t h = rw h
-
-bare-refused : (t : List ℕ) → kindOf (word t) ≡ Refused → bareSymbol t ≡ none
-unfolding bareSymbol
-bare-refused t e = rw e
+note-none t h = rw h
 
 pub note-end : (text : List ℕ) (at : ℕ) → at ≡ length text → note (drop at text) ≡ none
-unfolding starts word
-note-end text at h = ap note (end-at text at h) ∙ no-note [] (unmarked [] refl ∙ bare-refused [] kind-nothing)
+note-end text at h = ap note (end-at text at h) ∙ note-none [] no-symbol
 
 -- a word whose first byte starts no identifier is none
 not-start : (c d : ℕ) → isStart c ≡ false → isStart d ≡ true → c ≡ d → ⊥
@@ -85,11 +77,8 @@ word-other c t h = go (isPart c) refl
     go false e = let q : word (c ∷ t) ≡ [] = unfold word in rw e in ap kindOf q ∙ kind-nothing
 
 module _ (text : List ℕ) (at : ℕ) (i : at < length text) (n : getD text at 0 ≡ byte "'" → ⊥) where
-  no-mark : symbol (drop at text) ≡ bareSymbol (drop at text)
-  no-mark = unmarked (drop at text) (ap (starts (byte "'")) (byte-at text at i) ∙ unfold starts in ne-eqb _ _ n)
-
   pub note-other : isStart (getD text at 0) ≡ false → note (drop at text) ≡ none
-  note-other h = no-note (drop at text) (no-mark ∙ bare-refused (drop at text) (ap (λ (t : List ℕ). kindOf (word t)) (byte-at text at i) ∙ word-other (getD text at 0) (drop (at + 1) text) h))
+  note-other h = note-none (drop at text) (sym (is-bare text at i n) ∙ bare-none (drop at text) Refused (ap (λ (t : List ℕ). kindOf (word t)) (byte-at text at i) ∙ word-other (getD text at 0) (drop (at + 1) text) h) refl)
 
   pub note-bare : {e : ℕ} → Spanned text at e → strip (ascii "::") (drop e text) ≡ none → note (drop at text) ≡ none
   note-bare {e} s h = go (wordSymbol (kindOf (word d)) (word d)) refl
@@ -98,16 +87,13 @@ module _ (text : List ℕ) (at : ℕ) (i : at < length text) (n : getD text at 0
       d = drop at text
 
       is : (o : Option Sym) → wordSymbol (kindOf (word d)) (word d) ≡ o → symbol d ≡ then o (λ x. some (x, behindWord d))
-      is o q = no-mark ∙ unfold bareSymbol in rw q
+      is o q = sym (is-bare text at i n) ∙ unfold bareSymbol in rw q
 
       go : (o : Option Sym) → wordSymbol (kindOf (word d)) (word d) ≡ o → note d ≡ none
-      go none q = no-note d (is none q)
+      go none q = note-none d (is none q)
       go (some x) q = unfold note in rw (is (some x) q, ← s .rest, h)
 
 -- ---- a symbol and `::`
-
-pub note-none : (t : List ℕ) → symbol t ≡ none → note t ≡ none
-note-none t h = no-note t h
 
 pub note-alone : (t u : List ℕ) {s : Sym} → symbol t ≡ some (s, u) → strip (ascii "::") u ≡ none → note t ≡ none
 unfolding note

@@ -25,6 +25,11 @@ pub body-scalar : (f : ℕ) (m : Bool) (l : ℕ) (t : List ℕ) → opens t ≡ 
 unfolding body
 body-scalar f m l t h = rw h
 
+pub body-nothing : (f : ℕ) (m : Bool) (l : ℕ) (t : List ℕ) → opens t ≡ none → scalar m t ≡ none → body f m l t ≡ none
+unfolding body
+body-nothing zero m l t h e = refl
+body-nothing (suc f) m l t h e = rw (h, e)
+
 pub value-headless : (f : ℕ) (k : Frame) (l : ℕ) (t : List ℕ) → head k t ≡ none → value f k l t ≡ none
 unfolding value
 value-headless f k l t e = rw e

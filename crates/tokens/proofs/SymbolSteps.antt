@@ -31,7 +31,7 @@ bare-is : (t : List ℕ) (o : Option Sym) → wordSymbol (kindOf (word t)) (word
 unfolding bareSymbol
 bare-is t o e = rw e
 
-bare-none : (t : List ℕ) (k : Kind) → kindOf (word t) ≡ k → wordSymbol k (word t) ≡ none → bareSymbol t ≡ none
+pub bare-none : (t : List ℕ) (k : Kind) → kindOf (word t) ≡ k → wordSymbol k (word t) ≡ none → bareSymbol t ≡ none
 bare-none t k e h = bare-is t none (rw e h)
 
 bare-some : (t : List ℕ) (k : Kind) (x : Sym) → kindOf (word t) ≡ k → wordSymbol k (word t) ≡ some x → bareSymbol t ≡ some (x, behindWord t)
@@ -67,12 +67,12 @@ unmarked : (t : List ℕ) → starts (byte "'") t ≡ false → symbol t ≡ bar
 unfolding symbol
 unmarked t h = rw h
 
-no-symbol : symbol [] ≡ none
+pub no-symbol : symbol [] ≡ none
 unfolding starts word
 no-symbol = unmarked [] refl ∙ bare-none [] Refused kind-nothing refl
 
 module _ (text : List ℕ) (at : ℕ) where
-  is-bare : at < length text → (getD text at 0 ≡ byte "'" → ⊥) → bareSymbol (drop at text) ≡ symbol (drop at text)
+  pub is-bare : at < length text → (getD text at 0 ≡ byte "'" → ⊥) → bareSymbol (drop at text) ≡ symbol (drop at text)
   is-bare h n = sym (unmarked (drop at text) (ap (starts (byte "'")) (byte-at text at h) ∙ unfold starts in ne-eqb _ _ n))
 
   is-quoted : at < length text → getD text at 0 ≡ byte "'" → (o : Option (List ℕ × List ℕ)) → quoted (byte "'") (drop (at + 1) text) ≡ o → symbol (drop at text) ≡ then o (λ r. some (Sym.text (r .0), r .1))

@@ -21,20 +21,17 @@ use Rattle.text_rules.specs.declared.words.Kind.{Kind}
 use Rattle.text_rules.specs.declared.words.Kind.the-variants.{Refused}
 use Rattle.text_rules.specs.declared.words.Word.{Word}
 use Rattle.text_rules.proofs.Places.{byte-at, end-at, next}
+use Rattle.text_rules.proofs.ReadingLaws.{reads-from, refused}
 use Rattle.text_rules.proofs.WordsLaws.{same-is, spanned-long, kind-nothing}
 
 -- ---- answers
-
-pub reads-none : {A : Type 0} {text : List ℕ} {lo : ℕ} {o : Option (A × List ℕ)} → o ≡ none → Reads text lo o none
-reads-none e = record { is = e; place = tt }
 
 pub reads-some : {A : Type 0} {text : List ℕ} {lo : ℕ} {o : Option (A × List ℕ)} (x : A) (at : ℕ) → o ≡ some (x, drop at text) → lo ≤ at → at ≤ length text → Reads text lo o (some (x, at))
 reads-some x at e l h = record { is = e; place = (l, h) }
 
 -- what was read behind a place was read behind one before it
-pub reads-before : {A : Type 0} {text : List ℕ} {lo lo′ : ℕ} {o o′ : Option (A × List ℕ)} (r : Option (A × ℕ)) → o′ ≡ o → lo′ ≤ lo → Reads text lo o r → Reads text lo′ o′ r
-reads-before none e l h = record { is = e ∙ h .is; place = tt }
-reads-before (some v) e l h = let p = h .place in record { is = e ∙ h .is; place = (omega (arith, p .0), p .1) }
+pub reads-before : {A : Type 0} {text : List ℕ} {lo lo′ : ℕ} {o o′ : Option (A × List ℕ)} {r : Option (A × ℕ)} → o′ ≡ o → lo′ ≤ lo → Reads text lo o r → Reads text lo′ o′ r
+reads-before e l h = record { is = e ∙ h .is; place = reads-from h l .place }
 
 -- ---- types
 
@@ -80,7 +77,7 @@ module _ (text : List ℕ) (at : ℕ) where
     null-typed n = let a = s .ahead in reads-some t e (behind-dot ∙ rw (ne-eqb t 0 n)) (omega arith) (s .inside)
 
     pub null-untyped : t ≡ 0 → Reads text at (nullBehind (drop at text)) none
-    null-untyped z = reads-none (behind-dot ∙ rw (eq-eqb t 0 z))
+    null-untyped z = refused (behind-dot ∙ rw (eq-eqb t 0 z))
 
 module _ {text : List ℕ} {at e : ℕ} (s : Spanned text at e) where
   word-is : (w : List ℕ) (b : Bool) → b ≡ same w (take (e - at) (drop at text)) → same w (word (drop at text)) ≡ b
@@ -94,13 +91,13 @@ module _ {text : List ℕ} {at e : ℕ} (s : Spanned text at e) where
       omega arith
 
   pub null-other : (b : Bool) → b ≡ same (ascii "null") (take (e - at) (drop at text)) → b ≡ false → Reads text (suc at) (null (drop at text)) none
-  null-other b h f = reads-none (unfold null in rw (word-is (ascii "null") b h, f))
+  null-other b h f = refused (unfold null in rw (word-is (ascii "null") b h, f))
 
   pub null-here : (b : Bool) → b ≡ same (ascii "null") (take (e - at) (drop at text)) → b ≡ true → (r : Option (ℕ × ℕ)) → Reads text e (nullBehind (drop e text)) r → Reads text (suc at) (null (drop at text)) r
   null-here b h f r g =
       let l : at < e = word-long (ascii "null") (sym f ∙ h) (omega arith) in
       let i : null (drop at text) ≡ nullBehind (drop e text) = unfold null in rw (word-is (ascii "null") b h, f, ← s .rest) in
-      reads-before r i l g
+      reads-before i l g
 
   -- ---- nan, or another float
   pub nan-here : (b : Bool) → b ≡ same (ascii "nan") (take (e - at) (drop at text)) → b ≡ true → Reads text (suc at) (float (drop at text)) (some (nan, e))
@@ -111,7 +108,7 @@ module _ {text : List ℕ} {at e : ℕ} (s : Spanned text at e) where
   pub float-other : (b : Bool) → b ≡ same (ascii "nan") (take (e - at) (drop at text)) → b ≡ false → (r : Option (Float × ℕ)) → Reads text (suc at) (spelledFloat (drop at text)) r → Reads text (suc at) (float (drop at text)) r
   float-other b h f r g =
       let i : float (drop at text) ≡ spelledFloat (drop at text) = unfold float nanWord spelledFloat in rw (word-is (ascii "nan") b h, f) in
-      reads-before r i (omega arith) g
+      reads-before i (omega arith) g
 
 -- ---- bools
 
@@ -140,7 +137,7 @@ module _ {text : List ℕ} {at : ℕ} {w : Word} (a : WordAt text at w) where
       bad z = let y : _≡_ {A = ℕ} 0 1 = cc in omega arith
 
   pub bool-none : (k : Kind) → w .kind ≡ k → boolOf k ≡ none → Reads text (suc at) (bool (drop at text)) none
-  bool-none k e h = reads-none (unfold bool in rw (ap boolOf (sym (a .kind) ∙ e) ∙ h))
+  bool-none k e h = refused (unfold bool in rw (ap boolOf (sym (a .kind) ∙ e) ∙ h))
 
 -- ---- spelled floats
 

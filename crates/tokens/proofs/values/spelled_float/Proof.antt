@@ -2,7 +2,8 @@
 use native.Mathlib.Omega.{arith}
 use Rattle.tokens.specs.TokenSteps.{spelledFloat}
 use Rattle.text_rules.proofs.FloatsBits.{no-nan}
-use Rattle.tokens.proofs.TokensLaws.{reads-some, reads-none, spelled-other, spelled-here}
+use Rattle.text_rules.proofs.ReadingLaws.{refused}
+use Rattle.tokens.proofs.TokensLaws.{reads-some, spelled-other, spelled-here}
 use borrow.Author.Needs.{needs}
 use Rattle.tokens.proofs.values.spelled_float.Statement.{statement}
 use Rattle.tokens.proofs.values.spelled_float.Tie as tie
@@ -92,7 +93,7 @@ returns-5 c =
     let b = rw (c .before .before .before .before .before .before .if2 .left) at (c .before .before .before .before .before .before .before .word-stands2 .ensures) in
     let d = rw (c .before .before .before .if3 .left) at (c .before .before .before .before .word-stands3 .ensures) in
     let s = rw (c .if4 .left) at (c .before .word-stands4 .ensures) in
-    reads-none (rw (spelled-other 0x7FF0_0000_0000_0000 a, spelled-other 0xFFF0_0000_0000_0000 b, spelled-other 0 d, spelled-other 0x8000_0000_0000_0000 s))
+    refused (rw (spelled-other 0x7FF0_0000_0000_0000 a, spelled-other 0xFFF0_0000_0000_0000 b, spelled-other 0 d, spelled-other 0x8000_0000_0000_0000 s))
 
 pub spelled-float-spec : {M : Type 1} → statement M
 spelled-float-spec =
