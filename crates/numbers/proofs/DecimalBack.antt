@@ -1,6 +1,6 @@
 -- What is written reads back, whatever stands behind it that ends a token; and what is read is in range. Assumes nothing.
 use mathlib.Core.Path.{_≡_, refl, sym, ap, subst, _∙_}
-use mathlib.Core.Bool.{Bool, true, false, _&&_}
+use mathlib.Core.Bool.{Bool, true, false, _&&_, _||_}
 use mathlib.Core.List.{List, [], _∷_, _++_, append-assoc, append-nil}
 use mathlib.Core.Option.{Option, none, some}
 use Prim.Native.Nat.{ℕ, zero, suc, _+_, _-_, _^_, _≤_, _<_}
@@ -10,47 +10,35 @@ use lib.IntN.{ℤ, pos, negsuc, negℤ, natAbs, _-ℤ_}
 use mir.Syntax.{w32, w64}
 use mir.Val.{SFits}
 use lib.ListN.{length, take, drop, replicate, length-append, length-replicate, length-drop, take-append-drop}
-use borrow.Author.Tests.{le-leb, lt-leb, ltb-true, ltb-false, eqb-true, ne-eqb}
+use borrow.Author.Tests.{le-leb, ltb-true, ltb-false, eqb-true, ne-eqb}
 use Rattle.output.specs.Logic.{if, then, byte}
 use Rattle.text_rules.specs.Digits.{digit, digits, isDigit, run, behindDigits, number, whole}
 use Rattle.text_rules.specs.Texts.{starts, blank, delimiter, ended}
-use Rattle.text_rules.proofs.DigitLaws.{Digits, NoDigit, digits-append, digits-take, digits-drop, digits-zeros, run-digits, past-digits, number-append, number-zeros, number-digits, digits-digits, digits-some, digits-most, whole-digits, whole-take, digit-range, never}
+use Rattle.text_rules.specs.Words.{isStart, isPart}
+use Rattle.text_rules.proofs.DigitLaws.{Digits, NoDigit, digits-append, digits-take, digits-drop, digits-zeros, run-digits, past-digits, number-append, number-zeros, number-digits, digits-digits, digits-some, digits-most, whole-digits, whole-take, never}
+use Rattle.text_rules.proofs.WordsBack.{delimiter-part, delimiter-not}
 use Rattle.numbers.specs.Decimal.{intText, pointed, scientific, above, below, form, sign, decimalText}
-use Rattle.numbers.specs.Numeral.{Numeral, ReadNumeral, withSign, held, rangedInt, shifted, rangedDecimal, powerOf, behindD, behindPoint, behindWhole, unsigned, numeral}
+use Rattle.numbers.specs.Numeral.{Numeral, ReadNumeral, withSign, inI64, inI32, rangedInt, shifted, rangedDecimal, powerOf, behindD, behindPoint, behindWhole, unsigned, numeral}
 use Rattle.numbers.proofs.Signed.{held-fits, held-some, minus-minus, plus-minus, zero-minus, minus-zero}
 use Rattle.numbers.proofs.NumeralLaws.{decimal-some, int-some, int-some-below}
 
 -- ---- what follows
 
--- a digit ends no token
-no-delimiter : (c : ℕ) → 44 < c → c < 58 → delimiter c ≡ false
-unfolding delimiter blank
-no-delimiter c l h =
-    simp (
-      ne-eqb c 32 (λ (e : c ≡ 32). omega arith),
-      lt-leb c 13 (omega arith),
-      le-leb 9 c (omega arith),
-      ne-eqb c 44 (λ (e : c ≡ 44). omega arith),
-      ne-eqb c 93 (λ (e : c ≡ 93). omega arith),
-      ne-eqb c 41 (λ (e : c ≡ 41). omega arith),
-      ne-eqb c 125 (λ (e : c ≡ 125). omega arith),
-      ne-eqb c 58 (λ (e : c ≡ 58). omega arith),
-    )
-
+-- a digit is part of a word, and so ends no token
 pub ended-no-digit : (r : List ℕ) → ended r ≡ true → NoDigit r
-unfolding ended
+unfolding ended isPart
 ended-no-digit [] h = tt
-ended-no-digit (c ∷ r) h = go (isDigit c) refl
+ended-no-digit (c ∷ r) h = last (isStart c) (isDigit c) (delimiter-part c h)
   where
-    go : (t : Bool) → isDigit c ≡ t → t ≡ false
-    go false e = refl
-    go true e = let d = digit-range c e in never (sym h ∙ no-delimiter c (omega arith) (omega arith))
+    last : (a b : Bool) → a || b ≡ false → b ≡ false
+    last true b h = never h
+    last false b h = h
 
 -- nor does any other byte that is no delimiter
 ended-no : (b : ℕ) (r : List ℕ) → delimiter b ≡ false → ended r ≡ true → starts b r ≡ false
 unfolding ended starts
 ended-no b [] g h = refl
-ended-no b (c ∷ r) g h = ne-eqb c b (λ (e : c ≡ b). never (sym h ∙ ap delimiter e ∙ g))
+ended-no b (c ∷ r) g h = delimiter-not c b h g
 
 pub ended-no-d : (r : List ℕ) → ended r ≡ true → starts (byte "d") r ≡ false
 unfolding delimiter blank
@@ -71,7 +59,7 @@ starts-digits b (c ∷ s) r h p d = ne-eqb c b (λ (e : c ≡ b). never (sym (d 
 -- the written exponent z less n digits after the point is e
 decimal-made : (neg : Bool) (m n : ℕ) (z e : ℤ) (r : List ℕ) → m < 2 ^ 64 → z -ℤ pos n ≡ e → SFits w32 e → rangedDecimal neg m n z r ≡ some (Numeral.decimal neg m e, r)
 unfolding shifted
-decimal-made neg m n z e r h64 hz f = decimal-some neg m n z e r h64 (ap (held w32) hz ∙ held-fits w32 e f)
+decimal-made neg m n z e r h64 hz f = decimal-some neg m n z e r h64 (ap inI32 hz ∙ held-fits _ e (f .sfits))
 
 -- the digits of a written exponent
 power-digits : (neg : Bool) (m n : ℕ) (minus : Bool) (k : ℕ) (r : List ℕ) (o : ReadNumeral) → k < 10 ^ 10 → NoDigit r → rangedDecimal neg m n (withSign minus k) r ≡ o
@@ -301,21 +289,21 @@ range-some a r h = record { all = λ v e. let q : a ≡ v .0 = cc in subst Range
 
 range-decimal : (neg : Bool) (m n : ℕ) (z : ℤ) (r : List ℕ) → InRange (rangedDecimal neg m n z r)
 unfolding rangedDecimal shifted
-range-decimal neg m n z r = go (ltb m (2 ^ 64)) refl (held w32 (z -ℤ pos n)) refl
+range-decimal neg m n z r = go (ltb m (2 ^ 64)) refl (inI32 (z -ℤ pos n)) refl
   where
-    go : (b : Bool) → ltb m (2 ^ 64) ≡ b → (o : Option ℤ) → held w32 (z -ℤ pos n) ≡ o → InRange (if b (then o (λ x. some (Numeral.decimal neg m x, r))) none)
+    go : (b : Bool) → ltb m (2 ^ 64) ≡ b → (o : Option ℤ) → inI32 (z -ℤ pos n) ≡ o → InRange (if b (then o (λ x. some (Numeral.decimal neg m x, r))) none)
     go false e o h = range-none
     go true e none h = range-none
-    go true e (some x) h = range-some (Numeral.decimal neg m x) r (ltb-true m (2 ^ 64) e, held-some w32 (z -ℤ pos n) x h .1)
+    go true e (some x) h = range-some (Numeral.decimal neg m x) r (ltb-true m (2 ^ 64) e, record { sfits = held-some _ (z -ℤ pos n) x h .1 })
 
 range-int : (neg : Bool) (m : ℕ) (r : List ℕ) → InRange (rangedInt neg m r)
 unfolding rangedInt
-range-int neg m r = go (neg && eqb m 0) (held w64 (withSign neg m)) refl
+range-int neg m r = go (neg && eqb m 0) (inI64 (withSign neg m)) refl
   where
-    go : (b : Bool) (o : Option ℤ) → held w64 (withSign neg m) ≡ o → InRange (if b none (then o (λ z. some (Numeral.int z, r))))
+    go : (b : Bool) (o : Option ℤ) → inI64 (withSign neg m) ≡ o → InRange (if b none (then o (λ z. some (Numeral.int z, r))))
     go true o h = range-none
     go false none h = range-none
-    go false (some z) h = range-some (Numeral.int z) r (held-some w64 (withSign neg m) z h .1)
+    go false (some z) h = range-some (Numeral.int z) r (record { sfits = held-some _ (withSign neg m) z h .1 })
 
 range-power : (neg : Bool) (m n : ℕ) (minus : Bool) (es r : List ℕ) → InRange (powerOf neg m n minus es r)
 unfolding powerOf

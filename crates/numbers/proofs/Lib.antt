@@ -9,5 +9,6 @@ pub mod TimestampSigned
 pub mod TimestampStores
 pub mod TimestampPlaces
 pub mod Calendar
+pub mod Padded
 pub mod TimestampBack
 pub mod TimestampExamples

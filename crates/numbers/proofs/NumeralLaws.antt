@@ -9,7 +9,6 @@ use native.Mathlib.Omega.{arith}
 use lib.Dec.{leb, eqb}
 use lib.IntN.{ℤ, pos, negsuc}
 use lib.ListN.{length, drop, getD}
-use mir.Syntax.{w64}
 use borrow.Author.Tests.{lt-ltb, le-ltb, le-leb, lt-leb, ne-eqb}
 use Rattle.output.specs.Logic.{if, byte}
 use Rattle.text_rules.specs.Digits.{run, number, whole}
@@ -44,20 +43,20 @@ point-over neg m n t h = either (starts (byte "d") t) _ _ (d-over neg m n (drop 
 -- an int of this magnitude
 pub int-none : (m : ℕ) (t : List ℕ) → 2 ^ 63 ≤ m → rangedInt false m t ≡ none
 unfolding rangedInt
-int-none m t h = rw (held-none w64 (pos m) h)
+int-none m t h = rw (held-none _ (pos m) h)
 
 pub int-none-below : (m : ℕ) (t : List ℕ) → 2 ^ 63 < m → rangedInt true m t ≡ none
 unfolding rangedInt
 int-none-below zero t h = refl
-int-none-below (suc m) t h = rw (ne-eqb (suc m) 0 (λ (e : suc m ≡ 0). omega arith), held-none w64 (negsuc m) (omega arith))
+int-none-below (suc m) t h = let l : 2 ^ 63 ≤ m = omega arith in rw (ne-eqb (suc m) 0 (λ (e : suc m ≡ 0). omega arith), held-none _ (negsuc m) l)
 
 pub int-some : (m : ℕ) (t : List ℕ) → m < 2 ^ 63 → rangedInt false m t ≡ some (Numeral.int (pos m), t)
 unfolding rangedInt
-int-some m t h = rw (held-fits w64 (pos m) (record { sfits = h }))
+int-some m t h = rw (held-fits _ (pos m) h)
 
 pub int-some-below : (m : ℕ) (t : List ℕ) → m < 2 ^ 63 → rangedInt true (suc m) t ≡ some (Numeral.int (negsuc m), t)
 unfolding rangedInt
-int-some-below m t h = rw (ne-eqb (suc m) 0 (λ (e : suc m ≡ 0). omega arith), held-fits w64 (negsuc m) (record { sfits = h }))
+int-some-below m t h = rw (ne-eqb (suc m) 0 (λ (e : suc m ≡ 0). omega arith), held-fits _ (negsuc m) h)
 
 int-over : (neg : Bool) (m : ℕ) (t : List ℕ) → 2 ^ 64 ≤ m → rangedInt neg m t ≡ none
 int-over true m t h = int-none-below m t (omega arith)

@@ -5,7 +5,7 @@ use mathlib.Core.Option.{none, some}
 use Prim.Native.Nat.{ℕ, zero, suc, _+_, _-_, _^_, _≤_, _<_}
 use native.Mathlib.Nat.{not-suc-le-zero}
 use native.Mathlib.Omega.{arith}
-use lib.Dec.{ltb}
+use lib.Dec.{ltb, leb·suc-suc}
 use lib.IntN.{ℤ, pos, negsuc, negℤ, _-ℤ_}
 use lib.Signed.{mag, ltZ}
 use mir.Syntax.{Width, w64}
@@ -40,23 +40,26 @@ inverted k l =
     let i : 18446744073709551615 - (2 ^ 64 - suc k) ≡ k = omega arith in
     ap (toZ w64) i ∙ toZ-pos w64 k l
 
--- ---- a number that a width holds
+-- ---- a number from -(high + 1) to high: `mag` is n both for n and for -(n + 1)
 
-pub held-fits : (w : Width) (z : ℤ) → SFits w z → held w z ≡ some z
+held-is : (high : ℕ) (z : ℤ) → held (suc high) high z ≡ if (ltb (mag z) (suc high)) (some z) none
 unfolding held
-held-fits w z f = rw (lt-ltb (mag z) (2 ^ hbits w) (f .sfits))
+held-is high (pos n) = rw (leb·suc-suc n high)
+held-is high (negsuc n) = refl
 
-pub held-none : (w : Width) (z : ℤ) → 2 ^ hbits w ≤ mag z → held w z ≡ none
-unfolding held
-held-none w z h = rw (le-ltb (mag z) (2 ^ hbits w) h)
+module _ (high : ℕ) (z : ℤ) where
+  pub held-fits : mag z < suc high → held (suc high) high z ≡ some z
+  held-fits h = held-is high z ∙ rw (lt-ltb (mag z) (suc high) h)
 
-pub held-some : (w : Width) (z y : ℤ) → held w z ≡ some y → (z ≡ y) × SFits w y
-unfolding held
-held-some w z y h = go (ltb (mag z) (2 ^ hbits w)) refl h
-  where
-    go : (b : Bool) → ltb (mag z) (2 ^ hbits w) ≡ b → if b (some z) none ≡ some y → (z ≡ y) × SFits w y
-    go true e g = let q : z ≡ y = cc in (q, rw (sym q) (record { sfits = ltb-true (mag z) (2 ^ hbits w) e }))
-    go false e g = let n : _≡_ {A = ℕ} 0 1 = cc in let bad : ⊥ = omega arith in absurd bad
+  pub held-none : suc high ≤ mag z → held (suc high) high z ≡ none
+  held-none h = held-is high z ∙ rw (le-ltb (mag z) (suc high) h)
+
+  pub held-some : (y : ℤ) → held (suc high) high z ≡ some y → (z ≡ y) × (mag y < suc high)
+  held-some y h = go (ltb (mag z) (suc high)) refl (sym (held-is high z) ∙ h)
+    where
+      go : (b : Bool) → ltb (mag z) (suc high) ≡ b → if b (some z) none ≡ some y → (z ≡ y) × (mag y < suc high)
+      go true e g = let q : z ≡ y = cc in (q, rw (sym q) (ltb-true (mag z) (suc high) e))
+      go false e g = let n : _≡_ {A = ℕ} 0 1 = cc in let bad : ⊥ = omega arith in absurd bad
 
 -- ---- differences
 

@@ -1,22 +1,24 @@
 -- What is read is well formed, and what is written reads back, whatever stands behind it that ends a value. Assumes nothing.
 use mathlib.Core.Path.{_≡_, refl, sym, ap, _∙_}
-use mathlib.Core.Bool.{Bool, true, false, _&&_, _||_}
+use mathlib.Core.Bool.{Bool, true, false, _&&_}
 use mathlib.Core.List.{List, [], _∷_, _++_, append-assoc}
 use mathlib.Core.Option.{Option, none, some}
 use Prim.Native.Nat.{ℕ, zero, suc, _+_, _*_, _/_, _%_, _^_, _≤_, _<_}
 use native.Mathlib.Nat.{mod-eq-of-lt}
 use native.Mathlib.Omega.{arith}
-use lib.Dec.{ltb, leb, eqb}
+use lib.Dec.{leb, eqb}
 use lib.IntN.{ℤ, pos, negsuc}
 use lib.ListN.{length, drop}
-use borrow.Author.Tests.{le-leb, lt-leb, ltb-true, leb-true, eqb-true, eq-eqb, ne-eqb}
+use borrow.Author.Tests.{le-leb, lt-leb, eqb-true, eq-eqb, ne-eqb}
 use Rattle.output.specs.Logic.{if, then, byte, ascii}
 use Rattle.text_rules.specs.Digits.{pad, isDigit, run, behindDigits, number}
-use Rattle.text_rules.specs.Texts.{starts, blank, delimiter, ended}
-use Rattle.text_rules.proofs.DigitLaws.{never, Digits, NoDigit, digit-range, run-digits, past-digits, number-pad, length-pad, digits-pad}
+use Rattle.text_rules.specs.Texts.{starts, ended}
+use Rattle.text_rules.proofs.DigitLaws.{never, Digits, NoDigit, run-digits, past-digits, number-pad, length-pad, digits-pad}
 use Rattle.numbers.specs.declared.timestamp.Timestamp.{Timestamp}
-use Rattle.numbers.specs.Timestamp.{unknown, isLeap, daysIn, fieldWell, dateWell, timeWell, offsetWell, fractionWell, wellFormed, yearAndMonth, date, hourAndMinute, dateHourAndMinute, fractionalSeconds, offsetText, timestampText}
+use Rattle.numbers.specs.Timestamp.{unknown, fieldWell, offsetWell, wellFormed, yearAndMonth, date, hourAndMinute, dateHourAndMinute, fractionalSeconds, offsetText, timestampText}
 use Rattle.numbers.specs.TimestampRead.{ReadTimestamp, joined, fixed, startsDigit, clock, dated, timed, zoned, checked, minutes, offsetOf, fractionOf, secondOf, timeOf, dayOf, behindMonth, behindYear, timestamp}
+use Rattle.numbers.proofs.Calendar.{west-small, east-small, Fields, fields, small}
+use Rattle.numbers.proofs.DecimalBack.{ended-no-digit}
 use Rattle.numbers.proofs.TimestampPlaces.{joined-digits}
 
 -- ---- what is read is well formed
@@ -101,19 +103,6 @@ minutes-back m r h =
     let e : m / 60 * 60 + m % 60 ≡ m = omega arith in
     rw (clock-back (m / 60) (m % 60) r (omega arith) (omega arith), le-leb (m / 60) 23 (omega arith), le-leb (m % 60) 59 (omega arith), e)
 
-both : (a b : Bool) → a && b ≡ true → (a ≡ true) × (b ≡ true)
-both true b h = (refl, h)
-both false b h = never (sym h)
-
--- an offset that the definition lets through is unknown, or has at most 1439 minutes
-west-small : (p m : ℕ) → offsetWell p (negsuc m) ≡ true → suc m < 1440
-unfolding offsetWell
-west-small p m h = let l = leb-true (suc m) 1439 (both (leb 3 p) (leb (suc m) 1439) h .1) in omega arith
-
-east-small : (p m : ℕ) → offsetWell p (pos m) ≡ true → eqb m unknown ≡ false → m < 1440
-unfolding offsetWell
-east-small p m h e = let l = leb-true m 1439 (both (leb 3 p) (leb m 1439) (rw e at h) .1) in omega arith
-
 offset-back : (x : Timestamp) (p : ℕ) (o : ℤ) (r : List ℕ) → offsetWell p o ≡ true → offsetOf x (offsetText o ++ r) ≡ checked (zoned x o) r
 unfolding offsetOf offsetText starts minutes clock joined isDigit
 offset-back x p (negsuc m) r h = rw (minutes-back (suc m) r (west-small p m h))
@@ -160,21 +149,6 @@ second-back x h m s (suc n) f o r hs hn hf =
     rw (ne-eqb (suc n) 0 (λ (e : suc n ≡ 0). omega arith), fixed-pad 2 s (byte "." ∷ (pad (suc n) f ++ (offsetText o ++ r))) hs)
     (fraction-back x h m s (suc n) f (offsetText o ++ r) (omega arith) hn hf (sign-no-digit o r))
 
--- a digit is no delimiter
-no-delimiter : (c : ℕ) → 48 ≤ c → c ≤ 57 → delimiter c ≡ false
-unfolding delimiter blank
-no-delimiter c l h =
-    simp (
-      ne-eqb c 32 (λ (e : c ≡ 32). omega arith),
-      lt-leb c 13 (omega arith),
-      le-leb 9 c (omega arith),
-      ne-eqb c 44 (λ (e : c ≡ 44). omega arith),
-      ne-eqb c 41 (λ (e : c ≡ 41). omega arith),
-      ne-eqb c 93 (λ (e : c ≡ 93). omega arith),
-      ne-eqb c 125 (λ (e : c ≡ 125). omega arith),
-      ne-eqb c 58 (λ (e : c ≡ 58). omega arith),
-    )
-
 -- ---- the date
 
 -- the fields of a date that are read, each as wide as it is written
@@ -204,47 +178,7 @@ module _ (y m d : ℕ) (hy : y < 10000) (hm : m < 100) (hd : d < 100) where
   date-back r =
       ap timestamp (simp append-assoc) ∙ behind-year (pad 2 m ++ (byte "-" ∷ (pad 2 d ++ (byte "T" ∷ r)))) ∙ behind-month (pad 2 d ++ (byte "T" ∷ r)) ∙ day-back r
 
--- ---- what well formed says, field by field
-
-pub record Fields (x : Timestamp) : Type 0 where
-  pub precision : leb (x .precision) 4 ≡ true
-  pub year : fieldWell true 1 9999 (x .year) ≡ true
-  pub month : fieldWell (leb 1 (x .precision)) 1 12 (x .month) ≡ true
-  pub day : fieldWell (leb 2 (x .precision)) 1 (daysIn (x .year) (x .month)) (x .day) ≡ true
-  pub hour : fieldWell (leb 3 (x .precision)) 0 23 (x .hour) ≡ true
-  pub minute : fieldWell (leb 3 (x .precision)) 0 59 (x .minute) ≡ true
-  pub second : fieldWell (leb 4 (x .precision)) 0 59 (x .second) ≡ true
-  pub offset : offsetWell (x .precision) (x .offset) ≡ true
-  pub digits : fieldWell (leb 4 (x .precision)) 0 9 (x .digits) ≡ true
-  pub fraction : ltb (x .fraction) (10 ^ x .digits) ≡ true
-
-four : (a b c d : Bool) → a && b && c && d ≡ true → (a ≡ true) × (b ≡ true) × (c ≡ true) × (d ≡ true)
-four true true c d h = let x = both c d h in (refl, refl, x .0, x .1)
-four true false c d h = never (sym h)
-four false b c d h = never (sym h)
-
-pub fields : (x : Timestamp) → wellFormed x ≡ true → Fields x
-unfolding wellFormed dateWell timeWell fractionWell
-fields x h =
-    let p = x .precision in
-    let w =
-    four (dateWell p (x .year) (x .month) (x .day)) (timeWell p (x .hour) (x .minute) (x .second)) (offsetWell p (x .offset)) (fractionWell p (x .digits) (x .fraction)) h in
-    let a =
-    four (leb p 4) (fieldWell true 1 9999 (x .year)) (fieldWell (leb 1 p) 1 12 (x .month)) (fieldWell (leb 2 p) 1 (daysIn (x .year) (x .month)) (x .day)) (w .0) in
-    let b = four true (fieldWell (leb 3 p) 0 23 (x .hour)) (fieldWell (leb 3 p) 0 59 (x .minute)) (fieldWell (leb 4 p) 0 59 (x .second)) (w .1) in
-    let f = both (fieldWell (leb 4 p) 0 9 (x .digits)) (ltb (x .fraction) (10 ^ x .digits)) (w .3) in
-    record {
-      precision = a .0;
-      year = a .1;
-      month = a .2;
-      day = a .3;
-      hour = b .1;
-      minute = b .2;
-      second = b .3;
-      offset = w .2;
-      digits = f .0;
-      fraction = f .1;
-    }
+-- ---- timestamps that are equal field by field
 
 same : (x y : Timestamp) → x .precision ≡ y .precision → x .year ≡ y .year → x .month ≡ y .month → x .day ≡ y .day → x .hour ≡ y .hour → x .minute ≡ y .minute
     → x .second ≡ y .second → x .offset ≡ y .offset → x .digits ≡ y .digits → x .fraction ≡ y .fraction → x ≡ y
@@ -261,25 +195,10 @@ same x y p ye m d h mi s o n f = λ i. record {
   fraction = f i;
 }
 
--- a field is at most its highest; one that is finer than the precision is 0
-most : (b : Bool) (lo hi n : ℕ) → fieldWell b lo hi n ≡ true → n ≤ hi
-unfolding fieldWell
-most true lo hi n h = leb-true n hi (both (leb lo n) (leb n hi) h .1)
-most false lo hi n h = let e = eqb-true n 0 h in omega arith
-
+-- a field that is finer than the precision is 0
 finer : (k p lo hi n : ℕ) → p < k → fieldWell (leb k p) lo hi n ≡ true → n ≡ 0
 unfolding fieldWell
 finer k p lo hi n l h = eqb-true n 0 (rw (lt-leb k p l) at h)
-
-days-most : (y m : ℕ) → daysIn y m ≤ 31
-unfolding daysIn
-days-most y m = go (eqb m 2) (isLeap y) (eqb m 4 || eqb m 6 || eqb m 9 || eqb m 11)
-  where
-    go : (a b c : Bool) → if a (if b 29 28) (if c 30 31) ≤ 31
-    go true true c = omega arith
-    go true false c = omega arith
-    go false b true = omega arith
-    go false b false = omega arith
 
 -- below precision 3 the offset is unknown
 unknown-below : (p : ℕ) (o : ℤ) → p < 3 → offsetWell p o ≡ true → o ≡ pos unknown
@@ -299,13 +218,9 @@ checked-well x r h = rw h
 
 -- a digit ends no value
 no-digit-ended : (r : List ℕ) → ended r ≡ true → startsDigit r ≡ false
-unfolding ended startsDigit
+unfolding startsDigit
 no-digit-ended [] h = refl
-no-digit-ended (c ∷ r) h = go (isDigit c) refl
-  where
-    go : (b : Bool) → isDigit c ≡ b → b ≡ false
-    go false e = refl
-    go true e = let d = digit-range c e in never (sym h ∙ no-delimiter c (d .0) (d .1))
+no-digit-ended (c ∷ r) h = ended-no-digit (c ∷ r) h
 
 -- one digit or more start with one
 starts-pad : (w n : ℕ) (r : List ℕ) → startsDigit (pad (suc w) n ++ r) ≡ true
@@ -327,18 +242,17 @@ module _ (x : Timestamp) (r : List ℕ) (f : Fields x) (e : ended r ≡ true) wh
   zero-fraction : x .precision < 4 → x .fraction ≡ 0
   zero-fraction l =
       let n : x .digits ≡ 0 = finer 4 (x .precision) 0 9 (x .digits) l (f .digits) in
-      let b = ltb-true (x .fraction) (10 ^ x .digits) (f .fraction) in
-      let c : x .fraction < 10 ^ 0 = rw n at b in
+      let c : x .fraction < 10 ^ 0 = rw n at (small x f .fraction) in
       omega arith
 
   wide-year : x .year < 10000
-  wide-year = omega (arith, most true 1 9999 (x .year) (f .year))
+  wide-year = omega (arith, small x f)
 
   wide-month : x .month < 100
-  wide-month = omega (arith, most _ 1 12 (x .month) (f .month))
+  wide-month = omega (arith, small x f)
 
   wide-day : x .day < 100
-  wide-day = omega (arith, most _ 1 _ (x .day) (f .day), days-most (x .year) (x .month))
+  wide-day = omega (arith, small x f)
 
   -- a date alone
   date-alone : (m d : ℕ) → m ≡ x .month → d ≡ x .day → x .precision < 3 → dated (x .precision) (x .year) m d ≡ x
@@ -394,8 +308,7 @@ module _ (x : Timestamp) (r : List ℕ) (f : Fields x) (e : ended r ≡ true) wh
       ≡ if (starts (byte ":") t) (secondOf day (x .hour) (x .minute) (drop 1 t)) (offsetOf (timed 3 day (x .hour) (x .minute) 0 0 0) t)
   unfolding dayOf timeOf
   time-back t =
-      let h = most _ 0 23 (x .hour) (f .hour) in
-      let m = most _ 0 59 (x .minute) (f .minute) in
+      let s = small x f in
       rw (starts-clock (x .hour) (x .minute) t, clock-back (x .hour) (x .minute) t (omega arith) (omega arith))
 
   back-3 : x .precision ≡ 3 → timestamp (timestampText x ++ r) ≡ checked x r
@@ -426,7 +339,7 @@ module _ (x : Timestamp) (r : List ℕ) (f : Fields x) (e : ended r ≡ true) wh
       let o = x .offset in
       let hm = hourAndMinute (x .hour) (x .minute) in
       let t = pad 2 (x .second) ++ (fractionalSeconds (x .digits) (x .fraction) ++ (offsetText o ++ r)) in
-      let s = most _ 0 59 (x .second) (f .second) in
+      let s = small x f in
       rw (
         ne-eqb (x .precision) 0 (λ (z : x .precision ≡ 0). omega arith),
         ne-eqb (x .precision) 1 (λ (z : x .precision ≡ 1). omega arith),
@@ -436,7 +349,7 @@ module _ (x : Timestamp) (r : List ℕ) (f : Fields x) (e : ended r ≡ true) wh
       (ap timestamp (regroup (date (x .year) (x .month) (x .day)) (byte "T" ∷ hm) (byte ":" ∷ pad 2 (x .second)) (fractionalSeconds (x .digits) (x .fraction)) (offsetText o) r)
       ∙ date-back (x .year) (x .month) (x .day) wide-year wide-month wide-day (hm ++ (byte ":" ∷ t))
       ∙ time-back (byte ":" ∷ t)
-      ∙ second-back day (x .hour) (x .minute) (x .second) (x .digits) (x .fraction) o r (omega arith) (most _ 0 9 (x .digits) (f .digits)) (ltb-true _ _ (f .fraction))
+      ∙ second-back day (x .hour) (x .minute) (x .second) (x .digits) (x .fraction) o r (omega arith) (s .digits) (s .fraction)
       ∙ offset-back (timed 4 day (x .hour) (x .minute) (x .second) (x .digits) (x .fraction)) (x .precision) o r (f .offset)
       ∙ ap (λ (z : Timestamp). checked z r)
       (same (zoned (timed 4 day (x .hour) (x .minute) (x .second) (x .digits) (x .fraction)) o) x (sym p) refl refl refl refl refl refl refl refl refl))
@@ -453,4 +366,4 @@ module _ (x : Timestamp) (r : List ℕ) (f : Fields x) (e : ended r ≡ true) wh
 pub timestamp-back : (x : Timestamp) (r : List ℕ) → wellFormed x ≡ true → ended r ≡ true → timestamp (timestampText x ++ r) ≡ some (x, r)
 timestamp-back x r h e =
     let f = fields x h in
-    by-precision x r f e (x .precision) refl (leb-true (x .precision) 4 (f .precision)) ∙ checked-well x r h
+    by-precision x r f e (x .precision) refl (small x f .precision) ∙ checked-well x r h

@@ -1,11 +1,8 @@
 -- Ints and decimals, read from the start of a text: what was begun is read as far as it goes, or refused; and the text behind it. What may
 -- stand behind a token is the sequence's to say.
 -- Assumes nothing: these are definitions.
-use Prim.Native.Nat.{ℕ, _^_}
-use lib.IntN.{ℤ, pos, negℤ, _-ℤ_}
-use lib.Signed.{mag}
-use mir.Syntax.{Width, w32, w64}
-use mir.Val.{hbits}
+use Prim.Native.Nat.{ℕ, suc, _^_}
+use lib.IntN.{ℤ, pos, negsuc, negℤ, _-ℤ_}
 use mathlib.Core.Bool.{Bool, true, false, _&&_}
 use mathlib.Core.List.{List}
 use mathlib.Core.Option.{Option, none, some}
@@ -28,17 +25,26 @@ abbrev pub withSign : Bool → ℕ → ℤ
 withSign true n = negℤ (pos n)
 withSign false n = pos n
 
--- z, in i64 or i32: `mag` is n both for n and for -(n + 1), and has a bit less than the width
-unfoldable pub held : Width → ℤ → Option ℤ
-held w z = if (ltb (mag z) (2 ^ hbits w)) (some z) none
+-- the number, if it is from -low to high; `negsuc n` is -(n + 1)
+unfoldable pub held : ℕ → ℕ → ℤ → Option ℤ
+held low high (pos n) = if (leb n high) (some (pos n)) none
+held low high (negsuc n) = if (leb (suc n) low) (some (negsuc n)) none
+
+-- in i64
+abbrev pub inI64 : ℤ → Option ℤ
+inI64 z = held 9_223_372_036_854_775_808 9_223_372_036_854_775_807 z
+
+-- in i32
+abbrev pub inI32 : ℤ → Option ℤ
+inI32 z = held 2_147_483_648 2_147_483_647 z
 
 -- Int: 0, or optional minus and digits not starting with 0 (so no `-0`), in i64
 unfoldable pub rangedInt : Bool → ℕ → List ℕ → ReadNumeral
-rangedInt neg m r = if (neg && eqb m 0) none (then (held w64 (withSign neg m)) (λ z. some (Numeral.int z, r)))
+rangedInt neg m r = if (neg && eqb m 0) none (then (inI64 (withSign neg m)) (λ z. some (Numeral.int z, r)))
 
 -- Exponent: the written one e (else 0) less the n digits after the point, in i32
 unfoldable pub shifted : ℕ → ℤ → Option ℤ
-shifted n e = held w32 (e -ℤ pos n)
+shifted n e = inI32 (e -ℤ pos n)
 
 -- Magnitude: all digits joined are m, in u64; n of them stood after the point
 unfoldable pub rangedDecimal : Bool → ℕ → ℕ → ℤ → List ℕ → ReadNumeral

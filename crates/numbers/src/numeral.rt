@@ -8,11 +8,10 @@ ghost use lib.IntN.{negℤ};
 ghost use lib.IntN;
 ghost use mathlib.Core.List.{List};
 ghost use lib.ListN.{length, drop};
-ghost use mir.Syntax.{w32};
 ghost use Rattle.output.specs.Wrote.{limit};
 ghost use Rattle.text_rules.specs.Digits.{run, behindDigits};
 ghost use Rattle.text_rules.specs.Reading.{Reads};
-ghost use Rattle.numbers.specs.Numeral.{withSign, held, rangedInt, shifted, rangedDecimal, powerOf, behindD, behindPoint, behindWhole, unsigned, numeral};
+ghost use Rattle.numbers.specs.Numeral.{withSign, inI32, rangedInt, shifted, rangedDecimal, powerOf, behindD, behindPoint, behindWhole, unsigned, numeral};
 ghost use Rattle.numbers.specs.NumeralSteps.{shift, numeralRead};
 
 // A number, and the place behind it: an int, or a decimal by sign, magnitude and exponent.
@@ -30,7 +29,7 @@ pub enum Shift {
 
 // The exponent e, 0 or above.
 fn exponent_above(e: u64) -> Shift
-    ensures { λ r. ⌜ shift r ≡ held w32 (IntN.pos e) ⌝ }
+    ensures { λ r. ⌜ shift r ≡ inI32 (IntN.pos e) ⌝ }
 {
     if e < 2147483648 {
         return Shift::By(int::narrow(int::plus(e)));
@@ -40,7 +39,7 @@ fn exponent_above(e: u64) -> Shift
 
 // The exponent -k.
 fn exponent_below(k: u64) -> Shift
-    ensures { λ r. ⌜ shift r ≡ held w32 (negℤ (IntN.pos k)) ⌝ }
+    ensures { λ r. ⌜ shift r ≡ inI32 (negℤ (IntN.pos k)) ⌝ }
 {
     if k == 0 {
         return Shift::By(0);

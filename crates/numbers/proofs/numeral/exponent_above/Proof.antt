@@ -24,10 +24,10 @@ returns c =
     let e = pos (c .before .before .before .args .e) in
     let f : SFits w64 e = record { sfits = omega (arith, c .before .before .if1 .taken) } in
     let g : SFits w32 e = record { sfits = c .before .before .if1 .taken } in
-    ap some (read-back w32 (c .narrow .result) e (c .narrow .ensures ∙ read-back w64 (c .before .plus .result) e (c .before .plus .ensures) f) g) ∙ sym (held-fits w32 e g)
+    ap some (read-back w32 (c .narrow .result) e (c .narrow .ensures ∙ read-back w64 (c .before .plus .result) e (c .before .plus .ensures) f) g) ∙ sym (held-fits _ e (g .sfits))
 
 returns-2 : tie.Need-returns-2
-returns-2 c = sym (held-none w32 (pos (c .before .args .e)) (c .if1 .left))
+returns-2 c = sym (held-none _ (pos (c .before .args .e)) (c .if1 .left))
 
 pub exponent-above-spec : {M : Type 1} → statement M
 exponent-above-spec = tie.close (tie.spec plus-requires narrow-requires returns returns-2)
