@@ -26,6 +26,7 @@ use Rattle.writer.specs.Text.{scalarText, nameText, notesText, opening, closing
 use Rattle.writer.specs.Outcome.{measured}
 use Rattle.tree.specs.Text.{lead, element, elements, treeText}
 use Rattle.tree.specs.Outcome.{unsuited, refusal, written}
+use Rattle.tree.proofs.Texts.{lead-compact}
 use Rattle.tape.proofs.FineBack.{tape-fine}
 use Rattle.tape.proofs.Accepted.{tape-accepted, tape-nodes}
 use Rattle.claims.proofs.FirstBytes.{first-long}
@@ -44,7 +45,7 @@ between k (more h n ns) = separator 0 k
 elements-true : (k : Frame) (ns : Nodes) → elements true k ns ≡ between k ns ++ elements false k ns
 unfolding element lead
 elements-true k nil = refl
-elements-true k (more h n ns) = simp append-assoc
+elements-true k (more h n ns) = rw (lead-compact k) (simp append-assoc)
 
 elements-more : (k : Frame) (h : Head) (n : Node) (ns : Nodes) (t : List ℕ)
     → elements false k (more h n ns) ++ t ≡ nameText (h .0) ++ (notesText (h .1) ++ (element n ++ (between k ns ++ (elements false k ns ++ t))))

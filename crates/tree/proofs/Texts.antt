@@ -13,21 +13,29 @@ use Rattle.writer.specs.Text.{nameText, notesText, opening, closing, separator,
 use Rattle.writer.specs.Steps.{front, ending, isNil, item, items}
 use Rattle.tree.specs.Text.{lead, element, elements, treeText}
 
--- the separators of the layouts 0 and 3 differ at top level alone
-separator-same : (k : Frame) → Inner k → separator 3 k ≡ separator 0 k
-unfolding separator
-separator-same Top i = absurd i
-separator-same ListF i = refl
-separator-same Sexp i = refl
-separator-same Struct i = refl
+-- the separators are those of Compact
+pub lead-compact : (k : Frame) → lead true k ≡ separator 0 k
+unfolding lead separator
+lead-compact Top = refl
+lead-compact ListF = refl
+lead-compact Sexp = refl
+lead-compact Struct = refl
+
+-- and in a container those of the walk's layout 3
+separator-lead : (k : Frame) → Inner k → separator 3 k ≡ lead true k
+unfolding lead separator
+separator-lead Top i = absurd i
+separator-lead ListF i = refl
+separator-lead Sexp i = refl
+separator-lead Struct i = refl
 
 -- the separator before a child is the one behind the child before it
 ending-lead : (k : Frame) (ns : Nodes) → Inner k → ending 3 k (isNil ns) ++ elements false k ns ≡ elements true k ns
 unfolding ending elements lead
 ending-lead k nil i = refl
 ending-lead k (more h n ns) i =
-    ap (λ (x : List ℕ). x ++ elements false k (more h n ns)) (separator-same k i)
-    ∙ glue (separator 0 k) (nameText (h .0)) (notesText (h .1)) (element n) (elements true k ns)
+    ap (λ (x : List ℕ). x ++ elements false k (more h n ns)) (separator-lead k i)
+    ∙ glue (lead true k) (nameText (h .0)) (notesText (h .1)) (element n) (elements true k ns)
   where
     glue : (s a b c d : List ℕ) → s ++ ((a ++ b ++ c) ++ d) ≡ (s ++ a ++ b ++ c) ++ d
     glue s a b c d = simp append-assoc

@@ -5,13 +5,17 @@ use mathlib.Core.Bool.{Bool, true, false}
 use Rattle.output.specs.Logic.{ascii}
 use Rattle.tape.specs.Tree.{Node, Nodes, scalar, nest, marker, nil, more}
 use Rattle.tape.specs.declared.Frame.{Frame}
-use Rattle.tape.specs.declared.Frame.the-variants.{Top}
-use Rattle.writer.specs.Text.{scalarText, nameText, notesText, opening, closing, separator}
+use Rattle.tape.specs.declared.Frame.the-variants.{Top, List as ListF, Sexp, Struct}
+use Rattle.writer.specs.Text.{scalarText, nameText, notesText, opening, closing}
 
--- a separator stands before every child but the first: `, ` in lists and structs, a blank in sexps, as in Compact
+-- a separator stands before every child but the first: `, ` in lists and structs, a blank in sexps. At top level one node stands, so that its
+-- separator is never written
 unfoldable pub lead : Bool → Frame → List ℕ
 lead false k = []
-lead true k = separator 0 k
+lead true Top = ascii " "
+lead true ListF = ascii ", "
+lead true Sexp = ascii " "
+lead true Struct = ascii ", "
 
 -- `[1, 2]`, `(1 2)`, `{a: 1}`. A marker is refused by 5, so its text is never asked for
 unfoldable mutual
