@@ -113,3 +113,19 @@ small x f = record {
   digits = field-most _ 0 9 _ (f .digits);
   fraction = ltb-true _ _ (f .fraction);
 }
+
+-- timestamps are equal field by field
+pub same-fields : (x y : Timestamp) → x .precision ≡ y .precision → x .year ≡ y .year → x .month ≡ y .month → x .day ≡ y .day → x .hour ≡ y .hour → x .minute ≡ y .minute
+    → x .second ≡ y .second → x .offset ≡ y .offset → x .digits ≡ y .digits → x .fraction ≡ y .fraction → x ≡ y
+same-fields x y p ye m d h mi s o n f = λ i. record {
+  precision = p i;
+  year = ye i;
+  month = m i;
+  day = d i;
+  hour = h i;
+  minute = mi i;
+  second = s i;
+  offset = o i;
+  digits = n i;
+  fraction = f i;
+}

@@ -17,7 +17,7 @@ use Rattle.text_rules.proofs.DigitLaws.{never, Digits, NoDigit, run-digits, pas
 use Rattle.numbers.specs.declared.timestamp.Timestamp.{Timestamp}
 use Rattle.numbers.specs.Timestamp.{unknown, fieldWell, offsetWell, wellFormed, yearAndMonth, date, hourAndMinute, dateHourAndMinute, fractionalSeconds, offsetText, timestampText}
 use Rattle.numbers.specs.TimestampRead.{ReadTimestamp, joined, fixed, startsDigit, clock, dated, timed, zoned, checked, minutes, offsetOf, fractionOf, secondOf, timeOf, dayOf, behindMonth, behindYear, timestamp}
-use Rattle.numbers.proofs.Calendar.{west-small, east-small, Fields, fields, small}
+use Rattle.numbers.proofs.Calendar.{west-small, east-small, Fields, fields, small, same-fields}
 use Rattle.numbers.proofs.DecimalBack.{ended-no-digit}
 use Rattle.numbers.proofs.TimestampPlaces.{joined-digits}
 
@@ -178,22 +178,7 @@ module _ (y m d : ℕ) (hy : y < 10000) (hm : m < 100) (hd : d < 100) where
   date-back r =
       ap timestamp (simp append-assoc) ∙ behind-year (pad 2 m ++ (byte "-" ∷ (pad 2 d ++ (byte "T" ∷ r)))) ∙ behind-month (pad 2 d ++ (byte "T" ∷ r)) ∙ day-back r
 
--- ---- timestamps that are equal field by field
-
-same : (x y : Timestamp) → x .precision ≡ y .precision → x .year ≡ y .year → x .month ≡ y .month → x .day ≡ y .day → x .hour ≡ y .hour → x .minute ≡ y .minute
-    → x .second ≡ y .second → x .offset ≡ y .offset → x .digits ≡ y .digits → x .fraction ≡ y .fraction → x ≡ y
-same x y p ye m d h mi s o n f = λ i. record {
-  precision = p i;
-  year = ye i;
-  month = m i;
-  day = d i;
-  hour = h i;
-  minute = mi i;
-  second = s i;
-  offset = o i;
-  digits = n i;
-  fraction = f i;
-}
+-- ---- fields finer than the precision
 
 -- a field that is finer than the precision is 0
 finer : (k p lo hi n : ℕ) → p < k → fieldWell (leb k p) lo hi n ≡ true → n ≡ 0
@@ -258,7 +243,7 @@ module _ (x : Timestamp) (r : List ℕ) (f : Fields x) (e : ended r ≡ true) wh
   date-alone : (m d : ℕ) → m ≡ x .month → d ≡ x .day → x .precision < 3 → dated (x .precision) (x .year) m d ≡ x
   date-alone m d hm hd l =
       let p = x .precision in
-      same (dated p (x .year) m d) x refl refl hm hd
+      same-fields (dated p (x .year) m d) x refl refl hm hd
       (sym (finer 3 p 0 23 (x .hour) l (f .hour)))
       (sym (finer 3 p 0 59 (x .minute) l (f .minute)))
       (sym (finer 4 p 0 59 (x .second) (omega arith) (f .second)))
@@ -327,7 +312,7 @@ module _ (x : Timestamp) (r : List ℕ) (f : Fields x) (e : ended r ≡ true) wh
       ∙ time-back (offsetText o ++ r)
       ∙ rw (sign-starts (byte ":") o r refl refl) (offset-back (timed 3 day (x .hour) (x .minute) 0 0 0) (x .precision) o r (f .offset))
       ∙ ap (λ (z : Timestamp). checked z r)
-      (same (zoned (timed 3 day (x .hour) (x .minute) 0 0 0) o) x (sym p) refl refl refl refl refl
+      (same-fields (zoned (timed 3 day (x .hour) (x .minute) 0 0 0) o) x (sym p) refl refl refl refl refl
       (sym (finer 4 (x .precision) 0 59 (x .second) (omega arith) (f .second)))
       refl
       (sym (finer 4 (x .precision) 0 9 (x .digits) (omega arith) (f .digits)))
@@ -352,7 +337,7 @@ module _ (x : Timestamp) (r : List ℕ) (f : Fields x) (e : ended r ≡ true) wh
       ∙ second-back day (x .hour) (x .minute) (x .second) (x .digits) (x .fraction) o r (omega arith) (s .digits) (s .fraction)
       ∙ offset-back (timed 4 day (x .hour) (x .minute) (x .second) (x .digits) (x .fraction)) (x .precision) o r (f .offset)
       ∙ ap (λ (z : Timestamp). checked z r)
-      (same (zoned (timed 4 day (x .hour) (x .minute) (x .second) (x .digits) (x .fraction)) o) x (sym p) refl refl refl refl refl refl refl refl refl))
+      (same-fields (zoned (timed 4 day (x .hour) (x .minute) (x .second) (x .digits) (x .fraction)) o) x (sym p) refl refl refl refl refl refl refl refl refl))
 
   by-precision : (p : ℕ) → x .precision ≡ p → p ≤ 4 → timestamp (timestampText x ++ r) ≡ checked x r
   by-precision zero h l = back-0 h

@@ -26,6 +26,7 @@ use Rattle.tape.specs.Verdict.{misfit, countFault, verdict}
 use Rattle.tape.specs.declared.Frame.{Frame}
 use Rattle.tape.specs.declared.Frame.the-variants.{Top, List as ListF, Sexp, Struct}
 use Rattle.tape.proofs.Numbers.{le-number, bits-bound, signed-bits}
+use Rattle.numbers.proofs.Calendar.{same-fields}
 use Rattle.tape.proofs.Ranges.{well-ranges}
 use Rattle.tape.proofs.Walking.{walk-end, walk-leaf, walk-tree}
 
@@ -156,25 +157,11 @@ unfolding encodeScalar encodeTimestamp timestampAs leBytes
 timestamp-fields x r h =
     let l : List ℕ = encodeScalar (timestamp x) ++ r in
     let g = well-ranges x h in
-    let make : ℕ → ℤ → ℕ → Timestamp = λ y o f. record {
-      precision = x .precision;
-      year = y;
-      month = x .month;
-      day = x .day;
-      hour = x .hour;
-      minute = x .minute;
-      second = x .second;
-      offset = o;
-      digits = x .digits;
-      fraction = f;
-    } in
     let year-is : leNumber 2 (drop 2 l) ≡ x .year = le-number 2 (x .year) (drop 4 l) (g .year-u16) in
     let offset-is : signed 16 (leNumber 2 (drop 9 l)) ≡ x .offset =
     ap (signed 16) (le-number 2 (bits 16 (x .offset)) (drop 11 l) (bits-bound w16 (x .offset) (g .offset-i16))) ∙ signed-bits w16 (x .offset) (g .offset-i16) in
     let fraction-is : leNumber 4 (drop 12 l) ≡ x .fraction = le-number 4 (x .fraction) (drop 16 l) (g .fraction-u32) in
-    ap (λ (i : ℕ). make i (signed 16 (leNumber 2 (drop 9 l))) (leNumber 4 (drop 12 l))) year-is
-    ∙ ap (λ (i : ℤ). make (x .year) i (leNumber 4 (drop 12 l))) offset-is
-    ∙ ap (λ (i : ℕ). make (x .year) (x .offset) i) fraction-is
+    same-fields (timestampAs l) x refl year-is refl refl refl refl refl offset-is refl fraction-is
 
 timestamp-as : (x : Timestamp) (r : List ℕ) → wellFormed x ≡ true → scalarOf (encodeScalar (timestamp x) ++ r) ≡ some (timestamp x, length (encodeScalar (timestamp x)))
 unfolding scalarOf encodeScalar encodeTimestamp timestampOf leBytes

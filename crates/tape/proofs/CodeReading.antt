@@ -19,7 +19,7 @@ use Rattle.output.specs.Logic.{if}
 use Rattle.text_rules.specs.Text.{Sym}
 use Rattle.tape.specs.Bytes.{leNumber, signed, part}
 use Rattle.tape.specs.Tree.{Scalar, Head, null, bool, int, decimal, timestamp, string, clob, scalar, marker}
-use Rattle.tape.specs.Tape.{reading, kind, lengthOf, textOf, symOf, symsOf, nameOf, notesOf, headOf, byteOf, intOf, floatAs, floatOf, decimalOf, timestampAs, timestampOf, symbolOf, sizedOf, scalarOf, Value, absent, leaf, body, openOf, valueOf}
+use Rattle.tape.specs.Tape.{reading, kind, lengthOf, textOf, symOf, symsOf, nameOf, notesOf, headOf, byteOf, intOf, floatAs, floatOf, decimalOf, timestampAs, timestampOf, symbolOf, sizedOf, scalarOf, absent, leaf, openOf, valueOf}
 use Rattle.tape.specs.Steps.{placeOf, lengthIn}
 use Rattle.tape.specs.declared.Frame.{Frame}
 use Rattle.tape.specs.declared.Frame.the-variants.{List as ListF, Sexp, Struct}
@@ -162,10 +162,6 @@ abbrev pub textAt : Place → List ℕ → Option (List ℕ × ℕ)
 textAt Nowhere l = none
 textAt (At n) l = some (take n (drop 5 l), 5 + n)
 
-abbrev pub openAt : Frame → Place → Value
-openAt k Nowhere = absent
-openAt k (At n) = body k n
-
 module _ (l : List ℕ) where
   pub length-short : length l < 5 → lengthIn l ≡ Nowhere
   unfolding lengthIn
@@ -184,14 +180,6 @@ module _ (l : List ℕ) where
   text-by r e = rw e (go (leb (5 + lengthOf l) (length l)))
     where
       go : (b : Bool) → if b (some (take (lengthOf l) (drop 5 l), 5 + lengthOf l)) none ≡ textAt (if b (At (lengthOf l)) Nowhere) l
-      go true = refl
-      go false = refl
-
-  pub open-by : (k : Frame) (r : Place) → r ≡ lengthIn l → openOf k l ≡ openAt k r
-  unfolding lengthIn openOf
-  open-by k r e = rw e (go (leb (5 + lengthOf l) (length l)))
-    where
-      go : (b : Bool) → if b (body k (lengthOf l)) absent ≡ openAt k (if b (At (lengthOf l)) Nowhere)
       go true = refl
       go false = refl
 
@@ -399,14 +387,6 @@ module _ (s : List ℕ) (p e : ℕ) where
 
 -- a name, and annotations behind it
 module _ (k : Frame) (s : List ℕ) (p e : ℕ) where
-  pub head-bad : placeOf p (nameOf k (part s p e)) ≡ Nowhere → placeOf p (headOf k (part s p e)) ≡ Nowhere
-  unfolding headOf
-  head-bad z = go (nameOf k (part s p e)) z
-    where
-      go : (o : Option (Option Sym × ℕ)) → placeOf p o ≡ Nowhere → placeOf {A = Head} p (reading o none (λ a n. reading (notesOf (drop n (part s p e))) none (λ ss m. some ((a, ss), n + m)))) ≡ Nowhere
-      go none z = refl
-      go (some (a, n)) z = let y : _≡_ {A = ℕ} 0 1 = cc in absurd (omega arith)
-
   pub head-one : (q : ℕ) → placeOf p (nameOf k (part s p e)) ≡ At q → placeOf p (headOf k (part s p e)) ≡ placeOf q (notesOf (part s q e))
   unfolding headOf
   head-one q z = go (nameOf k (part s p e)) z
@@ -420,7 +400,12 @@ module _ (k : Frame) (s : List ℕ) (p e : ℕ) where
           ∙ ap (λ (l : List ℕ). placeOf (p + n) (notesOf l)) (part-drop s p e n)
           ∙ ap (λ (i : ℕ). placeOf i (notesOf (part s i e))) y
 
--- what was read ends within the part
+-- what was read, from where it ends
+pub place-read : {A : Type 0} (d : A) (at v : ℕ) (o : Option (A × ℕ)) → placeOf at o ≡ At v → (at ≤ v) × (o ≡ some (reading o d (λ a n. a), v - at))
+place-read d at v none z = let y : _≡_ {A = ℕ} 0 1 = cc in absurd (omega arith)
+place-read d at v (some (a, n)) z = let y : at + n ≡ v = cc in let x : n ≡ v - at = omega arith in (omega arith, ap (λ (i : ℕ). some (a, i)) x)
+
+-- it ends within the part
 pub place-within : {A : Type 0} (enc : A → List ℕ) (s : List ℕ) (p e q : ℕ) (o : Option (A × ℕ)) → p ≤ e → e ≤ length s → Sound enc (part s p e) o → placeOf p o ≡ At q
     → (p ≤ q) × (q ≤ e)
 place-within enc s p e q none h i g z = let y : _≡_ {A = ℕ} 0 1 = cc in absurd (omega arith)

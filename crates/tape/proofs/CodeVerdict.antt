@@ -11,7 +11,8 @@ use borrow.Author.Tests.{lt-ltb, le-ltb, eq-eqb, ne-eqb}
 use Rattle.tape.specs.Bytes.{leNumber, part, first}
 use Rattle.tape.specs.Tape.{walk, bodyOf}
 use Rattle.tape.specs.Verdict.{misfit, countFault, verdict}
-use Rattle.tape.specs.CheckSteps.{Checks, Refuses, TapeChecks}
+use Rattle.tape.specs.CheckSteps.{Checks}
+use Rattle.tape.specs.Checked.{Refuses, TapeChecks}
 use Rattle.tape.specs.declared.Frame.the-variants.{Top}
 use Rattle.tape.specs.declared.check.Checked.{Checked}
 use Rattle.tape.proofs.Walking.{first-zero}

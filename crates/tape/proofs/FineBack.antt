@@ -17,14 +17,14 @@ use Rattle.text_rules.specs.Utf8.{valid}
 use Rattle.numbers.specs.Timestamp.{wellFormed}
 use Rattle.tape.specs.Bytes.{leNumber}
 use Rattle.tape.specs.Tree.{Scalar, Head, Node, symbol, string, clob, scalar, nest, marker}
-use Rattle.tape.specs.Tape.{reading, kind, lengthOf, textOf, symOf, symsOf, nameOf, notesOf, headOf, byteOf, intOf, floatAs, floatOf, decimalOf, timestampAs, timestampOf, symbolOf, sizedOf, scalarOf, Value, absent, leaf, body, openOf, valueOf, Child, bad, single, tree, freeAt, headedChild, childOf, textFault, symFault, symsFault, nameFault, headFault, finiteFault, floatFault, scalarFault, Walked, fault, turn, level, walk, bodyOf, nodesOf}
+use Rattle.tape.specs.Tape.{reading, kind, lengthOf, textOf, symOf, symsOf, nameOf, notesOf, headOf, byteOf, intOf, floatAs, floatOf, decimalOf, timestampAs, timestampOf, symbolOf, sizedOf, scalarOf, Value, absent, leaf, body, valueOf, Child, bad, single, tree, freeAt, headedChild, childOf, textFault, symFault, symsFault, nameFault, headFault, finiteFault, floatFault, scalarFault, Walked, fault, turn, level, walk, bodyOf, nodesOf}
 use Rattle.tape.specs.Fine.{Bytes, FineBytes, FineText, FineSym, FineSyms, FineFloat, FineScalar, FineName, FineHead, FineMarker, Inner, Fine, Fines}
 use Rattle.tape.specs.Verdict.{verdict}
 use Rattle.tape.specs.declared.Frame.{Frame}
 use Rattle.tape.specs.declared.Frame.the-variants.{Top, List as ListF, Sexp, Struct}
 use Rattle.text_rules.proofs.DigitLaws.{never}
 use Rattle.tape.proofs.Numbers.{bytes-drop, bytes-take, le-bound, signed-fits, not-nan, of-bits-not-nan, to-bits-of}
-use Rattle.tape.proofs.Reading.{if-all, Counted, counted, syms-count}
+use Rattle.tape.proofs.Reading.{if-all, Counted, counted, syms-count, value-all}
 use Rattle.tape.proofs.Walking.{first-zero, join-zero, if-zero-else, walk-back, verdict-told}
 
 -- what is said of what is read, if anything is
@@ -225,21 +225,10 @@ data GoodV (f : Bool) : Value → Type 0 where
   good-leaf : {v : Node} {n : ℕ} → LeafP f v → GoodV f (leaf v n)
   good-body : {k : Frame} {n : ℕ} → Inner k → n < 2 ^ 32 → GoodV f (body k n)
 
-open-good : (f : Bool) (k : Frame) (l : List ℕ) → Inner k → Bytes l → GoodV f (openOf k l)
-unfolding openOf
-open-good f k l i b = if-all (GoodV f) {b = leb (5 + lengthOf l) (length l)} (λ _. good-body i (le-bound 4 (drop 1 l) (bytes-drop 1 l b))) (λ _. good-absent)
-
 value-good : (f : Bool) (l : List ℕ) → Bytes l → GoodV f (valueOf f l)
-unfolding valueOf
 value-good f l b =
-    if-all (GoodV f) {b = eqb (kind l) 10} (λ _. open-good f ListF l tt b) (λ _.
-    if-all (GoodV f) {b = eqb (kind l) 11} (λ _. open-good f Sexp l tt b) (λ _.
-    if-all (GoodV f) {b = eqb (kind l) 12} (λ _. open-good f Struct l tt b) (λ _.
-    if-all (GoodV f) {b = eqb (kind l) 14} (λ _. if-all (GoodV f) {b = f} {x = leaf marker 1} {y = absent} (λ e. good-leaf e) (λ _. good-absent)) (λ _. go (scalarOf l) (scalar-good l b)))))
-  where
-    go : (o : Option (Scalar × ℕ)) → Good ScalarP o → GoodV f (reading o absent (λ s n. leaf (scalar s) n))
-    go none g = good-absent
-    go (some (s, n)) (good p) = good-leaf p
+    value-all (GoodV f) f l good-absent (λ k i _ _. good-body i (le-bound 4 (drop 1 l) (bytes-drop 1 l b))) (λ _ e. good-leaf e)
+    (λ s n e. good-leaf (told {a = s} {n = n} (rw e at (scalar-good l b))))
 
 -- ---- children
 

@@ -17,7 +17,7 @@ use Rattle.text_rules.specs.Text.{Sym}
 use Rattle.tape.specs.Bytes.{leNumber, signed, bits}
 use Rattle.tape.specs.Tree.{Scalar, Head, Node, null, bool, int, timestamp, symbol, string, clob, scalar, marker, bit, tag, floatBits, sized, encodeTimestamp, encodeSym, encodeScalar, encodeSyms, encodeName, encodeNotes, encodeHead, encode}
 use Rattle.tape.specs.Tape.{reading, kind, lengthOf, textOf, symOf, symsOf, nameOf, notesOf, headOf, byteOf, intOf, floatAs, floatOf, decimalOf, timestampAs, timestampOf, symbolOf, sizedOf, scalarOf, Value, absent, leaf, body, openOf, valueOf, Child, bad, single, tree, freeAt, headedChild, childOf}
-use Rattle.tape.specs.Fine.{Bytes}
+use Rattle.tape.specs.Fine.{Bytes, Inner}
 use Rattle.tape.specs.declared.Frame.{Frame}
 use Rattle.tape.specs.declared.Frame.the-variants.{Top, List as ListF, Sexp, Struct}
 use Rattle.tape.proofs.Numbers.{bytes-drop, le-back, le-bound, bits-signed, float-bits-of, float-bits-nan}
@@ -304,34 +304,44 @@ scalar-long l =
 
 -- ---- values
 
+-- what holds of none, of a container, of a marker where one may stand, and of a scalar, holds of the value that l starts with
+pub value-all : (P : Value → Type 0) (f : Bool) (l : List ℕ) → P absent
+    → ((k : Frame) → Inner k → kind l ≡ tag k → 5 + lengthOf l ≤ length l → P (body k (lengthOf l)))
+    → (kind l ≡ 14 → f ≡ true → P (leaf marker 1))
+    → ((s : Scalar) (n : ℕ) → scalarOf l ≡ some (s, n) → P (leaf (scalar s) n))
+    → P (valueOf f l)
+unfolding valueOf openOf
+value-all P f l lack nested marked one =
+    if-all P {b = eqb (kind l) 10} (λ e. container ListF tt (eqb-true _ _ e)) (λ _.
+    if-all P {b = eqb (kind l) 11} (λ e. container Sexp tt (eqb-true _ _ e)) (λ _.
+    if-all P {b = eqb (kind l) 12} (λ e. container Struct tt (eqb-true _ _ e)) (λ _.
+    if-all P {b = eqb (kind l) 14} (λ e. if-all P {b = f} (λ q. marked (eqb-true _ _ e) q) (λ _. lack)) (λ _. go (scalarOf l) refl))))
+  where
+    container : (k : Frame) → Inner k → kind l ≡ tag k → P (openOf k l)
+    container k i e = if-all P {b = leb (5 + lengthOf l) (length l)} (λ h. nested k i e (leb-true _ _ h)) (λ _. lack)
+
+    go : (o : Option (Scalar × ℕ)) → scalarOf l ≡ o → P (reading o absent (λ s n. leaf (scalar s) n))
+    go none e = lack
+    go (some (s, n)) e = one s n e
+
 pub data SoundV (l : List ℕ) : Value → Type 0 where
   no-value : SoundV l absent
   a-leaf : {v : Node} {n : ℕ} → 0 < n → n ≤ length l → (Bytes l → encode v ≡ take n l) → SoundV l (leaf v n)
   a-body : {k : Frame} {n : ℕ} → 5 + n ≤ length l → (Bytes l → tag k ∷ leBytes 4 n ≡ take 5 l) → SoundV l (body k n)
 
-open-sound : (k : Frame) (l : List ℕ) → kind l ≡ tag k → SoundV l (openOf k l)
-unfolding openOf
-open-sound k l e =
-    if-all (SoundV l) (λ h. let g : 5 + lengthOf l ≤ length l = leb-true _ _ h in a-body g (λ b. header-back (tag k) l b e (omega arith))) (λ _. no-value)
-
-marker-sound : (f : Bool) (l : List ℕ) → kind l ≡ 14 → SoundV l (if f (leaf marker 1) absent)
+marker-sound : (l : List ℕ) → kind l ≡ 14 → SoundV l (leaf marker 1)
 unfolding encode
-marker-sound f [] k = let z : _≡_ {A = ℕ} 0 14 = k in absurd (omega arith)
-marker-sound f (x ∷ l) k =
-    if-all (SoundV (x ∷ l)) {b = f} {x = leaf marker 1} {y = absent} (λ _. a-leaf (omega arith) (omega arith) (λ b. ap (λ (i : ℕ). i ∷ []) (sym k))) (λ _. no-value)
+marker-sound [] k = let z : _≡_ {A = ℕ} 0 14 = k in absurd (omega arith)
+marker-sound (x ∷ l) k = a-leaf {n = 1} (omega arith) (omega arith) (λ b. ap (λ (i : ℕ). i ∷ []) (sym k))
 
-leaf-sound : (l : List ℕ) (o : Option (Scalar × ℕ)) → Sound encodeScalar l o → Long o → SoundV l (reading o absent (λ s n. leaf (scalar s) n))
+leaf-sound : (l : List ℕ) (s : Scalar) (n : ℕ) → Sound encodeScalar l (some (s, n)) → Long (some (s, n)) → SoundV l (leaf (scalar s) n)
 unfolding encode
-leaf-sound l none s h = no-value
-leaf-sound l (some (s, n)) (something i e) (long h) = let p : 0 < n = omega arith in a-leaf p i e
+leaf-sound l s n (something i e) (long h) = let p : 0 < n = omega arith in a-leaf p i e
 
 pub value-sound : (f : Bool) (l : List ℕ) → SoundV l (valueOf f l)
-unfolding valueOf
 value-sound f l =
-    if-all (SoundV l) (λ e. open-sound ListF l (eqb-true _ _ e)) (λ _.
-    if-all (SoundV l) (λ e. open-sound Sexp l (eqb-true _ _ e)) (λ _.
-    if-all (SoundV l) (λ e. open-sound Struct l (eqb-true _ _ e)) (λ _.
-    if-all (SoundV l) (λ e. marker-sound f l (eqb-true _ _ e)) (λ _. leaf-sound l (scalarOf l) (scalar-sound l) (scalar-long l)))))
+    value-all (SoundV l) f l no-value (λ k i e h. a-body h (λ b. header-back (tag k) l b e (omega arith))) (λ e _. marker-sound l e)
+    (λ s n e. leaf-sound l s n (rw e at (scalar-sound l)) (rw e at (scalar-long l)))
 
 -- ---- children
 

@@ -1,29 +1,27 @@
--- A turn of a walk at a place of the tape, made once from what `child_at` says, or from what validation says. Assumes nothing.
+-- A turn of a walk at a place of the tape, by the child that stands there, or by what validation says of it. Assumes nothing.
 use Prim.Native.Nat.{ℕ, zero, suc, _+_, _-_, _<_, _≤_}
 use mathlib.Core.Path.{_≡_, refl, sym, ap, subst, _∙_}
 use mathlib.Core.List.{List, []}
 use mathlib.Core.Bool.{Bool, true, false, _||_}
 use mathlib.Core.Option.{Option, none, some}
 use native.Mathlib.Omega.{arith}
-use lib.Dec.{eqb, leb}
+use lib.Dec.{eqb}
 use lib.ListN.{length, drop}
 use Rattle.output.specs.Logic.{if}
 use Rattle.tape.specs.Bytes.{part}
 use Rattle.tape.specs.Tree.{Scalar, Head, Node, scalar, nest, marker, nil}
-use Rattle.tape.specs.Tape.{reading, kind, lengthOf, nameOf, notesOf, headOf, scalarOf, Value, absent, leaf, body, openOf, valueOf, single, freeAt, childOf, nameFault, headFault, scalarFault, Walked, fault, join, walk}
+use Rattle.tape.specs.Tape.{reading, kind, nameOf, notesOf, headOf, scalarOf, Value, absent, leaf, body, valueOf, bad, single, freeAt, childOf, nameFault, headFault, scalarFault, Walked, fault, join, walk}
 use Rattle.tape.specs.Refusal.{annotated, noted, headNumbered, numbered}
-use Rattle.tape.specs.Steps.{placeOf, headAt, ChildAt}
+use Rattle.tape.specs.Steps.{placeOf, headAt}
 use Rattle.tape.specs.CheckSteps.{coded, scalarCode, spanOf, numberIn, nameNumberIn, endOf, frameOf, frontAs, notesFront}
 use Rattle.tape.specs.declared.Frame.{Frame}
-use Rattle.tape.specs.declared.Frame.the-variants.{List as ListF, Sexp, Struct}
-use Rattle.tape.specs.declared.Child.the-variants.{Bad as NoChild, Open as OpenC}
 use Rattle.tape.specs.declared.Place.the-variants.{At}
 use Rattle.tape.specs.declared.check.Front.the-variants as F
 use Rattle.tape.proofs.Parts.{part-length, part-drop, part-inner}
-use Rattle.tape.proofs.Reading.{if-all, Long, long, scalar-long, SoundV, a-leaf, value-sound}
+use Rattle.tape.proofs.Reading.{Long, long, scalar-long, value-all, SoundV, a-leaf, a-body, value-sound}
 use Rattle.tape.proofs.Walking.{walk-bad, walk-headed, walk-leaf, walk-tree}
 use Rattle.tape.proofs.CodeReading.{scalar-other, value-empty, value-marker, value-scalar, notes-empty}
-use Rattle.tape.proofs.CodeChild.{behind-open, head-within, child-headless, child-is, child-from}
+use Rattle.tape.proofs.CodeChild.{head-within, child-headless, child-is}
 use Rattle.tape.proofs.CodeFacts.{head-two, code-read, Ended, Stopped, missed, reached, end-stopped, Problem, no-problem, problem-2, problem-4, scalar-problem, scalar-number, span-is, value-missing, value-body, front-none, headFront, front-nameless, front-head}
 use Rattle.tape.proofs.CodeWalk.{join-fault}
 
@@ -31,7 +29,6 @@ use Rattle.tape.proofs.CodeWalk.{join-fault}
 
 -- a container of the frame f; its body reaches from q to r
 pub record TreeTurn (d : ℕ) (k : Frame) (s : List ℕ) (at e : ℕ) (f : Frame) (q r : ℕ) : Type 0 where
-  pub read : headOf k (part s at e) ≡ some (headAt k (part s at e), q - 5 - at)
   pub step : walk d k (part s at e)
       ≡ join (headAt k (part s at e)) (nest f (walk (d - 1) f (part s q r) .0)) (walk (d - 1) f (part s q r) .1) (walk d k (part s r e))
   pub behind : at + 5 ≤ q
@@ -43,8 +40,8 @@ module _ (d : ℕ) (k : Frame) (s : List ℕ) (at e : ℕ) (nz : d ≡ 0 → ⊥
   some-left : 0 < length (part s at e)
   some-left = let n = part-length s at e i in omega arith
 
-  pub bad-turn : ChildAt k s at e NoChild → walk d k (part s at e) ≡ (nil, 2)
-  bad-turn c = walk-bad k d (part s at e) nz some-left (c .told)
+  pub bad-turn : childOf k (part s at e) ≡ bad → walk d k (part s at e) ≡ (nil, 2)
+  bad-turn c = walk-bad k d (part s at e) nz some-left c
 
   -- behind a child without a body the rest of the nodes starts at r
   pub single-step : (n : Node) (r : ℕ) → at < r → childOf k (part s at e) ≡ single (headAt k (part s at e)) n (r - at)
@@ -54,27 +51,29 @@ module _ (d : ℕ) (k : Frame) (s : List ℕ) (at e : ℕ) (nz : d ≡ 0 → ⊥
       walk-leaf k d (part s at e) nz (headAt k (part s at e)) n (r - at) some-left (omega arith) c
       ∙ ap (λ (l : List ℕ). join (headAt k (part s at e)) n (fault n) (walk d k l)) (part-drop s at e (r - at) ∙ ap (λ (j : ℕ). part s j e) y)
 
-  pub tree-turn : (f : Frame) (q r : ℕ) → ChildAt k s at e (OpenC f q r) → TreeTurn d k s at e f q r
-  tree-turn f q r c =
-      let m = c .told in
-      let b : at + 5 ≤ q = m .2 in
-      let g : q ≤ r = m .3 in
-      let w : r ≤ e = m .4 in
-      let y : at + (q - at) ≡ q = omega arith in
-      let v : at + (q - at) + (r - q) ≡ r = omega arith in
-      let u : at + (q - at + (r - q)) ≡ r = omega arith in
-      let both : List ℕ → List ℕ → Walked = λ x y. join (headAt k (part s at e)) (nest f (walk (d - 1) f x .0)) (walk (d - 1) f x .1) (walk d k y) in
-      record {
-        read = m .1;
-        step =
-            walk-tree k d (part s at e) nz (headAt k (part s at e)) f (q - at) (r - q) some-left (omega arith) (m .0)
-            ∙ ap (λ (x : List ℕ). both x (drop (q - at + (r - q)) (part s at e))) (part-inner s at e (q - at) (r - q) (omega arith) ∙ ap (λ (j : ℕ). part s j (at + (q - at) + (r - q))) y ∙ ap (part s q) v)
-            ∙ ap (both (part s q r)) (part-drop s at e (q - at + (r - q)) ∙ ap (λ (j : ℕ). part s j e) u);
-        behind = b;
-        inner = g;
-        forth = omega arith;
-        within = w;
-      }
+  -- behind a head that ends at p
+  pub tree-turn : (p : ℕ) → at ≤ p → p ≤ e → placeOf at (headOf k (part s at e)) ≡ At p → (f : Frame) (n : ℕ) → valueOf (freeAt k (part s at e)) (part s p e) ≡ body f n
+      → TreeTurn d k s at e f (p + 5) (p + 5 + n)
+  tree-turn p b w z f n v = go (subst (SoundV (part s p e)) v (value-sound (freeAt k (part s at e)) (part s p e)))
+    where
+      go : SoundV (part s p e) (body f n) → TreeTurn d k s at e f (p + 5) (p + 5 + n)
+      go (a-body m t) =
+          let l = part-length s p e i in
+          let q : ℕ = p - at + 5 in
+          let start : at + q ≡ p + 5 = omega arith in
+          let stop : at + q + n ≡ p + 5 + n = omega arith in
+          let next : at + (q + n) ≡ p + 5 + n = omega arith in
+          let both : List ℕ → List ℕ → Walked = λ x y. join (headAt k (part s at e)) (nest f (walk (d - 1) f x .0)) (walk (d - 1) f x .1) (walk d k y) in
+          record {
+            step =
+                walk-tree k d (part s at e) nz (headAt k (part s at e)) f q n some-left (omega arith) (child-is k s at e p b z (body f n) v)
+                ∙ ap (λ (x : List ℕ). both x (drop (q + n) (part s at e))) (part-inner s at e q n (omega arith) ∙ ap (λ (j : ℕ). part s j (at + q + n)) start ∙ ap (part s (p + 5)) stop)
+                ∙ ap (both (part s (p + 5) (p + 5 + n))) (part-drop s at e (q + n) ∙ ap (λ (j : ℕ). part s j e) next);
+            behind = omega arith;
+            inner = omega arith;
+            forth = omega arith;
+            within = omega arith;
+          }
 
 -- ---- validation: a head, and a value behind it
 
@@ -130,22 +129,8 @@ leafNoted (leaf v n) = noted v
 leafNoted (body k n) = false
 
 value-unnoted : (f : Bool) (l : List ℕ) → leafNoted (valueOf f l) ≡ false
-unfolding valueOf openOf noted
-value-unnoted f l =
-    if-all Unnoted {b = eqb (kind l) 10} (λ _. container ListF) (λ _.
-    if-all Unnoted {b = eqb (kind l) 11} (λ _. container Sexp) (λ _.
-    if-all Unnoted {b = eqb (kind l) 12} (λ _. container Struct) (λ _.
-    if-all Unnoted {b = eqb (kind l) 14} (λ _. if-all Unnoted {b = f} {x = leaf marker 1} {y = absent} (λ _. refl) (λ _. refl)) (λ _. one (scalarOf l)))))
-  where
-    Unnoted : Value → Type 0
-    Unnoted v = leafNoted v ≡ false
-
-    container : (k : Frame) → leafNoted (openOf k l) ≡ false
-    container k = if-all Unnoted {b = leb (5 + lengthOf l) (length l)} {x = body k (lengthOf l)} {y = absent} (λ _. refl) (λ _. refl)
-
-    one : (o : Option (Scalar × ℕ)) → leafNoted (reading o absent (λ s n. leaf (scalar s) n)) ≡ false
-    one none = refl
-    one (some (s, n)) = refl
+unfolding noted
+value-unnoted f l = value-all (λ (v : Value). leafNoted v ≡ false) f l refl (λ k _ _ _. refl) (λ _ _. refl) (λ s n _. refl)
 
 -- ---- the turns
 
@@ -154,7 +139,7 @@ module _ (d : ℕ) (k : Frame) (s : List ℕ) (at e : ℕ) (nz : d ≡ 0 → ⊥
   headless-turn a b z = record { fault = go (headOf k (part s at e)) refl z; some = λ z. omega arith }
     where
       go : (o : Option (Head × ℕ)) → headOf k (part s at e) ≡ o → F.Bad ≡ headFront at a b o → walk d k (part s at e) .1 ≡ 2
-      go none q z = ap (λ (w : Walked). w .1) (bad-turn d k s at e nz h i (record { told = child-headless k s at e (ap (placeOf at) q) }))
+      go none q z = ap (λ (w : Walked). w .1) (bad-turn d k s at e nz h i (child-headless k s at e q))
       go (some (g, n)) q z = by (headFault g) refl z
         where
           by : (f : ℕ) → headFault g ≡ f → F.Bad ≡ frontAs f (at + n) (a || annotated (g .1)) (b || headNumbered g) → walk d k (part s at e) .1 ≡ 2
@@ -181,7 +166,7 @@ module _ (d : ℕ) (k : Frame) (s : List ℕ) (at e : ℕ) (nz : d ≡ 0 → ⊥
 
     absent-turn : valueOf (freeAt k (part s at e)) (part s p e) ≡ absent → Refused d k s at e 2
     absent-turn q = record {
-      fault = ap (λ (u : Walked). u .1) (bad-turn d k s at e nz h i (child-from k s at e p (w .behind) (w .place) NoChild (record { told = q })));
+      fault = ap (λ (u : Walked). u .1) (bad-turn d k s at e nz h i (child-is k s at e p (w .behind) (w .place) absent q));
       some = λ z. omega arith;
     }
 
@@ -245,8 +230,7 @@ module _ (d : ℕ) (k : Frame) (s : List ℕ) (at e : ℕ) (nz : d ≡ 0 → ⊥
           let m = span-is (part s p e) c q z .0 in
           let y : p + 5 + (c - 5) ≡ p + c = omega arith in
           subst (TreeTurn d k s at e x (p + 5)) y
-          (tree-turn d k s at e nz h i x (p + 5) (p + 5 + (c - 5))
-          (child-from k s at e p (w .behind) (w .place) (OpenC x (p + 5) (p + 5 + (c - 5))) (behind-open s p e f (w .within) i x (c - 5) (sym (value-body f (part s p e) above below c q z)))))
+          (tree-turn d k s at e nz h i p (w .behind) (w .within) (w .place) x (c - 5) (value-body f (part s p e) above below c q z))
 
     -- ---- neither
 

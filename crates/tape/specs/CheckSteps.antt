@@ -1,4 +1,4 @@
--- What the contracts of validation say of their answers. Assumes nothing: these are definitions.
+-- What the contracts of the parts of validation say of their answers. Assumes nothing: these are definitions.
 use Prim.Native.Nat.{ℕ, zero, suc, _+_}
 use mathlib.Core.Path.{_≡_}
 use mathlib.Core.List.{List}
@@ -8,10 +8,10 @@ use lib.ListN.{length}
 use lib.Dec.{eqb, leb}
 use Rattle.output.specs.Logic.{if}
 use Rattle.text_rules.specs.Text.{Sym}
-use Rattle.tape.specs.Tree.{Scalar, Nodes, size}
-use Rattle.tape.specs.Tape.{reading, lengthOf, symOf, nameOf, symsFault, scalarFault, Walked, bodyOf}
-use Rattle.tape.specs.Refusal.{annotated, noteds, symNumbered, symsNumbered, nameNumbered, numbereds}
-use Rattle.tape.specs.Verdict.{verdict}
+use Rattle.tape.specs.Tree.{Scalar}
+use Rattle.tape.specs.Tape.{reading, lengthOf, symOf, nameOf, symsFault, scalarFault, Walked}
+use Rattle.tape.specs.Refusal.{annotated, symNumbered, symsNumbered, nameNumbered}
+use Rattle.tape.specs.Checked.{Counts}
 use Rattle.tape.specs.declared.Frame.{Frame}
 use Rattle.tape.specs.declared.Frame.the-variants.{List as ListF, Sexp, Struct}
 use Rattle.tape.specs.declared.check.Front.{Front}
@@ -73,26 +73,7 @@ symsFront at b o = frontOf symsFault (λ ss. true) (λ ss. b || symsNumbered ss)
 abbrev pub notesFront : ℕ → Bool → Bool → Option (List Sym × ℕ) → Front
 notesFront at m b o = frontOf symsFault (λ ss. m || annotated ss) (λ ss. b || symsNumbered ss) at o
 
--- what is said of the nodes of a body that has no problem: how many there are, whether one is annotated, whether one is an identifier but 0
-pub record Counts (ns : Nodes) (r : Checked) : Type 0 where
-  pub count : r .count ≡ size ns
-  pub noted : r .noted ≡ noteds ns
-  pub numbered : r .numbered ≡ numbereds ns
-
 -- the walk of a body; what it says beside a problem is read by nobody
 pub record Checks (w : Walked) (r : Checked) : Type 0 where
   pub fault : r .fault ≡ w .1
   pub counts : r .fault ≡ 0 → Counts (w .0) r
-
--- a problem, and nothing told of nodes
-pub record Refuses (f : ℕ) (r : Checked) : Type 0 where
-  pub fault : r .fault ≡ f
-  pub count : r .count ≡ 0
-  pub noted : r .noted ≡ false
-  pub numbered : r .numbered ≡ false
-
--- the whole tape
-pub record TapeChecks (t : List ℕ) (r : Checked) : Type 0 where
-  pub fault : r .fault ≡ verdict t
-  pub counts : r .fault ≡ 0 → Counts (bodyOf t .0) r
-  pub nothing : (r .fault ≡ 0 → ⊥) → Refuses (verdict t) r

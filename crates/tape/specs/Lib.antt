@@ -6,4 +6,5 @@ pub mod Refusal
 pub mod Fine
 pub mod Answer
 pub mod Steps
+pub mod Checked
 pub mod CheckSteps

@@ -1,17 +1,13 @@
 -- What the contracts of the tape's functions say of their answers. Assumes nothing: these are definitions.
-use Prim.Native.Nat.{ℕ, _+_, _-_, _<_, _≤_}
-use mathlib.Core.Path.{_≡_}
+use Prim.Native.Nat.{ℕ, _+_}
 use mathlib.Core.List.{List, []}
-use mathlib.Core.Bool.{Bool}
 use mathlib.Core.Option.{Option, none, some}
 use lib.ListN.{length, take, drop}
 use lib.Dec.{leb}
-use lib.Ieee.{Float}
 use Rattle.output.specs.Logic.{if}
 use Rattle.text_rules.specs.Text.{Sym}
-use Rattle.tape.specs.Bytes.{part}
-use Rattle.tape.specs.Tree.{Scalar, Head, null, bool, int, float, decimal, timestamp, symbol, string, clob, scalar, marker}
-use Rattle.tape.specs.Tape.{reading, lengthOf, headOf, Value, absent, leaf, body, bad, single, tree, childOf}
+use Rattle.tape.specs.Tree.{Scalar, Head, null, bool, int, float, decimal, timestamp, symbol, string, clob}
+use Rattle.tape.specs.Tape.{reading, lengthOf, headOf}
 use Rattle.tape.specs.declared.Frame.{Frame}
 use Rattle.tape.specs.declared.Scalar.{Scalar as ScalarC}
 use Rattle.tape.specs.declared.Scalar.the-variants as C
@@ -19,10 +15,6 @@ use Rattle.tape.specs.declared.Symbol.{Symbol as SymbolC}
 use Rattle.tape.specs.declared.Symbol.the-variants as Y
 use Rattle.tape.specs.declared.Scanned.{Scanned}
 use Rattle.tape.specs.declared.Scanned.the-variants.{Bad as NoScalar, Is}
-use Rattle.tape.specs.declared.Item.{Item}
-use Rattle.tape.specs.declared.Item.the-variants.{Bad as NoItem, Leaf as LeafI, Marker as MarkerI, Open as OpenI}
-use Rattle.tape.specs.declared.Child.{Child as ChildC}
-use Rattle.tape.specs.declared.Child.the-variants.{Bad as NoChild, Leaf as LeafC, Marker as MarkerC, Open as OpenC}
 use Rattle.tape.specs.declared.Place.{Place}
 use Rattle.tape.specs.declared.Place.the-variants.{Bad as Nowhere, At}
 
@@ -70,43 +62,6 @@ abbrev pub scanned : Scanned → List ℕ → Option (Scalar × ℕ)
 scanned NoScalar l = none
 scanned (Is s) l = some (meantScalar s l, sizeOf s)
 
-abbrev pub meant : Item → List ℕ → Value
-meant NoItem l = absent
-meant (LeafI s) l = leaf (scalar (meantScalar s l)) (sizeOf s)
-meant MarkerI l = leaf marker 1
-meant (OpenI k n) l = body k n
-
--- what the code says of a value v that starts at p, in a body that ends at e
-abbrev pub Behinds : List ℕ → ℕ → ℕ → Value → ChildC → Type 0
-Behinds s p e v NoChild = v ≡ absent
-Behinds s p e v (LeafC q x r) = (v ≡ leaf (scalar (meantScalar x (part s p e))) (sizeOf x)) × (q ≡ p) × (r ≡ p + sizeOf x) × (r ≤ e)
-Behinds s p e v (MarkerC r) = (v ≡ leaf marker 1) × (r ≡ p + 1) × (r ≤ e)
-Behinds s p e v (OpenC f q r) = (v ≡ body f (r - q)) × (q ≡ p + 5) × (q ≤ r) × (r ≤ e)
-
-pub record Behind (s : List ℕ) (p e : ℕ) (v : Value) (r : ChildC) : Type 0 where
-  pub told : Behinds s p e v r
-
 -- the head of the child at the start of a list, if it has one that is as it must be
 abbrev pub headAt : Frame → List ℕ → Head
 headAt k l = reading (headOf k l) (none, []) (λ h n. h)
-
--- what the code says of the child at a place
-abbrev pub ChildIs : Frame → List ℕ → ℕ → ℕ → ChildC → Type 0
-ChildIs k s at e NoChild = childOf k (part s at e) ≡ bad
-ChildIs k s at e (LeafC p x r) =
-    (childOf k (part s at e) ≡ single (headAt k (part s at e)) (scalar (meantScalar x (part s p e))) (r - at))
-    × (headOf k (part s at e) ≡ some (headAt k (part s at e), p - at))
-    × (at ≤ p)
-    × (r ≡ p + sizeOf x)
-    × (r ≤ e)
-ChildIs k s at e (MarkerC r) =
-    (childOf k (part s at e) ≡ single (headAt k (part s at e)) marker (r - at)) × (headOf k (part s at e) ≡ some (headAt k (part s at e), r - 1 - at)) × (at < r) × (r ≤ e)
-ChildIs k s at e (OpenC f q r) =
-    (childOf k (part s at e) ≡ tree (headAt k (part s at e)) f (q - at) (r - q))
-    × (headOf k (part s at e) ≡ some (headAt k (part s at e), q - 5 - at))
-    × (at + 5 ≤ q)
-    × (q ≤ r)
-    × (r ≤ e)
-
-pub record ChildAt (k : Frame) (s : List ℕ) (at e : ℕ) (r : ChildC) : Type 0 where
-  pub told : ChildIs k s at e r

@@ -8,8 +8,9 @@ ghost use Rattle.output.specs.Logic.{if};
 ghost use Rattle.text_rules.specs.Utf8.{valid};
 ghost use Rattle.tape.specs.Bytes.{part, first};
 ghost use Rattle.tape.specs.Tree.{null, bool};
-ghost use Rattle.tape.specs.Tape.{kind, textOf, symOf, symsOf, nameOf, notesOf, byteOf, intOf, floatAs, floatOf, decimalOf, timestampOf, scalarOf, textFault, symFault, nameFault, walk};
-ghost use Rattle.tape.specs.CheckSteps.{codeOf, scalarCode, spanOf, numberIn, nameNumberIn, endOf, frameOf, symsFront, notesFront, Checks, Refuses, TapeChecks};
+ghost use Rattle.tape.specs.Tape.{kind, textOf, symOf, symsOf, nameOf, notesOf, byteOf, intOf, floatAs, floatOf, decimalOf, timestampOf, scalarOf, textFault, symFault, nameFault, freeAt, walk};
+ghost use Rattle.tape.specs.CheckSteps.{codeOf, scalarCode, spanOf, numberIn, nameNumberIn, endOf, frameOf, symsFront, notesFront, Checks};
+ghost use Rattle.tape.specs.Checked.{Refuses, TapeChecks};
 use crate::Frame;
 
 // Annotations: refused, always by 2; or where they end, and, of them and of the nodes before them, whether there are annotations and whether
@@ -377,6 +378,20 @@ fn name_number(tape: &[u8], at: usize, end: usize, frame: Frame) -> bool
     }
 }
 
+// Whether a marker may stand here.
+fn is_free(tape: &[u8], at: usize, end: usize, frame: Frame) -> bool
+    requires { ⌜ at < end ⌝ }
+    requires { ⌜ end ≤ length (now tape) ⌝ }
+    ensures { λ r. ⌜ r ≡ freeAt frame (part (now (tape .entry)) at end) ⌝ }
+{
+    match frame {
+        Frame::Top => tape[at] != 13,
+        Frame::List => false,
+        Frame::Sexp => false,
+        Frame::Struct => false,
+    }
+}
+
 // ---- bodies
 
 // A problem, and nothing told of nodes.
@@ -450,7 +465,7 @@ fn check_nodes(tape: &[u8], from: usize, end: usize, frame: Frame, depth: usize)
                 if k != 14 {
                     return refused(2);
                 }
-                if crate::is_free(tape, at, end, frame) {
+                if is_free(tape, at, end, frame) {
                     count += 1;
                     at = p + 1;
                 } else {

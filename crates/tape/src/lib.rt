@@ -9,8 +9,8 @@ ghost use mathlib.Core.List.{List};
 ghost use lib.ListN.{length, drop};
 ghost use Rattle.tape.specs.Bytes.{leNumber, signed, part};
 ghost use Rattle.tape.specs.Tree.{null, bool, string, clob};
-ghost use Rattle.tape.specs.Tape.{symOf, symsOf, nameOf, notesOf, headOf, byteOf, intOf, floatAs, floatOf, decimalOf, timestampAs, timestampOf, symbolOf, sizedOf, scalarOf, openOf, valueOf, freeAt};
-ghost use Rattle.tape.specs.Steps.{placeOf, lengthIn, meantSym, scanned, sizeOf, meant, Behind, ChildAt};
+ghost use Rattle.tape.specs.Tape.{symOf, symsOf, nameOf, notesOf, byteOf, intOf, floatAs, floatOf, decimalOf, timestampAs, timestampOf, symbolOf, sizedOf, scalarOf};
+ghost use Rattle.tape.specs.Steps.{placeOf, lengthIn, meantSym, scanned, sizeOf};
 use numbers::timestamp::Timestamp;
 
 // Where nodes stand side by side.
@@ -46,23 +46,6 @@ pub enum Symbol {
 pub enum Scanned {
     Bad,
     Is(Scalar),
-}
-
-// A value at a place: none; a scalar; the marker; a container, with the length of its body.
-pub enum Item {
-    Bad,
-    Leaf(Scalar),
-    Marker,
-    Open(Frame, usize),
-}
-
-// The child at a place: none; a scalar, with the places where it starts behind its head and where it ends; the marker, and where it ends;
-// a container, and where its body starts and ends.
-pub enum Child {
-    Bad,
-    Leaf(usize, Scalar, usize),
-    Marker(usize),
-    Open(Frame, usize, usize),
 }
 
 // A place, if what stands before it is as it must be.
@@ -412,50 +395,6 @@ pub fn size_of(s: Scalar) -> usize
     }
 }
 
-// ---- values
-
-fn open_at(tape: &[u8], at: usize, end: usize, frame: Frame) -> Item
-    requires { ⌜ at ≤ end ⌝ }
-    requires { ⌜ end ≤ length (now tape) ⌝ }
-    ensures { λ r. ⌜ meant r (part (now (tape .entry)) at end) ≡ openOf frame (part (now (tape .entry)) at end) ⌝ }
-{
-    let Place::At(n) = length_at(tape, at, end) else {
-        return Item::Bad;
-    };
-    Item::Open(frame, n)
-}
-
-// `free`: a marker may stand here.
-fn value_at(tape: &[u8], at: usize, end: usize, free: bool) -> Item
-    requires { ⌜ at ≤ end ⌝ }
-    requires { ⌜ end ≤ length (now tape) ⌝ }
-    ensures { λ r. ⌜ meant r (part (now (tape .entry)) at end) ≡ valueOf free (part (now (tape .entry)) at end) ⌝ }
-{
-    if at == end {
-        return Item::Bad;
-    }
-    let k = tape[at];
-    if k == 10 {
-        return open_at(tape, at, end, Frame::List);
-    }
-    if k == 11 {
-        return open_at(tape, at, end, Frame::Sexp);
-    }
-    if k == 12 {
-        return open_at(tape, at, end, Frame::Struct);
-    }
-    if k == 14 {
-        if free {
-            return Item::Marker;
-        }
-        return Item::Bad;
-    }
-    let Scanned::Is(s) = scalar_at(tape, at, end) else {
-        return Item::Bad;
-    };
-    Item::Leaf(s)
-}
-
 // ---- what stands before a value
 
 fn sym_end(tape: &[u8], at: usize, end: usize) -> Place
@@ -532,57 +471,4 @@ pub fn name_end(tape: &[u8], at: usize, end: usize, frame: Frame) -> Place
         Frame::List => Place::At(at),
         Frame::Sexp => Place::At(at),
     }
-}
-
-fn head_end(tape: &[u8], at: usize, end: usize, frame: Frame) -> Place
-    requires { ⌜ at ≤ end ⌝ }
-    requires { ⌜ end ≤ length (now tape) ⌝ }
-    ensures { λ r. ⌜ r ≡ placeOf at (headOf frame (part (now (tape .entry)) at end)) ⌝ }
-{
-    let Place::At(p) = name_end(tape, at, end, frame) else {
-        return Place::Bad;
-    };
-    notes_end(tape, p, end)
-}
-
-// ---- children
-
-// Whether a marker may stand here.
-fn is_free(tape: &[u8], at: usize, end: usize, frame: Frame) -> bool
-    requires { ⌜ at < end ⌝ }
-    requires { ⌜ end ≤ length (now tape) ⌝ }
-    ensures { λ r. ⌜ r ≡ freeAt frame (part (now (tape .entry)) at end) ⌝ }
-{
-    match frame {
-        Frame::Top => tape[at] != 13,
-        Frame::List => false,
-        Frame::Sexp => false,
-        Frame::Struct => false,
-    }
-}
-
-// The child whose value stands at p, behind its head.
-fn child_behind(tape: &[u8], p: usize, end: usize, free: bool) -> Child
-    requires { ⌜ p ≤ end ⌝ }
-    requires { ⌜ end ≤ length (now tape) ⌝ }
-    ensures { λ r. ⌜ Behind (now (tape .entry)) p end (valueOf free (part (now (tape .entry)) p end)) r ⌝ }
-{
-    let v = value_at(tape, p, end, free);
-    match v {
-        Item::Bad => Child::Bad,
-        Item::Leaf(s) => Child::Leaf(p, s, p + size_of(s)),
-        Item::Marker => Child::Marker(p + 1),
-        Item::Open(f, n) => Child::Open(f, p + 5, p + 5 + n),
-    }
-}
-
-pub fn child_at(tape: &[u8], at: usize, end: usize, frame: Frame) -> Child
-    requires { ⌜ at < end ⌝ }
-    requires { ⌜ end ≤ length (now tape) ⌝ }
-    ensures { λ r. ⌜ ChildAt frame (now (tape .entry)) at end r ⌝ }
-{
-    let Place::At(p) = head_end(tape, at, end, frame) else {
-        return Child::Bad;
-    };
-    child_behind(tape, p, end, is_free(tape, at, end, frame))
 }

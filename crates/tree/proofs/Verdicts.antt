@@ -7,7 +7,7 @@ use mathlib.Core.Option.{Option, none, some}
 use native.Mathlib.Nat.{not-suc-le-zero}
 use native.Mathlib.Omega.{arith}
 use native.Mathlib.Decide.{decLe}
-use lib.Dec.{leb, eqb}
+use lib.Dec.{eqb}
 use lib.ListN.{length, getD, take, drop}
 use lib.Seq.{length-take-le, getD-take}
 use borrow.Author.Tests.{eq-eqb, ne-eqb, eqb-true, eqb-false}
@@ -15,15 +15,15 @@ use Rattle.output.specs.Logic.{if}
 use Rattle.output.specs.Wrote.{Wrote}
 use Rattle.text_rules.specs.Text.{Sym}
 use Rattle.tape.specs.Bytes.{part, first}
-use Rattle.tape.specs.Tree.{Scalar, Head, Nodes, scalar, marker, nil, more, size}
-use Rattle.tape.specs.Tape.{reading, kind, lengthOf, nameOf, headOf, scalarOf, Value, absent, leaf, body, openOf, valueOf, Child, bad, single, tree, freeAt, headedChild, childOf, Walked, turn, level, walk, bodyOf, nodesOf}
+use Rattle.tape.specs.Tree.{Head, Nodes, marker, nil, more, size}
+use Rattle.tape.specs.Tape.{reading, kind, nameOf, headOf, Value, absent, leaf, body, valueOf, Child, bad, single, tree, freeAt, headedChild, childOf, Walked, turn, level, walk, bodyOf, nodesOf}
 use Rattle.tape.specs.Verdict.{verdict}
 use Rattle.tape.specs.Fine.{Bytes}
 use Rattle.tape.specs.Refusal.{numbereds}
 use Rattle.tape.specs.Answer.{counted, refused}
 use Rattle.tape.specs.declared.Frame.{Frame}
-use Rattle.tape.specs.declared.Frame.the-variants.{Top, List as ListF, Sexp, Struct}
-use Rattle.tape.proofs.Reading.{if-all}
+use Rattle.tape.specs.declared.Frame.the-variants.{Top}
+use Rattle.tape.proofs.Reading.{value-all}
 use Rattle.tape.proofs.Walking.{walk-end}
 use Rattle.tape.proofs.CodeReading.{value-marker, notes-none}
 use Rattle.tape.proofs.CodeFacts.{first-inner}
@@ -42,22 +42,7 @@ valueMarked (leaf n m) = isMarker n
 valueMarked (body k m) = false
 
 value-unmarked : (f : Bool) (l : List ℕ) → eqb (kind l) 14 ≡ false → valueMarked (valueOf f l) ≡ false
-unfolding valueOf openOf
-value-unmarked f l e =
-    if-all Unmarked {b = eqb (kind l) 10} (λ _. container ListF) (λ _.
-    if-all Unmarked {b = eqb (kind l) 11} (λ _. container Sexp) (λ _.
-    if-all Unmarked {b = eqb (kind l) 12} (λ _. container Struct) (λ _.
-    if-all Unmarked {b = eqb (kind l) 14} (λ t. let z : _≡_ {A = ℕ} 0 1 = cc in absurd (omega arith)) (λ _. one (scalarOf l)))))
-  where
-    Unmarked : Value → Type 0
-    Unmarked v = valueMarked v ≡ false
-
-    container : (k : Frame) → valueMarked (openOf k l) ≡ false
-    container k = if-all Unmarked {b = leb (5 + lengthOf l) (length l)} {x = body k (lengthOf l)} {y = absent} (λ _. refl) (λ _. refl)
-
-    one : (o : Option (Scalar × ℕ)) → valueMarked (reading o absent (λ s n. leaf (scalar s) n)) ≡ false
-    one none = refl
-    one (some (s, n)) = refl
+value-unmarked f l e = value-all (λ (v : Value). valueMarked v ≡ false) f l refl (λ k _ _ _. refl) (λ k _. absurd (eqb-false _ _ e k)) (λ s n _. refl)
 
 value-marked : (f : Bool) (l : List ℕ) → valueMarked (valueOf f l) ≡ if (eqb (kind l) 14) f false
 value-marked f l = go (eqb (kind l) 14) refl

@@ -6,21 +6,21 @@ use mathlib.Core.Bool.{Bool, true, false}
 use mathlib.Core.Option.{Option, none, some}
 use native.Mathlib.Omega.{arith}
 use lib.Dec.{leb, eqb}
-use lib.ListN.{length, getD, take, drop}
+use lib.ListN.{length, getD, drop}
 use Rattle.output.specs.Logic.{if, ascii}
 use Rattle.output.specs.Wrote.{Wrote, limit}
 use Rattle.output.proofs.Laws.{Progress, start, more as further, finish}
 use Rattle.text_rules.specs.Text.{Sym}
 use Rattle.tape.specs.Bytes.{part}
 use Rattle.tape.specs.Tree.{Head, encodeNotes}
-use Rattle.tape.specs.Tape.{reading, kind, lengthOf, textOf, symOf, symsOf, nameOf, notesOf, headOf}
+use Rattle.tape.specs.Tape.{reading, kind, symOf, symsOf, nameOf, notesOf, headOf}
 use Rattle.tape.specs.Steps.{placeOf, headAt}
 use Rattle.tape.specs.declared.Frame.{Frame}
 use Rattle.tape.specs.declared.Place.{Place}
 use Rattle.tape.specs.declared.Place.the-variants.{At}
 use Rattle.tape.proofs.Parts.{part-drop, part-first}
-use Rattle.tape.proofs.Reading.{if-all, notes-sound}
-use Rattle.tape.proofs.CodeReading.{place-within, head-one, notes-none}
+use Rattle.tape.proofs.Reading.{if-all, notes-sound, Long, long, sym-long}
+use Rattle.tape.proofs.CodeReading.{place-read, place-within, head-one, notes-none}
 use Rattle.writer.specs.Text.{symText, nameText, notesText, blanks}
 use Rattle.writer.specs.Steps.{nameIn, notesIn, sizeTaken, front}
 use Rattle.writer.proofs.Texts.{name-head}
@@ -29,26 +29,7 @@ use Rattle.writer.proofs.Texts.{name-head}
 both : {A : Type 0} {a b : A} {n m : ℕ} → _≡_ {A = Option (A × ℕ)} (some (a, n)) (some (b, m)) → (a ≡ b) × (n ≡ m)
 both {A} {a} e = (ap (λ (o : Option (A × ℕ)). reading o a (λ v i. v)) e, ap (λ (o : Option (A × ℕ)). reading o 0 (λ v i. i)) e)
 
--- what was read, from where it ends
-place-read : {A : Type 0} (d : A) (at v : ℕ) (o : Option (A × ℕ)) → placeOf at o ≡ At v → (at ≤ v) × (o ≡ some (reading o d (λ a n. a), v - at))
-place-read d at v none z = let y : _≡_ {A = ℕ} 0 1 = cc in absurd (omega arith)
-place-read d at v (some (a, n)) z = let y : at + n ≡ v = cc in let x : n ≡ v - at = omega arith in (omega arith, ap (λ (i : ℕ). some (a, i)) x)
-
 -- ---- annotations
-
--- a symbol takes bytes
-sym-long : (l : List ℕ) → 5 ≤ reading (symOf l) 5 (λ s n. n)
-unfolding symOf textOf
-sym-long l =
-    if-all Long {b = eqb (kind l) 6} (λ _. go (leb (5 + lengthOf l) (length l))) (λ _.
-    if-all Long {b = eqb (kind l) 7} (λ _. if-all Long {b = leb 5 (length l)} {x = some (Sym.id (lengthOf l), 5)} {y = none} (λ _. omega arith) (λ _. omega arith)) (λ _. omega arith))
-  where
-    Long : Option (Sym × ℕ) → Type 0
-    Long o = 5 ≤ reading o 5 (λ s n. n)
-
-    go : (b : Bool) → Long (reading (if b (some (take (lengthOf l) (drop 5 l), 5 + lengthOf l)) none) none (λ s n. some (Sym.text s, n)))
-    go true = omega arith
-    go false = omega arith
 
 -- one symbol of those that end at v, and the others
 record Split (s : List ℕ) (from e v : ℕ) (ss : List Sym) (x : Sym) (n : ℕ) : Type 0 where
@@ -92,13 +73,13 @@ unfolding symsOf
 syms-nothing zero l ss r = sym (both r .0)
 syms-nothing (suc c) l ss r = go (symOf l) (sym-long l) r
   where
-    inner : (x : Sym) (n : ℕ) → 5 ≤ n → (o : Option (List Sym × ℕ)) → reading {B = Option (List Sym × ℕ)} o none (λ ts j. some (x ∷ ts, n + j)) ≡ some (ss, 0) → ss ≡ []
+    inner : (x : Sym) (n : ℕ) → 1 < n → (o : Option (List Sym × ℕ)) → reading {B = Option (List Sym × ℕ)} o none (λ ts j. some (x ∷ ts, n + j)) ≡ some (ss, 0) → ss ≡ []
     inner x n h none r = let y : _≡_ {A = ℕ} 0 1 = cc in absurd (omega arith)
     inner x n h (some (ts, j)) r = let y : n + j ≡ 0 = both r .1 in absurd (omega arith)
 
-    go : (o : Option (Sym × ℕ)) → 5 ≤ reading o 5 (λ s n. n) → reading {B = Option (List Sym × ℕ)} o none (λ x n. reading (symsOf c (drop n l)) none (λ ts j. some (x ∷ ts, n + j))) ≡ some (ss, 0) → ss ≡ []
+    go : (o : Option (Sym × ℕ)) → Long o → reading {B = Option (List Sym × ℕ)} o none (λ x n. reading (symsOf c (drop n l)) none (λ ts j. some (x ∷ ts, n + j))) ≡ some (ss, 0) → ss ≡ []
     go none h r = let y : _≡_ {A = ℕ} 0 1 = cc in absurd (omega arith)
-    go (some (x, n)) h r = inner x n h (symsOf c (drop n l)) r
+    go (some (x, n)) (long h) r = inner x n h (symsOf c (drop n l)) r
 
 -- Annotations are being written: those before `from` are, those from there to v are left
 pub record Noting (a b : List ℕ) (pos p : ℕ) (whole s : List ℕ) (from e v : ℕ) : Type 0 where

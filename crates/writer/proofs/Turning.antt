@@ -12,17 +12,16 @@ use lib.ListN.{length, take, drop}
 use Rattle.output.specs.Logic.{if}
 use Rattle.tape.specs.Bytes.{part}
 use Rattle.tape.specs.Tree.{Scalar, Head, Node, scalar, nest, marker, more}
-use Rattle.tape.specs.Tape.{reading, kind, lengthOf, headOf, scalarOf, Value, absent, leaf, body, openOf, valueOf, freeAt, single, headedChild, headFault, fault, Walked, walk}
-use Rattle.tape.specs.Steps.{placeOf, headAt, ChildAt}
+use Rattle.tape.specs.Tape.{reading, kind, lengthOf, headOf, scalarOf, Value, absent, leaf, body, openOf, valueOf, freeAt, bad, single, childOf, headFault, fault, Walked, walk}
+use Rattle.tape.specs.Steps.{placeOf, headAt}
 use Rattle.tape.specs.CheckSteps.{frameOf}
 use Rattle.tape.specs.declared.Frame.{Frame}
-use Rattle.tape.specs.declared.Child.the-variants.{Bad as NoChild, Open as OpenC}
 use Rattle.tape.specs.declared.Place.the-variants.{At}
 use Rattle.tape.proofs.Parts.{part-length, part-inner}
 use Rattle.tape.proofs.Reading.{SoundV, a-leaf, a-body, value-sound}
 use Rattle.tape.proofs.CodeReading.{value-marker, value-scalar, scalar-other}
 use Rattle.tape.proofs.CodeFacts.{value-open}
-use Rattle.tape.proofs.CodeChild.{head-within, child-headless, child-is, child-from, behind-open}
+use Rattle.tape.proofs.CodeChild.{head-within, child-headless, child-is}
 use Rattle.tape.proofs.Walking.{walk-end, join-zero}
 use Rattle.tape.proofs.Turns.{bad-turn, single-step, tree-turn}
 use Rattle.writer.specs.Steps.{sizeTaken, isNil, nodeIs, sizeIs, problemIs, nodeAt, sizeAt, problemAt}
@@ -144,21 +143,21 @@ module _ (d : ℕ) (k : Frame) (s : List ℕ) (at e : ℕ) (nz : d ≡ 0 → ⊥
   abbrev place : ℕ
   place = at + sizeTaken (headOf k (part s at e))
 
-  unbad : ChildAt k s at e NoChild → ⊥
+  unbad : childOf k (part s at e) ≡ bad → ⊥
   unbad c = let y = ap (λ (w : Walked). w .1) (bad-turn d k s at e nz h i c) in omega arith
 
   pub head-here : headOf k (part s at e) ≡ some (headAt k (part s at e), sizeTaken (headOf k (part s at e)))
   head-here = go (headOf k (part s at e)) refl
     where
       go : (o : Option (Head × ℕ)) → headOf k (part s at e) ≡ o → o ≡ some (reading o (none, []) (λ h n. h), sizeTaken o)
-      go none q = absurd (unbad (record { told = child-headless k s at e (ap (placeOf at) q) }))
+      go none q = absurd (unbad (child-headless k s at e q))
       go (some (a, n)) q = refl
 
   head-place : placeOf at (headOf k (part s at e)) ≡ At place
   head-place = ap (placeOf at) head-here
 
   value-here : valueOf (freeAt k (part s at e)) (part s place e) ≡ absent → ⊥
-  value-here q = unbad (child-from k s at e place (head-within k s at e place (omega arith) i head-place .0) head-place NoChild (record { told = q }))
+  value-here q = unbad (child-is k s at e place (head-within k s at e place (omega arith) i head-place .0) head-place absent q)
 
   pub turn-here : Turn d k s at e place (place + sizeAt (part s place e))
   unfolding nodeAt sizeAt problemAt
@@ -198,7 +197,7 @@ module _ (d : ℕ) (k : Frame) (s : List ℕ) (at e : ℕ) (nz : d ≡ 0 → ⊥
           let len = part-length s place e i in
           let size : sizeAt l ≡ 5 + n = ap sizeIs (same (body f n) q) in
           let stop : place + sizeAt l ≡ place + 5 + n = omega arith in
-          let u = tree-turn d k s at e nz h i f (place + 5) (place + 5 + n) (child-from k s at e place a head-place (OpenC f (place + 5) (place + 5 + n)) (behind-open s place e (freeAt k (part s at e)) b i f n (sym q))) in
+          let u = tree-turn d k s at e nz h i place a b head-place f n q in
           let inner : take n (drop 5 l) ≡ part s (place + 5) (place + 5 + n) = part-inner s place e 5 n (omega arith) in
           let rest = ap (λ (r : ℕ). walk d k (part s r e)) stop in
           let all = join-zero (headFault (headAt k (part s at e))) (walk (d - 1) f (part s (place + 5) (place + 5 + n)) .1) (walk d k (part s (place + 5 + n) e) .1) (sym (ap (λ (w : Walked). w .1) (u .step)) ∙ z) in

@@ -39,7 +39,7 @@ use Rattle.tape.proofs.check.size_fault.Reads as size-fault
 use Rattle.tape.proofs.check.is_number.Reads as is-number
 use Rattle.tape.proofs.check.span.Reads as span
 use Rattle.tape.proofs.check.frame_of.Reads as frame-of
-use Rattle.tape.proofs.is_free.Reads as is-free
+use Rattle.tape.proofs.check.is_free.Reads as is-free
 use Rattle.tape.proofs.check.+check_nodes.{statement}
 use Rattle.tape.proofs.check.+check_nodes.Tie.{close}
 

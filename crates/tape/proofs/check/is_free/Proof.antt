@@ -1,4 +1,4 @@
--- `tape::is_free` meets its contract. Assumes nothing.
+-- `tape::check::is_free` meets its contract. Assumes nothing.
 use denote.Ref.{now}
 use lib.Dec.{eqb}
 use lib.ListN.{getD}
@@ -6,8 +6,8 @@ use Rattle.tape.proofs.Parts.{part-first}
 use Rattle.tape.specs.Tape.{freeAt}
 use Rattle.tape.proofs.CodeReading.{if-not}
 use borrow.Author.Needs.{needs}
-use Rattle.tape.proofs.is_free.Statement.{statement}
-use Rattle.tape.proofs.is_free.Tie as tie
+use Rattle.tape.proofs.check.is_free.Statement.{statement}
+use Rattle.tape.proofs.check.is_free.Tie as tie
 
 enum-told : tie.Need-enum-told
 enum-told c = search needs
