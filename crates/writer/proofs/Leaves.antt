@@ -1,7 +1,7 @@
 -- What stands at a place where a scalar or a name is known to stand, by its kind byte and the numbers on the tape. Assumes nothing.
-use Prim.Native.Nat.{ℕ, _+_, _<_, _≤_}
+use Prim.Native.Nat.{ℕ, _+_, _-_, _<_, _≤_}
 use mathlib.Core.Path.{_≡_, refl, sym, ap, _∙_}
-use mathlib.Core.List.{List}
+use mathlib.Core.List.{List, _∷_}
 use mathlib.Core.Bool.{Bool, true, false}
 use mathlib.Core.Option.{Option, none, some}
 use native.Mathlib.Omega.{arith}
@@ -9,16 +9,23 @@ use native.Mathlib.Decide.{decLe}
 use borrow.Author.Tests.{eqb-true, eqb-false}
 use lib.Dec.{eqb}
 use lib.ListN.{length, getD, take, drop}
+use lib.Seq.{getD-take}
 use Rattle.text_rules.specs.Text.{Sym}
 use Rattle.numbers.specs.declared.timestamp.Timestamp.{Timestamp}
 use Rattle.tape.specs.Bytes.{part, leNumber, signed}
-use Rattle.tape.specs.Tree.{Scalar, int, decimal, timestamp, symbol, string}
+use Rattle.tape.specs.Tree.{Scalar, int, decimal, timestamp, symbol, string, encodeSym, encodeScalar}
 use Rattle.tape.specs.Tape.{reading, kind, lengthOf, symOf, nameOf, decimalOf, timestampAs, symbolOf, sizedOf, scalarOf}
+use Rattle.tape.specs.Steps.{meantScalar, sizeOf}
+use Rattle.tape.specs.Fine.{Bytes}
 use Rattle.tape.specs.declared.Frame.the-variants.{Struct}
 use Rattle.tape.specs.declared.Place.the-variants.{Bad as Nowhere, At}
+use Rattle.tape.specs.declared.Scalar.{Scalar as ScalarC}
+use Rattle.tape.specs.declared.Scalar.the-variants as C
+use Rattle.tape.proofs.Numbers.{bytes-drop, bytes-take}
+use Rattle.tape.proofs.Reading.{Sound, something, scalar-sound}
 use Rattle.tape.proofs.Parts.{part-length, part-first, part-byte, part-number}
 use Rattle.tape.proofs.CodeReading.{int-short, int-some, decimal-short, decimal-over, decimal-some, timestamp-short, timestamp-some, timestamp-part, length-over, length-some, text-by, sym-text, sym-id, sym-none, sym-short, scalar-int, scalar-decimal, scalar-timestamp, scalar-symbol, scalar-string, scalar-empty}
-use Rattle.writer.specs.Steps.{nameIn, sizeTaken}
+use Rattle.writer.specs.Steps.{Rare, nameIn, sizeTaken}
 
 -- ---- symbols
 
@@ -139,6 +146,26 @@ module _ (s : List ℕ) (at e : ℕ) (w : at ≤ e) (i : e ≤ length s) (z : 0 
               ∙ ap (λ (o : Option (List ℕ × ℕ)). reading {B = Option (Scalar × ℕ)} o none (λ x m. some (string x, m))) (text-by l (At (lengthOf l)) (sym (length-some l f)))
               ∙ ap (λ (m : ℕ). some (string (take m (drop 5 l)), 5 + m)) g;
         }
+
+  -- a scalar that is written through `Scalar`, by the kinds that it is not of
+  module _ (all : Bytes s) where
+    kind-is : (x : Scalar) (n k : ℕ) (r : List ℕ) → 0 < n → Sound encodeScalar l (some (x, n)) → encodeScalar x ≡ k ∷ r → getD s at 0 ≡ k
+    kind-is x n k r p (something h t) q =
+        sym first-byte ∙ sym (getD-take n l 0 0 p) ∙ ap (λ (u : List ℕ). getD u 0 0) (sym (t (bytes-take (e - at) (drop at s) (bytes-drop at s all))) ∙ q)
+
+    pub rare-leaf : (x : ScalarC) → scalarOf l ≡ some (meantScalar x l, sizeOf x)
+        → (getD s at 0 ≡ 2 → ⊥) → (getD s at 0 ≡ 4 → ⊥) → (getD s at 0 ≡ 5 → ⊥) → (getD s at 0 ≡ 6 → ⊥) → (getD s at 0 ≡ 8 → ⊥) → Rare x
+    unfolding encodeScalar encodeSym
+    rare-leaf (C.Null t) q a b c d f = tt
+    rare-leaf (C.«Bool» t) q a b c d f = tt
+    rare-leaf (C.Int n) q a b c d f = a (kind-is (int n) 9 2 _ (omega arith) (rw q at (scalar-sound l)) refl)
+    rare-leaf (C.«Float» x) q a b c d f = tt
+    rare-leaf (C.Decimal neg m x) q a b c d f = b (kind-is (decimal neg m x) 14 4 _ (omega arith) (rw q at (scalar-sound l)) refl)
+    rare-leaf (C.Timestamp x) q a b c d f = c (kind-is (timestamp x) 16 5 _ (omega arith) (rw q at (scalar-sound l)) refl)
+    rare-leaf (C.Symbol n) q a b c d f = d (kind-is (symbol (Sym.text (take n (drop 5 l)))) (5 + n) 6 _ (omega arith) (rw q at (scalar-sound l)) refl)
+    rare-leaf (C.Id i) q a b c d f = tt
+    rare-leaf (C.«String» n) q a b c d f = f (kind-is (string (take n (drop 5 l))) (5 + n) 8 _ (omega arith) (rw q at (scalar-sound l)) refl)
+    rare-leaf (C.Clob n) q a b c d f = tt
 
 -- ---- names
 

@@ -12,8 +12,23 @@ use Rattle.text_rules.specs.Text.{Sym, symbolText}
 use Rattle.tape.specs.Tree.{Head, Node, Nodes, scalar, nest, marker, nil, more}
 use Rattle.tape.specs.Tape.{reading, nameOf, notesOf, Value, absent, leaf, body, valueOf, walk}
 use Rattle.tape.specs.declared.Frame.{Frame}
+use Rattle.tape.specs.declared.Scalar.{Scalar as ScalarC}
+use Rattle.tape.specs.declared.Scalar.the-variants as C
 use Rattle.writer.specs.declared.whitespace_config.Separator.{Separator}
 use Rattle.writer.specs.Text.{scalarText, nameText, notesText, opening, closing, separator, broken, deeper, blanks}
+
+-- the scalars that go through the code's `Scalar`: a null, a bool, a float, an identifier, a clob. The others are written straight from the tape
+abbrev pub Rare : ScalarC → Type 0
+Rare (C.Null t) = Unit
+Rare (C.«Bool» b) = Unit
+Rare (C.Int n) = ⊥
+Rare (C.«Float» x) = Unit
+Rare (C.Decimal neg m e) = ⊥
+Rare (C.Timestamp x) = ⊥
+Rare (C.Symbol n) = ⊥
+Rare (C.Id i) = Unit
+Rare (C.«String» n) = ⊥
+Rare (C.Clob n) = Unit
 
 -- the name of the child that the bytes l start with, if it has one
 abbrev pub nameIn : Frame → List ℕ → Option Sym

@@ -16,7 +16,7 @@ ghost use Rattle.output.specs.Logic.{if, ascii};
 ghost use Rattle.writer.specs.Text.{scalarText, nameText, notesText, blanks, closing};
 ghost use Rattle.text_rules.specs.Text.{symbolText, stringText, clobText};
 ghost use Rattle.tape.specs.declared.Frame.the-variants.{Struct};
-ghost use Rattle.writer.specs.Steps.{nameIn, notesIn, sizeTaken, front, separating, Plain, item, items, nodeAt, sizeAt, problemAt};
+ghost use Rattle.writer.specs.Steps.{Rare, nameIn, notesIn, sizeTaken, front, separating, Plain, item, items, nodeAt, sizeAt, problemAt};
 use crate::whitespace_config;
 use crate::whitespace_config::Separator;
 use tape::Frame;
@@ -73,24 +73,21 @@ fn write_clob(buf: &mut [u8], pos: usize, tape: &[u8], at: usize, n: usize, end:
     text_rules::clobs::format_clob(buf, pos, &tape[from..to])
 }
 
-// The scalar s, whose node stands at a place. Of its arms `write_leaf` needs nulls, bools, floats, identifiers and clobs.
+// The scalar s, whose node stands at a place: a null, a bool, a float, an identifier or a clob. `write_leaf` has written the other kinds itself.
 fn write_scalar(buf: &mut [u8], pos: usize, tape: &[u8], at: usize, end: usize, s: Scalar) -> usize
     requires { ⌜ pos ≤ limit ⌝ }
     requires { ⌜ at + sizeOf s ≤ end ⌝ }
     requires { ⌜ end ≤ length (now tape) ⌝ }
+    requires { ⌜ Rare s ⌝ }
     ensures { λ r. ⌜ Wrote (now (buf .entry)) (now (buf .exit)) pos r (scalarText (meantScalar s (part (now (tape .entry)) at end))) ⌝ }
 {
     match s {
         Scalar::Null(t) => text_formatter::format_null(buf, pos, t),
         Scalar::Bool(b) => text_formatter::format_bool(buf, pos, b),
-        Scalar::Int(n) => numbers::int::format_integer(buf, pos, n),
         Scalar::Float(x) => text_formatter::format_float(buf, pos, x),
-        Scalar::Decimal(negative, m, e) => numbers::decimal::format_text(buf, pos, negative, m, e),
-        Scalar::Timestamp(x) => numbers::timestamp::format(buf, pos, x),
-        Scalar::Symbol(n) => text_formatter::format_symbol_at(buf, pos, tape, at + 5, n),
         Scalar::Id(i) => text_formatter::format_symbol_id(buf, pos, i),
-        Scalar::String(n) => write_string(buf, pos, tape, at, n, end),
         Scalar::Clob(n) => write_clob(buf, pos, tape, at, n, end),
+        _ => pos,
     }
 }
 

@@ -11,10 +11,11 @@ use Rattle.tape.specs.Bytes.{part}
 use Rattle.tape.specs.Tree.{encodeScalar}
 use Rattle.tape.specs.Tape.{scalarOf}
 use Rattle.tape.specs.Steps.{placeOf}
+use Rattle.tape.specs.Fine.{Bytes}
 use Rattle.tape.proofs.Reading.{scalar-sound}
 use Rattle.tape.proofs.CodeReading.{place-within}
 use Rattle.writer.specs.Text.{scalarText}
-use Rattle.writer.proofs.Leaves.{leaf-place, int-leaf, decimal-leaf, timestamp-leaf, string-leaf}
+use Rattle.writer.proofs.Leaves.{leaf-place, int-leaf, decimal-leaf, timestamp-leaf, string-leaf, rare-leaf}
 use Rattle.tape.proofs.Parts.{trailed}
 use borrow.Author.Needs.{needs}
 use Rattle.writer.proofs.value_writer.write_leaf.Statement.{statement}
@@ -194,7 +195,9 @@ write-scalar-requires c κs =
     let a = s .args in
     let e = sym (rw (c .before .before .s .given .1) at (c .before .before .before .before .scalar-at .ensures)) in
     let r = place-within encodeScalar (now (a .tape)) (a .at) (a .end) _ (scalarOf (part (now (a .tape)) (a .at) (a .end))) (s .pre .1 .0) (trailed (s .pre .1 .1 .0)) (scalar-sound _) (ap (placeOf (a .at)) e) .1 in
-    (s .pre .0, (r, trailed (s .pre .1 .1 .0)))
+    let all : Bytes (now (a .tape)) = λ i. c .before .before .before .before .before .before .before .before .before .before .before .shared-slice-known .given i .fits in
+    let rare = rare-leaf (now (a .tape)) (a .at) (a .end) (s .pre .1 .0) (trailed (s .pre .1 .1 .0)) (s .pre .1 .1 .1) all (c .before .before .s .given .0 .0) e (c .before .before .before .before .before .before .before .before .before .if1 .left) (c .before .before .before .before .before .before .before .before .if2 .left) (c .before .before .before .before .before .before .before .if3 .left) (c .before .before .before .before .before .before .if4 .left) (c .before .before .before .before .before .if5 .left) in
+    (s .pre .0, (r, (trailed (s .pre .1 .1 .0), rare)))
 
 size-of-requires : tie.Need-size-of-requires
 size-of-requires c κs =
