@@ -4,9 +4,9 @@ ghost use Prim.Native.Nat.{_+_, _<_, _≤_};
 ghost use lib.ListN.{length};
 ghost use Rattle.output.specs.Wrote.{limit};
 use crate::line;
-use tape::Child;
 use tape::Frame;
 use tape::Place;
+use tape::Scanned;
 use tape::answer::Answer;
 
 // ---- places
@@ -17,36 +17,12 @@ struct Span {
     next: usize,
 }
 
-fn span_at(tape: &[u8], at: usize, end: usize, frame: Frame) -> Span
-    requires { ⌜ at < end ⌝ }
-    requires { ⌜ end ≤ length (now tape) ⌝ }
-    ensures { λ r. ⌜ (at ≤ r .value) × (r .value ≤ r .next) × (r .next ≤ end) ⌝ }
-{
-    let c = tape::child_at(tape, at, end, frame);
-    match c {
-        Child::Bad => Span {
-            value: at,
-            next: at,
-        },
-        Child::Leaf(value, _, next) => Span { value, next },
-        Child::Marker(next) => Span {
-            value: next - 1,
-            next,
-        },
-        Child::Open(_, start, next) => Span {
-            value: start - 5,
-            next,
-        },
-    }
-}
-
-// Where the name at a place ends, which is there if it has none; the end of all where it is not as it must be.
-fn name_end(tape: &[u8], at: usize, end: usize, frame: Frame) -> usize
+// A place, if it lies between two others; else the second.
+fn between(p: Place, at: usize, end: usize) -> usize
     requires { ⌜ at ≤ end ⌝ }
-    requires { ⌜ end ≤ length (now tape) ⌝ }
     ensures { λ r. ⌜ (at ≤ r) × (r ≤ end) ⌝ }
 {
-    let Place::At(q) = tape::name_end(tape, at, end, frame) else {
+    let Place::At(q) = p else {
         return end;
     };
     if q < at {
@@ -56,6 +32,85 @@ fn name_end(tape: &[u8], at: usize, end: usize, frame: Frame) -> usize
         return end;
     }
     q
+}
+
+// Where the container at a place ends; at the place itself where there is none.
+fn container_end(tape: &[u8], at: usize, end: usize) -> usize
+    requires { ⌜ at ≤ end ⌝ }
+    requires { ⌜ end ≤ length (now tape) ⌝ }
+    ensures { λ r. ⌜ (at ≤ r) × (r ≤ end) ⌝ }
+{
+    if end - at < 5 {
+        return at;
+    }
+    let n = tape::u32_at(tape, at + 1) as usize;
+    if end - at - 5 < n {
+        return at;
+    }
+    at + 5 + n
+}
+
+// The same for a scalar.
+fn scalar_end(tape: &[u8], at: usize, end: usize) -> usize
+    requires { ⌜ at ≤ end ⌝ }
+    requires { ⌜ end ≤ length (now tape) ⌝ }
+    ensures { λ r. ⌜ (at ≤ r) × (r ≤ end) ⌝ }
+{
+    let Scanned::Is(s) = tape::scalar_at(tape, at, end) else {
+        return at;
+    };
+    at + tape::size_of(s)
+}
+
+// Where the value at a place ends; at the place itself where none starts. `free`: a marker may stand there.
+fn value_end(tape: &[u8], at: usize, end: usize, free: bool) -> usize
+    requires { ⌜ at ≤ end ⌝ }
+    requires { ⌜ end ≤ length (now tape) ⌝ }
+    ensures { λ r. ⌜ (at ≤ r) × (r ≤ end) ⌝ }
+{
+    if at == end {
+        return at;
+    }
+    let kind = tape[at];
+    if is_container(kind) {
+        return container_end(tape, at, end);
+    }
+    if kind == 14 {
+        if free {
+            return at + 1;
+        }
+        return at;
+    }
+    scalar_end(tape, at, end)
+}
+
+// A name and annotations stand before a value. A marker stands at top level, where there are no names, and has no annotations.
+fn span_at(tape: &[u8], at: usize, end: usize, frame: Frame, level: usize) -> Span
+    requires { ⌜ at ≤ end ⌝ }
+    requires { ⌜ end ≤ length (now tape) ⌝ }
+    ensures { λ r. ⌜ (at ≤ r .value) × (r .value ≤ r .next) × (r .next ≤ end) ⌝ }
+{
+    let name = name_end(tape, at, end, frame);
+    let value = between(tape::notes_end(tape, name, end), name, end);
+    let next = value_end(tape, value, end, is_bare_top(level, at, value));
+    Span { value, next }
+}
+
+// Where the name at a place ends, which is there if it has none; the end of all where it is not as it must be.
+fn name_end(tape: &[u8], at: usize, end: usize, frame: Frame) -> usize
+    requires { ⌜ at ≤ end ⌝ }
+    requires { ⌜ end ≤ length (now tape) ⌝ }
+    ensures { λ r. ⌜ (at ≤ r) × (r ≤ end) ⌝ }
+{
+    between(tape::name_end(tape, at, end, frame), at, end)
+}
+
+// Whether a child stands at top level, with nothing before its value.
+fn is_bare_top(level: usize, at: usize, value: usize) -> bool {
+    if level != 0 {
+        return false;
+    }
+    at == value
 }
 
 fn is_container(kind: u8) -> bool {
@@ -295,7 +350,7 @@ pub fn nodes(
 {
     let mut at = from;
     while at < end {
-        let s = span_at(tape, at, end, frame);
+        let s = span_at(tape, at, end, frame, level);
         let value = s.value;
         let next = s.next;
         if next == value {
