@@ -5,9 +5,10 @@ use tape::answer::Answer;
 
 // `refused`, a blank, the number and LF.
 fn refuse(a: Answer) {
-    io::write_all(STDOUT_FILENO, b"refused ");
-    io::print_decimal(STDOUT_FILENO, tape::answer::number(a) as u64);
-    io::write_all(STDOUT_FILENO, b"\n");
+    let mut line = [0u8; 16];
+    let n = program_io::put_refusal(&mut line, 0, tape::answer::number(a));
+    let e = output::put(&mut line, n, b'\n');
+    program_io::print(&line, e);
 }
 
 // The Lines text of a tape, as it is.
@@ -16,10 +17,7 @@ fn show(tape: &[u8]) {
     let a = writer::writer::write_stream(1, tape, &mut out);
     match a {
         Answer::Count(n) => {
-            // a count is no more than the buffer has
-            if n <= 65536 {
-                io::write_all(STDOUT_FILENO, &out[0..n]);
-            }
+            program_io::print(&out, n);
         }
         _ => refuse(a),
     }

@@ -1,62 +1,26 @@
 // Reads texts on standard input, each ended by a byte 255 (which no text of the grammar holds), and prints the tape of each in hex on a
 // line, or its refusal. The texts and what they must give are the table of tests/readings.py.
 use libc::STDIN_FILENO;
-use libc::STDOUT_FILENO;
-use tape::answer::Answer;
-
-fn digit(d: u8) -> u8 {
-    if d < 10 {
-        return b'0' + d;
-    }
-    if d < 16 {
-        return b'a' + (d - 10);
-    }
-    b'?'
-}
-
-// Every byte as two hex digits, then LF.
-fn hex(bytes: &[u8]) {
-    let mut i: usize = 0;
-    while i < bytes.len() {
-        let b = bytes[i];
-        let pair = [digit(b / 16), digit(b % 16)];
-        io::write_all(STDOUT_FILENO, &pair);
-        i += 1;
-    }
-    io::write_all(STDOUT_FILENO, b"\n");
-}
-
-// `refused`, a blank, the number and LF.
-fn refuse(a: Answer) {
-    io::write_all(STDOUT_FILENO, b"refused ");
-    io::print_decimal(STDOUT_FILENO, tape::answer::number(a) as u64);
-    io::write_all(STDOUT_FILENO, b"\n");
-}
 
 // One text's tape, in a buffer of 1024 bytes.
 fn show(text: &[u8]) {
     let mut out = [0u8; 1024];
+    let mut line = [0u8; 2049];
     let a = reader::read_text(text, &mut out);
-    match a {
-        Answer::Count(n) => {
-            if n <= 1024 {
-                hex(&out[0..n]);
-            }
-        }
-        _ => refuse(a),
-    }
+    let n = program_io::put_answer(&mut line, 0, a, &out);
+    let e = output::put(&mut line, n, b'\n');
+    program_io::print(&line, e);
 }
 
 fn all(texts: &[u8]) {
-    let mut start: usize = 0;
-    let mut i: usize = 0;
-    while i < texts.len() {
-        let end = i;
-        i += 1;
-        if texts[end] == 255 {
-            show(&texts[start..end]);
-            start = i;
+    let mut at: usize = 0;
+    while at < texts.len() {
+        let end = program_io::find(texts, at, 255);
+        if end == texts.len() {
+            return;
         }
+        show(&texts[at..end]);
+        at = end + 1;
     }
 }
 

@@ -1,45 +1,11 @@
 // Writes the texts of tapes on standard input, a line for each: the count or the refusal, a blank, and the whole buffer in hex.
 // A tape stands in a frame: a byte layout, or `t` for the tree text, u32 room (at most 4096), u32 length, and its bytes. The buffer has `room` bytes, each `#`
 // before the call. The frames and what they must give are the table of tests/writings.py.
+ghost use Prim.Native.Nat.{_≤_};
+ghost use Rattle.output.specs.Wrote.{limit};
 use libc::STDIN_FILENO;
 use libc::STDOUT_FILENO;
 use tape::answer::Answer;
-
-fn digit(d: u8) -> u8 {
-    if d < 10 {
-        return b'0' + d;
-    }
-    if d < 16 {
-        return b'a' + (d - 10);
-    }
-    b'?'
-}
-
-// Every byte as two hex digits, then LF.
-fn hex(bytes: &[u8]) {
-    let mut i: usize = 0;
-    while i < bytes.len() {
-        let b = bytes[i];
-        let pair = [digit(b / 16), digit(b % 16)];
-        io::write_all(STDOUT_FILENO, &pair);
-        i += 1;
-    }
-    io::write_all(STDOUT_FILENO, b"\n");
-}
-
-// The count, or `refused`, a blank and the number; then a blank.
-fn say(a: Answer) {
-    match a {
-        Answer::Count(n) => {
-            io::print_decimal(STDOUT_FILENO, n as u64);
-        }
-        _ => {
-            io::write_all(STDOUT_FILENO, b"refused ");
-            io::print_decimal(STDOUT_FILENO, tape::answer::number(a) as u64);
-        }
-    }
-    io::write_all(STDOUT_FILENO, b" ");
-}
 
 fn write(layout: u8, tape: &[u8], out: &mut [u8]) -> Answer {
     if layout == b't' {
@@ -48,48 +14,52 @@ fn write(layout: u8, tape: &[u8], out: &mut [u8]) -> Answer {
     writer::writer::write_stream(layout as u32, tape, out)
 }
 
+// The count, or the refusal.
+fn put_count(line: &mut [u8], a: Answer) -> usize
+    ensures { λ r. ⌜ r ≤ limit ⌝ }
+{
+    match a {
+        Answer::Count(n) => text_rules::digits::put_digits(line, 0, n as u64),
+        _ => program_io::put_refusal(line, 0, tape::answer::number(a)),
+    }
+}
+
 fn show(layout: u8, tape: &[u8], out: &mut [u8]) {
+    let mut line = [0u8; 8224];
     let a = write(layout, tape, out);
-    say(a);
-    hex(out);
+    let p = put_count(&mut line, a);
+    let q = output::put(&mut line, p, b' ');
+    let r = program_io::put_hex(&mut line, q, out);
+    let e = output::put(&mut line, r, b'\n');
+    program_io::print(&line, e);
 }
 
-fn show_in(layout: u8, tape: &[u8], room: usize) {
+// Whether a frame asks for a buffer that it can have.
+fn frame(frame: &[u8]) -> bool {
     let mut out = [b'#'; 4096];
-    if room <= 4096 {
-        show(layout, tape, &mut out[0..room]);
+    if frame.len() < 9 {
+        return false;
     }
-}
-
-// Shows the frame at the input's start and answers its length, or 0 where it is malformed.
-fn frame(input: &[u8]) -> usize {
-    if input.len() < 9 {
-        return 0;
-    }
-    let room = tape::u32_at(input, 1) as usize;
-    let length = tape::u32_at(input, 5) as usize;
+    let room = tape::u32_at(frame, 1) as usize;
     if 4096 < room {
-        return 0;
+        return false;
     }
-    if input.len() - 9 < length {
-        return 0;
-    }
-    show_in(input[0], &input[9..9 + length], room);
-    9 + length
+    show(frame[0], &frame[9..], &mut out[0..room]);
+    true
 }
 
 // Whether all of the input is frames. Stops before the first that is malformed.
 fn all(input: &[u8]) -> bool {
     let mut at: usize = 0;
     while at < input.len() {
-        let n = frame(&input[at..input.len()]);
-        if n == 0 {
+        let end = program_io::frame_end(input, at, 9);
+        if end == at {
             return false;
         }
-        if input.len() - at < n {
+        if !frame(&input[at..end]) {
             return false;
         }
-        at += n;
+        at = end;
     }
     true
 }

@@ -6,19 +6,19 @@ use Rattle.readings.proofs.all.Statement.{statement}
 use Rattle.readings.proofs.all.Tie as tie
 
 abbrev Inv-loop : tie.InvT-loop
-Inv-loop texts start₀ i₀ start i = (start ≤ i) × (i ≤ length texts)
+Inv-loop texts at₀ at = at ≤ length texts
 
 abbrev μ-loop : tie.MeasureT-loop
-μ-loop texts start₀ i₀ start i = length texts - i
+μ-loop texts at₀ at = length texts - at
 
 loop-holds : tie.Need-loop-holds Inv-loop μ-loop
 loop-holds c = search needs
 
-add-i : tie.Need-add-i Inv-loop μ-loop
-add-i c = search needs
+find-requires : tie.Need-find-requires Inv-loop μ-loop
+find-requires c κs = search needs
 
-shared-slice-read-if1 : tie.Need-shared-slice-read-if1 Inv-loop μ-loop
-shared-slice-read-if1 c = search needs
+returns : tie.Need-returns Inv-loop μ-loop
+returns c = search needs
 
 sub-show : tie.Need-sub-show Inv-loop μ-loop
 sub-show c = search needs
@@ -32,20 +32,17 @@ part-show-end c = search needs
 show-requires : tie.Need-show-requires Inv-loop μ-loop
 show-requires c κs = search needs
 
+add-at : tie.Need-add-at Inv-loop μ-loop
+add-at c = search needs
+
 loop-less : tie.Need-loop-less Inv-loop μ-loop
 loop-less c = search needs
 
 loop-again : tie.Need-loop-again Inv-loop μ-loop
 loop-again c = search needs
 
-loop-less-2 : tie.Need-loop-less-2 Inv-loop μ-loop
-loop-less-2 c = search needs
-
-loop-again-2 : tie.Need-loop-again-2 Inv-loop μ-loop
-loop-again-2 c = search needs
-
-returns : tie.Need-returns Inv-loop μ-loop
-returns c = search needs
+returns-2 : tie.Need-returns-2 Inv-loop μ-loop
+returns-2 c = search needs
 
 pub all-spec : {M : Type 1} → statement M
 all-spec =
@@ -54,14 +51,13 @@ all-spec =
     Inv-loop
     μ-loop
     loop-holds
-    add-i
-    shared-slice-read-if1
+    find-requires
+    returns
     sub-show
     part-show-start
     part-show-end
     show-requires
+    add-at
     loop-less
     loop-again
-    loop-less-2
-    loop-again-2
-    returns)
+    returns-2)
