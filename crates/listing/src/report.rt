@@ -1,4 +1,9 @@
 // What was seen so far, as eight numbers, and what is printed.
+ghost use mathlib.Core.Path.{_≡_};
+ghost use Prim.Native.Nat.{_<_};
+ghost use lib.ListN.{getD, set};
+ghost use lib.Dec.{eqb};
+ghost use Rattle.listing.specs.Seen.{oneMore, differences, Keeps, Differs};
 use libc::STDOUT_FILENO;
 use tape::answer::Answer;
 
@@ -19,24 +24,34 @@ pub const READS: usize = 6;
 
 const DIFFERENCES: usize = 7;
 
-pub fn count(seen: &mut [usize; 8], which: usize) {
-    if which < 8 {
-        if seen[which] < 4294967295 {
-            seen[which] = seen[which] + 1;
-        }
+pub fn count(seen: &mut [usize; 8], which: usize)
+    requires { ⌜ which < 8 ⌝ }
+    ensures { λ _. ⌜ now (seen .exit) ≡ oneMore (now (seen .entry)) which ⌝ }
+    ensures { λ _. ⌜ Keeps (now (seen .entry)) (now (seen .exit)) ⌝ }
+{
+    if seen[which] < 4294967295 {
+        seen[which] = seen[which] + 1;
     }
 }
 
-pub fn new_line(seen: &mut [usize; 8]) {
+pub fn new_line(seen: &mut [usize; 8])
+    ensures { λ _. ⌜ now (seen .exit) ≡ oneMore (now (seen .entry)) 0 ⌝ }
+    ensures { λ _. ⌜ Keeps (now (seen .entry)) (now (seen .exit)) ⌝ }
+{
     count(seen, LINE);
 }
 
-pub fn new_tape(seen: &mut [usize; 8], length: usize) {
+pub fn new_tape(seen: &mut [usize; 8], length: usize)
+    ensures { λ _. ⌜ now (seen .exit) ≡ set (oneMore (now (seen .entry)) 2) 1 length ⌝ }
+    ensures { λ _. ⌜ Keeps (now (seen .entry)) (now (seen .exit)) ⌝ }
+{
     count(seen, TAPES);
     seen[LENGTH] = length;
 }
 
-pub fn tape_length(seen: &[usize; 8]) -> usize {
+pub fn tape_length(seen: &[usize; 8]) -> usize
+    ensures { λ r. ⌜ r ≡ getD (now (seen .entry)) 1 0 ⌝ }
+{
     seen[LENGTH]
 }
 
@@ -48,28 +63,26 @@ fn say_number(n: usize) {
     io::print_decimal(STDOUT_FILENO, n as u64);
 }
 
-// Every byte as two hex digits.
+// Every byte as two hex digits. No buffer that is compared has more than half of this room.
 fn say_hex(bytes: &[u8]) {
-    let mut i: usize = 0;
-    while i < bytes.len() {
-        io::print_hex(STDOUT_FILENO, wide(bytes[i]), 2);
-        i += 1;
-    }
-}
-
-fn wide(b: u8) -> u64 {
-    b as u64
+    let mut digits = io::large_buffer();
+    let n = program_io::put_hex(&mut digits, 0, bytes);
+    program_io::print(&digits, n);
 }
 
 // `line` and its number; every difference starts so.
-pub fn difference(seen: &mut [usize; 8]) {
+fn difference(seen: &mut [usize; 8])
+    ensures { λ _. ⌜ Differs (now (seen .entry)) (now (seen .exit)) ⌝ }
+{
     count(seen, DIFFERENCES);
     say(b"line ");
     say_number(seen[LINE]);
 }
 
 // A line of the list that is none: a difference too.
-pub fn malformed(seen: &mut [usize; 8]) {
+pub fn malformed(seen: &mut [usize; 8])
+    ensures { λ _. ⌜ Differs (now (seen .entry)) (now (seen .exit)) ⌝ }
+{
     difference(seen);
     say(b": malformed\n");
 }
@@ -85,7 +98,7 @@ fn say_answer(refusal: u8, count: usize) {
 }
 
 // What was done, with how much room.
-pub fn doing(what: u8, room: usize) {
+fn doing(what: u8, room: usize) {
     say(b" ");
     say(&[what]);
     say(b" room ");
@@ -93,22 +106,15 @@ pub fn doing(what: u8, room: usize) {
 }
 
 // The answer and the bytes that were due, but for what the buffer keeps behind them.
-pub fn expected(refusal: u8, count: usize, bytes: &[u8]) {
+fn expected(refusal: u8, bytes: &[u8]) {
     say(b": expected ");
-    say_answer(refusal, count);
+    say_answer(refusal, bytes.len());
     say(b" ");
     say_hex(bytes);
 }
 
-// The same for a line call: where it went on, and the nodes of the text.
-pub fn line_of(next: usize, nodes: &[u8]) {
-    say(b" line call to ");
-    say_number(next);
-    say(b": expected a node of ");
-    say_hex(nodes);
-}
-
-pub fn found(a: Answer, out: &[u8]) {
+// The answer and the whole buffer.
+fn found(a: Answer, out: &[u8]) {
     say(b" found ");
     match a {
         Answer::Count(n) => say_number(n),
@@ -120,16 +126,49 @@ pub fn found(a: Answer, out: &[u8]) {
     say(b"\n");
 }
 
+// A call that did not answer what was due, or did not leave its buffer so.
+pub fn differs(
+    what: u8,
+    refusal: u8,
+    bytes: &[u8],
+    a: Answer,
+    out: &[u8],
+    seen: &mut [usize; 8],
+)
+    ensures { λ _. ⌜ Differs (now (seen .entry)) (now (seen .exit)) ⌝ }
+{
+    difference(seen);
+    doing(what, out.len());
+    expected(refusal, bytes);
+    found(a, out);
+}
+
+// The same for a line call: where it went on, and the nodes of the text.
+pub fn line_differs(next: usize, nodes: &[u8], a: Answer, out: &[u8], seen: &mut [usize; 8])
+    ensures { λ _. ⌜ Differs (now (seen .entry)) (now (seen .exit)) ⌝ }
+{
+    difference(seen);
+    say(b" line call to ");
+    say_number(next);
+    say(b": expected a node of ");
+    say_hex(nodes);
+    found(a, out);
+}
+
 fn say_count(n: usize, of: &[u8]) {
     say_number(n);
     say(of);
 }
 
-pub fn sum(seen: &[usize; 8]) {
+// Whether nothing differed; how much was compared is printed.
+pub fn sum(seen: &[usize; 8]) -> bool
+    ensures { λ r. ⌜ r ≡ eqb (differences (now (seen .entry))) 0 ⌝ }
+{
     say_count(seen[TAPES], b" tapes, ");
     say_count(seen[TEXTS], b" texts, ");
     say_count(seen[REFUSALS], b" refusals; ");
     say_count(seen[WRITES], b" writes, ");
     say_count(seen[READS], b" reads; ");
     say_count(seen[DIFFERENCES], b" differences\n");
+    seen[DIFFERENCES] == 0
 }

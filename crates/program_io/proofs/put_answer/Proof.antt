@@ -70,7 +70,7 @@ same-length-4 c = search needs
 returns-4 : tie.Need-returns-4
 returns-4 c =
     let a = c .before .before .before .before .before .before .before .before .args in
-    let e = ap (λ (o : Outcome). answerText o (a .out .now)) (is-refusal (a .a) (c .before .before .before .before .before .match .keys3)) in
+    let e = ap (λ (o : Outcome). answerText o (a .out .now)) (is-refusal (a .a) (c .before .before .before .before .before .match .keys3) .0) in
     rw (e, ← c .before .before .before .number .ensures) (c .before .before .put-refusal .ensures)
 
 pub put-answer-spec : {M : Type 1} → statement M

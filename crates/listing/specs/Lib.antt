@@ -1,0 +1,4 @@
+pub mod Due
+pub mod Spelling
+pub mod DecodeSteps
+pub mod Seen
