@@ -8,7 +8,7 @@ use mathlib.Core.Option.{some, none}
 use native.Mathlib.Omega.{arith}
 use lib.Dec.{ltb}
 use lib.IntN.{pos}
-use lib.ListN.{length, drop}
+use lib.ListN.{length}
 use borrow.Author.Tests.{ltb-true}
 use Rattle.output.specs.Logic.{if, ascii}
 use Rattle.output.specs.Wrote.{leBytes}
@@ -23,10 +23,10 @@ use Rattle.tape.specs.Tree.{Node, Nodes, int, symbol, scalar, nil, more, size, 
 use Rattle.tape.specs.Tape.{nodesOf}
 use Rattle.tape.specs.Refusal.{noted}
 use Rattle.tape.specs.Fine.{Bytes, FineText, FineHead, Fine, Fines}
-use Rattle.tape.specs.Answer.{Outcome, counted, ended}
+use Rattle.tape.specs.Answer.{counted, ended}
 use Rattle.tape.specs.declared.Frame.the-variants.{Top}
 use Rattle.line_reader.specs.Cut.{grow, linesOf, lfs, toFirst, fromLast}
-use Rattle.line_reader.specs.Book.{Call, success, endMark, lineTape, room, byBook, play}
+use Rattle.line_reader.specs.Book.{success, endMark, lineTape, room, byBook, play}
 use Rattle.line_reader.specs.Damage.{Written, asWritten, before, between, behindRun, damaged}
 use Rattle.line_reader.specs.Calls.{calls}
 use Rattle.writer.specs.Outcome.{refusal}
@@ -34,8 +34,8 @@ use Rattle.writer.specs.Text.{symText, scalarText, nameText, separator, text, t
 use Rattle.text_rules.proofs.DigitLaws.{never}
 use Rattle.tape.proofs.Accepted.{tape-accepted, tape-nodes}
 use Rattle.claims.specs.Demand3.{writtenAs}
+use Rattle.claims.specs.Examples.{intTape, xTape, x3Tape, call, tapeOver}
 use Rattle.claims.proofs.TokensRead.{bytes-none, bytes-more}
-use Rattle.claims.proofs.LineBack.{line, lineBody}
 use Rattle.claims.proofs.Demand3.{line-reads, tape-fits, demand-3-calls}
 
 -- ---- bytes, by looking at each
@@ -104,42 +104,25 @@ three-damaged head run new tail buf n e l =
 -- ---- symbols between
 
 -- a symbol's line is read to its tape, with room
-symbol-read : (s l t : List ℕ) (at : ℕ) (buf : List ℕ) → FineText s → line (none, []) (word s) ≡ l → tape (value (word s) nil) ≡ t → length t ≤ length buf → length t ≤ 1048576
+symbol-read : (s l t : List ℕ) (at : ℕ) (buf : List ℕ) → FineText s → streamText 1 (value (word s) nil) ≡ l → tape (value (word s) nil) ≡ t → length t ≤ length buf → length t ≤ 1048576
     → byBook l at buf ≡ success l t at buf
 unfolding byBook room Fine noted
 symbol-read s l t at buf f e e′ h m =
     let r : lineTape l ≡ some t = rw (← e, ← e′) (line-reads (none, []) (word s) (head-fine, f, tt) refl) in
     rw (r, tape-fits t (length buf) h m)
 
-abbrev xTape : List ℕ
-xTape = 6 ∷ 1 ∷ 0 ∷ 0 ∷ 0 ∷ 120 ∷ 6 ∷ 0 ∷ 0 ∷ 0 ∷ 1 ∷ 0 ∷ 0 ∷ 0 ∷ []
-
-abbrev x3Tape : List ℕ
-x3Tape = 6 ∷ 2 ∷ 0 ∷ 0 ∷ 0 ∷ 120 ∷ 51 ∷ 7 ∷ 0 ∷ 0 ∷ 0 ∷ 1 ∷ 0 ∷ 0 ∷ 0 ∷ []
-
 text-fine : (s : List ℕ) → allBytes s ≡ true → length s < 2 ^ 32 → valid s ≡ true → FineText s
 text-fine s b h v = record { plain = record { bytes = bytes-told s b; short = h }; utf8 = v }
 
 symbols-read : (at : ℕ) (buf : List ℕ) → 15 ≤ length buf
     → (byBook (ascii "x\n") at buf ≡ success (ascii "x\n") xTape at buf) × (byBook (ascii "x3\n") at buf ≡ success (ascii "x3\n") x3Tape at buf)
-unfolding valid after charOf leadOf line lineBody nameText text scalarText symText symbolText isKeyword resemblesSymbolId resemblesVersionMarker version isIdentifier allDigits isStart isPart behindWord isDigit run behindDigits starts strip same tape encode encodeHead encodeName encodeNotes encodeScalar encodeSym sized size leBytes
+unfolding valid after charOf leadOf streamText texts text nameText separator scalarText symText symbolText isKeyword resemblesSymbolId resemblesVersionMarker version isIdentifier allDigits isStart isPart behindWord isDigit run behindDigits starts strip same tape encode encodeHead encodeName encodeNotes encodeScalar encodeSym sized size leBytes
 symbols-read at buf h = (
   symbol-read (ascii "x") (ascii "x\n") xTape at buf (text-fine (ascii "x") refl (omega arith) refl) refl refl (omega arith) (omega arith),
   symbol-read (ascii "x3") (ascii "x3\n") x3Tape at buf (text-fine (ascii "x3") refl (omega arith) refl) refl refl h (omega arith),
 )
 
 -- ---- the calls
-
--- an int's own tape
-abbrev intTape : ℕ → List ℕ
-intTape k = 2 ∷ k ∷ 0 ∷ 0 ∷ 0 ∷ 0 ∷ 0 ∷ 0 ∷ 0 ∷ 9 ∷ 0 ∷ 0 ∷ 0 ∷ 1 ∷ 0 ∷ 0 ∷ 0 ∷ []
-
-abbrev call : Outcome → ℕ → List ℕ → Call
-call a at buf = record { answer = a; at = at; buf = buf }
-
--- a tape at the buffer's start, the rest kept
-abbrev over : List ℕ → List ℕ → List ℕ
-over t buf = t ++ drop (length t) buf
 
 turns : (damaged values (ascii "1\n") (ascii "2\n") (ascii "x") (ascii "3\n") ≡ success (ascii "1\n") (intTape 1) ∷ byBook (ascii "x3\n") ∷ [])
     × (damaged values (ascii "1\n") (ascii "2") (ascii "x") (ascii "\n3\n") ≡ success (ascii "1\n") (intTape 1) ∷ byBook (ascii "x\n") ∷ success (ascii "3\n") (intTape 3) ∷ [])
@@ -148,22 +131,22 @@ turns = (refl, refl)
 
 -- Bytes 2 and 3 replaced by one `x`: int 1, symbol x3, then end marks.
 pub x-for-two : (buf : List ℕ) → 35 ≤ length buf → calls 4 (ascii "1\nx3\n") 0 buf ≡
-    call (counted 17) 2 (over (intTape 1) buf)
-    ∷ call (counted 15) 5 (over x3Tape (over (intTape 1) buf))
-    ∷ call ended 5 (over x3Tape (over (intTape 1) buf))
-    ∷ call ended 5 (over x3Tape (over (intTape 1) buf)) ∷ []
+    call (counted 17) 2 (tapeOver (intTape 1) buf)
+    ∷ call (counted 15) 5 (tapeOver x3Tape (tapeOver (intTape 1) buf))
+    ∷ call ended 5 (tapeOver x3Tape (tapeOver (intTape 1) buf))
+    ∷ call ended 5 (tapeOver x3Tape (tapeOver (intTape 1) buf)) ∷ []
 unfolding play success endMark
 x-for-two buf l =
     three-damaged (ascii "1\n") (ascii "2\n") (ascii "x") (ascii "3\n") buf 4 refl l
-    ∙ rw (turns .0, symbols-read 2 (over (intTape 1) buf) (omega arith) .1)
+    ∙ rw (turns .0, symbols-read 2 (tapeOver (intTape 1) buf) (omega arith) .1)
 
 -- Byte 2 alone replaced: 1, x, 3.
 pub x-for-one : (buf : List ℕ) → 35 ≤ length buf → calls 4 (ascii "1\nx\n3\n") 0 buf ≡
-    call (counted 17) 2 (over (intTape 1) buf)
-    ∷ call (counted 14) 4 (over xTape (over (intTape 1) buf))
-    ∷ call (counted 17) 6 (over (intTape 3) (over xTape (over (intTape 1) buf)))
-    ∷ call ended 6 (over (intTape 3) (over xTape (over (intTape 1) buf))) ∷ []
+    call (counted 17) 2 (tapeOver (intTape 1) buf)
+    ∷ call (counted 14) 4 (tapeOver xTape (tapeOver (intTape 1) buf))
+    ∷ call (counted 17) 6 (tapeOver (intTape 3) (tapeOver xTape (tapeOver (intTape 1) buf)))
+    ∷ call ended 6 (tapeOver (intTape 3) (tapeOver xTape (tapeOver (intTape 1) buf))) ∷ []
 unfolding play success endMark
 x-for-one buf l =
     three-damaged (ascii "1\n") (ascii "2") (ascii "x") (ascii "\n3\n") buf 4 refl l
-    ∙ rw (turns .1, symbols-read 2 (over (intTape 1) buf) (omega arith) .0)
+    ∙ rw (turns .1, symbols-read 2 (tapeOver (intTape 1) buf) (omega arith) .0)

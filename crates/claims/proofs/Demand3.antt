@@ -1,4 +1,4 @@
--- DEMAND 3: `demand-3`, of the book, and `demand-3-calls`, of the calls by offsets. Assumes nothing.
+-- DEMAND 3: `demand-3`, of the book; `demand-3-calls`, of the calls by offsets; `demand-3-ran`, of what `read_lines` hands out. Assumes nothing.
 use Prim.Native.Nat.{ℕ, suc, _≤_, min}
 use mathlib.Core.Path.{_≡_, refl, sym, _∙_, ap}
 use mathlib.Core.List.{List, [], _∷_, _++_, map, append-assoc, flatten}
@@ -17,7 +17,7 @@ use Rattle.line_reader.specs.Cut.{lf, linesOf, lfs, toFirst, fromLast}
 use Rattle.line_reader.specs.Book.{single, lineTape, play, book}
 use Rattle.line_reader.specs.Damage.{Written, asWritten, before, behindRun, damaged}
 use Rattle.line_reader.specs.Calls.{calls, Ran}
-use Rattle.tape.specs.declared.answer.Answer.{Answer}
+use Rattle.line_reader.specs.declared.Called.{Called}
 use Rattle.writer.specs.Outcome.{refusal}
 use Rattle.writer.specs.Text.{streamText}
 use Rattle.tape.proofs.Walking.{verdict-told, tape-back}
@@ -42,10 +42,10 @@ unfolding written flatten
 written-text nil = sym lines-none
 written-text (more h n ns) = ap (λ (t : List ℕ). line h n ++ t) (written-text ns) ∙ sym (lines-more h n ns)
 
--- a line is read to its node's tape
-pub line-reads : (h : Head) (n : Node) → Fines 64 Top (more h n nil) → noteds (more h n nil) ≡ false → lineTape (line h n) ≡ some (tape (more h n nil))
+-- A node's own Lines text is a line that the grammar reads to that node's tape.
+pub line-reads : (h : Head) (n : Node) → Fines 64 Top (more h n nil) → noteds (more h n nil) ≡ false → lineTape (streamText 1 (more h n nil)) ≡ some (tape (more h n nil))
 unfolding line single
-line-reads h n f q = line-tape (lineBody h n) ∙ rw (line-body-back h n f q)
+line-reads h n f q = ap lineTape (line-alone h n) ∙ line-tape (lineBody h n) ∙ rw (line-body-back h n f q)
 
 pub tape-fits : (t : List ℕ) (n : ℕ) → length t ≤ n → length t ≤ 1048576 → fits t n ≡ true
 unfolding fits
@@ -62,7 +62,7 @@ written-reads (more h n ns) room f q l m =
         body = lineBody h n;
         is = refl;
         only = line-body h n (a .0) .count;
-        reads = line-reads h n (a .0) (a .1);
+        reads = ap lineTape (sym (line-alone h n)) ∙ line-reads h n (a .0) (a .1);
         holds = tape-fits (tape (more h n nil)) room (omega arith) (omega arith);
       },
       written-reads ns room (r .0) (r .1) (omega arith) (omega arith),
@@ -128,11 +128,12 @@ pub demand-3-calls : (t head run new tail buf : List ℕ) (n : ℕ) → Bytes t 
     → calls n (head ++ new ++ tail) 0 buf ≡ play n (damaged (writtenAs (linesOf (head ++ run ++ tail)) (nodesOf t)) head run new tail) 0 buf
 demand-3-calls t head run new tail buf n b e s l = calls-book n (head ++ new ++ tail) buf ∙ demand-3 t head run new tail buf n b e s l
 
--- So what n calls over a session hand out (`read_lines`) on a damaged text is this too.
-pub demand-3-ran : (t head run new tail buf last : List ℕ) (answers : List Answer) (at : ℕ) → Bytes t → refusal 1 t ≡ 0 → streamText 1 (nodesOf t) ≡ head ++ run ++ tail → length t ≤ length buf
-    → Ran (book (length answers) (head ++ new ++ tail) buf) buf answers at last
-    → Ran (play (length answers) (damaged (writtenAs (linesOf (head ++ run ++ tail)) (nodesOf t)) head run new tail) 0 buf) buf answers at last
-demand-3-ran t head run new tail buf last answers at b e s l r = rw (← demand-3 t head run new tail buf (length answers) b e s l) r
+-- The same of running code. The last hypothesis is what `read_lines` ensures of its n entries on the damaged text: every answer and offset, the
+-- last offset and the last buffer are then these. The buffer after the k-th call is the last one for n = k.
+pub demand-3-ran : (t head run new tail buf : List ℕ) (n : ℕ) (last : List ℕ) (entries : List Called) (at : ℕ) → Bytes t → refusal 1 t ≡ 0 → streamText 1 (nodesOf t) ≡ head ++ run ++ tail → length t ≤ length buf
+    → Ran (book n (head ++ new ++ tail) buf) buf entries at last
+    → Ran (play n (damaged (writtenAs (linesOf (head ++ run ++ tail)) (nodesOf t)) head run new tail) 0 buf) buf entries at last
+demand-3-ran t head run new tail buf n last entries at b e s l r = rw (← demand-3 t head run new tail buf n b e s l) r
 
 -- Which lines these are: before, joined, the head up to its last LF; behind, joined, the tail from behind its first.
 pub before-and-behind : (t head run tail : List ℕ) → Bytes t → refusal 1 t ≡ 0 → streamText 1 (nodesOf t) ≡ head ++ run ++ tail

@@ -1,30 +1,33 @@
 -- The round trip from tape to tape: the text of a tape that is let through, read back with room, is that tape again; and what is read is a
 -- tape that is let through. Assumes nothing.
-use Prim.Native.Nat.{ℕ, _≤_, min}
+use Prim.Native.Nat.{ℕ, _≤_, _<_, min}
 use mathlib.Core.Path.{_≡_, refl, ap, sym, _∙_}
 use mathlib.Core.List.{List, [], _++_}
 use mathlib.Core.Bool.{Bool, true, false}
 use mathlib.Core.Option.{some}
 use native.Mathlib.Omega.{arith}
 use lib.Dec.{ltb}
-use lib.ListN.{length, drop, length-append}
-use borrow.Author.Tests.{le-leb, le-ltb}
+use lib.ListN.{length, take, drop, length-append, length-drop}
+use lib.Seq.{take-all, take-append-le}
+use borrow.Author.Tests.{le-leb, lt-leb, le-ltb}
 use Rattle.output.specs.Logic.{if}
 use Rattle.tape.specs.Bytes.{first}
 use Rattle.tape.specs.Tree.{Head, Node, Nodes, nil, more, encodeHead, encode, encodes, tape}
 use Rattle.tape.specs.Tape.{nodesOf}
 use Rattle.tape.specs.Verdict.{verdict}
 use Rattle.tape.specs.Refusal.{noteds}
-use Rattle.tape.specs.Answer.{counted}
+use Rattle.tape.specs.Answer.{Outcome, counted, refused}
 use Rattle.tape.specs.Fine.{Bytes, Fines}
 use Rattle.tape.specs.declared.Frame.the-variants.{Top}
 use Rattle.reader.specs.Grammar.{meaning}
 use Rattle.reader.specs.Outcome.{fits, tapeAnswer, tapeLeaves, answer, leaves}
-use Rattle.writer.specs.Outcome.{refusal, measured, streamed}
+use Rattle.writer.specs.Outcome.{laid, refusal, measured, streamed}
+use Rattle.writer.specs.Outcome as writer
 use Rattle.writer.specs.Text.{streamText}
 use Rattle.tape.proofs.Walking.{first-zero, verdict-told, tape-back}
 use Rattle.tape.proofs.FineBack.{tape-fine}
 use Rattle.tape.proofs.Accepted.{tape-length, tape-accepted, tape-nodes}
+use Rattle.claims.specs.Writing.{WritesText, TapeOf}
 use Rattle.claims.proofs.StreamBack.{stream-back}
 use Rattle.claims.proofs.WellRead.{well-read}
 
@@ -77,13 +80,6 @@ round-trip y t b h e l = means-tape (streamText y (nodesOf t)) t b h (through y 
 
 -- ---- which tapes are let through
 
--- a tape of well-formed nodes, at most 64 containers deep, that is not too long
-pub record TapeOf (t : List ℕ) : Type 0 where
-  pub nodes : Nodes
-  pub fine : Fines 64 Top nodes
-  pub is : t ≡ tape nodes
-  pub short : length t ≤ 1048576
-
 -- Bytes pass 1 to 4 and the count exactly where they are such a tape.
 pub accepted-exactly : (t : List ℕ) → Bytes t → (verdict t ≡ 0 → TapeOf t) × (TapeOf t → verdict t ≡ 0)
 accepted-exactly t b = (
@@ -91,11 +87,33 @@ accepted-exactly t b = (
   λ o. let s = o .short in let m = ap length (o .is) in ap verdict (o .is) ∙ tape-accepted (o .nodes) (o .fine) (omega arith),
 )
 
--- The tape of well-formed nodes without annotations is written as the text of these nodes.
-pub tree-written : (y : ℕ) (ns : Nodes) (n : ℕ) → y ≤ 2 → Fines 64 Top ns → noteds ns ≡ false → length (tape ns) ≤ 1048576
-    → streamed y (tape ns) n ≡ measured (streamText y ns) n
-unfolding streamed refusal
-tree-written y ns n l f q m = rw (le-ltb 2 y l, tape-accepted ns f m, tape-nodes ns f, q)
+-- The tape of well-formed nodes without annotations is written as the text of these nodes: the answer and the whole buffer.
+pub tree-written : (y : ℕ) (ns : Nodes) → y ≤ 2 → Fines 64 Top ns → noteds ns ≡ false → length (tape ns) ≤ 1048576
+    → WritesText (streamText y ns) (streamed y (tape ns)) (writer.leaves y (tape ns))
+unfolding streamed writer.leaves refusal
+tree-written y ns l f q m =
+    let fits = le-ltb 2 y l in
+    let accepted = tape-accepted ns f m in
+    let nodes = tape-nodes ns f in
+    record { answers = λ n. rw (fits, accepted, nodes, q); lays = λ b. rw (fits, accepted, nodes, q) }
+
+-- ---- a text in a buffer
+
+-- a text that the buffer holds: its length is answered, and it stands at the start, the rest kept
+pub writes-whole : {s : List ℕ} {a : ℕ → Outcome} {l : List ℕ → List ℕ} → WritesText s a l → (b : List ℕ) → length s ≤ length b → (a (length b) ≡ counted (length s)) × (l b ≡ s ++ drop (length s) b)
+unfolding measured laid
+writes-whole {s} w b h = (
+  w .answers (length b) ∙ rw (le-leb (length s) (length b) h),
+  w .lays b ∙ take-all (length b) (s ++ drop (length s) b) (omega (arith, length-append s (drop (length s) b), length-drop (length s) b)),
+)
+
+-- a longer one: 6, and its first bytes fill the buffer
+pub writes-cut : {s : List ℕ} {a : ℕ → Outcome} {l : List ℕ → List ℕ} → WritesText s a l → (b : List ℕ) → length b < length s → (a (length b) ≡ refused 6) × (l b ≡ take (length b) s)
+unfolding measured laid
+writes-cut {s} w b h = (
+  w .answers (length b) ∙ rw (lt-leb (length s) (length b) h),
+  w .lays b ∙ take-append-le (length b) s (drop (length s) b) (omega arith),
+)
 
 -- ---- from a text to its tape
 

@@ -15,7 +15,7 @@ use Rattle.output.specs.Wrote.{leBytes}
 use Rattle.text_rules.specs.Digits.{isDigit, number, whole}
 use Rattle.text_rules.specs.Texts.{starts, strip, same}
 use Rattle.text_rules.specs.Words.{isStart, isPart, word, behindWord, isIdentifier, resemblesVersionMarker, resemblesSymbolId, symbolId, kindOf}
-use Rattle.text_rules.specs.Utf8.{leadOf, isCont, ok2, ok3, ok4, valid}
+use Rattle.text_rules.specs.Utf8.{leadOf, isCont, ok2, ok3, ok4}
 use Rattle.text_rules.specs.Text.{Sym}
 use Rattle.text_rules.specs.declared.words.Kind.{Kind}
 use Rattle.text_rules.specs.declared.words.Kind.the-variants.{Null, True, False, Nan, Marker, Number, Text, Refused}
@@ -25,7 +25,7 @@ use Rattle.numbers.specs.Timestamp.{wellFormed}
 use Rattle.numbers.specs.Numeral.{Numeral, numeral}
 use Rattle.numbers.specs.TimestampRead.{timestamp}
 use Rattle.tape.specs.Tree.{Scalar, sized, encodeSym, encodeScalar}
-use Rattle.tape.specs.Fine.{Bytes, FineText, FineSym, FineFloat, FineScalar}
+use Rattle.tape.specs.Fine.{Bytes, FineText, FineFloat, FineScalar}
 use Rattle.reader.specs.Grammar.{taken}
 use Rattle.text_rules.proofs.DigitLaws.{never}
 use Rattle.text_rules.proofs.Utf8Chars.{and-left, and-second, and-third}
@@ -36,13 +36,10 @@ use Rattle.tokens.proofs.Utf8Back.{many-all, character-char, valid-nothing, quo
 use Rattle.numbers.proofs.DecimalBack.{decimal-range, int-range}
 use Rattle.numbers.proofs.TimestampBack.{timestamp-well}
 use Rattle.tape.proofs.Reading.{if-all}
+use Rattle.claims.specs.InRange.{Got, got-none, got, IsText, SymInRange, NumeralInRange}
 use Rattle.claims.proofs.FirstBytes.{word-all}
 
 -- ---- what holds of what was read, if anything was
-
-pub data Got {A : Type 0} (P : A → Type 0) : Option (A × List ℕ) → Type 0 where
-  got-none : Got P none
-  got : {v : A × List ℕ} → P (v .0) → Got P (some v)
 
 pub told : {A : Type 0} {P : A → Type 0} {v : A × List ℕ} → Got P (some v) → P (v .0)
 told (got p) = p
@@ -117,10 +114,6 @@ char-bytes (four a b c d e o) =
 
 -- ---- text: UTF-8, and bytes
 
-pub record IsText (x : List ℕ) : Type 0 where
-  pub bytes : Bytes x
-  pub utf8 : valid x ≡ true
-
 quoted-bytes : (q : ℕ) (t x r : List ℕ) → quoted q t ≡ some (x, r) → Bytes x
 unfolding quoted
 quoted-bytes q t x r e =
@@ -172,10 +165,7 @@ text-fine s t h = record { plain = record { bytes = t .bytes; short = h }; utf8 
 
 -- ---- symbols
 
-abbrev pub SymP : Sym → Type 0
-SymP s = length (encodeSym s) < 2 ^ 32 → FineSym s
-
-pub text-sym : (s : List ℕ) → IsText s → SymP (Sym.text s)
+pub text-sym : (s : List ℕ) → IsText s → SymInRange (Sym.text s)
 unfolding encodeSym
 text-sym s t h = text-fine s t (omega (arith, sized-long s))
 
@@ -213,11 +203,11 @@ kind-fits w =
 pub word-text : (t : List ℕ) → IsText (word t)
 word-text t = ascii-text (word t) (behind-word t)
 
-bare-got : (t : List ℕ) → Got SymP (bareSymbol t)
+bare-got : (t : List ℕ) → Got SymInRange (bareSymbol t)
 unfolding bareSymbol
 bare-got t = go (kindOf (word t)) (kind-fits (word t))
   where
-    go : (k : Kind) → KindP k → Got SymP (then (wordSymbol k (word t)) (λ s. some (s, behindWord t)))
+    go : (k : Kind) → KindP k → Got SymInRange (then (wordSymbol k (word t)) (λ s. some (s, behindWord t)))
     go Text h = got (text-sym (word t) (word-text t))
     go (Number n) h = got (λ _. h)
     go Null h = got-none
@@ -227,20 +217,20 @@ bare-got t = go (kindOf (word t)) (kind-fits (word t))
     go Marker h = got-none
     go Refused h = got-none
 
-quoted-got : (t : List ℕ) → Got SymP (quotedSymbol t)
+quoted-got : (t : List ℕ) → Got SymInRange (quotedSymbol t)
 unfolding quotedSymbol
-quoted-got t = got-taken IsText SymP Sym.text text-sym (quoted (byte "'") t) (quoted-text (byte "'") t)
+quoted-got t = got-taken IsText SymInRange Sym.text text-sym (quoted (byte "'") t) (quoted-text (byte "'") t)
 
-pub symbol-got : (t : List ℕ) → Got SymP (symbol t)
+pub symbol-got : (t : List ℕ) → Got SymInRange (symbol t)
 unfolding symbol
-symbol-got t = if-all (Got SymP) {b = starts (byte "'") t} (λ _. quoted-got (drop 1 t)) (λ _. bare-got t)
+symbol-got t = if-all (Got SymInRange) {b = starts (byte "'") t} (λ _. quoted-got (drop 1 t)) (λ _. bare-got t)
 
 -- ---- scalars
 
 abbrev pub ScalarP : Scalar → Type 0
 ScalarP s = length (encodeScalar s) < 2 ^ 32 → FineScalar s
 
-pub symbol-scalar : (s : Sym) → SymP s → ScalarP (Scalar.symbol s)
+pub symbol-scalar : (s : Sym) → SymInRange s → ScalarP (Scalar.symbol s)
 unfolding encodeScalar
 symbol-scalar s h l = h l
 
@@ -299,14 +289,9 @@ float-got t =
 pub timestamp-got : (t : List ℕ) → Got (λ x. wellFormed x ≡ true) (timestamp t)
 timestamp-got t = got-of (λ x. wellFormed x ≡ true) (timestamp t) (timestamp-well t)
 
--- ints and decimals, as nodes
-abbrev pub NumeralP : Numeral → Type 0
-NumeralP (Numeral.int z) = FineScalar (Scalar.int z)
-NumeralP (Numeral.decimal neg m e) = FineScalar (Scalar.decimal neg m e)
-
-pub numeral-got : (t : List ℕ) → Got NumeralP (numeral t)
-numeral-got t = got-of NumeralP (numeral t) go
+pub numeral-got : (t : List ℕ) → Got NumeralInRange (numeral t)
+numeral-got t = got-of NumeralInRange (numeral t) go
   where
-    go : (a : Numeral) (r : List ℕ) → numeral t ≡ some (a, r) → NumeralP a
+    go : (a : Numeral) (r : List ℕ) → numeral t ≡ some (a, r) → NumeralInRange a
     go (Numeral.int z) r e = int-range t r z e
     go (Numeral.decimal neg m x) r e = decimal-range t r neg m x e

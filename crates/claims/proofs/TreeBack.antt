@@ -1,12 +1,12 @@
 -- The round trip of the tree text: the tree text of well-formed nodes means these nodes, annotations included, and a tape that is let
 -- through reads back as itself. Assumes nothing.
 use Prim.Native.Nat.{ℕ, zero, suc, _+_, _*_, _≤_}
-use mathlib.Core.Path.{_≡_, refl, sym, ap, _∙_}
+use mathlib.Core.Path.{_≡_, refl, sym, ap, subst, _∙_}
 use mathlib.Core.List.{List, [], _++_, append-assoc, append-nil}
 use mathlib.Core.Bool.{true, false}
 use mathlib.Core.Option.{none, some}
 use native.Mathlib.Omega.{arith}
-use lib.ListN.{length, drop, length-append}
+use lib.ListN.{length, take, drop, length-append}
 use Rattle.output.specs.Logic.{byte, ascii}
 use Rattle.text_rules.specs.Texts.{starts}
 use Rattle.text_rules.specs.Digits.{pad, count, digits}
@@ -23,24 +23,34 @@ use Rattle.tape.specs.declared.Frame.the-variants.{Top, List as ListF, Sexp, St
 use Rattle.reader.specs.Grammar.{skip, opener, opens, closes, free, body, sequence, meaning}
 use Rattle.reader.specs.Outcome.{answer, leaves}
 use Rattle.writer.specs.Text.{scalarText, nameText, notesText, opening, closing, separator}
-use Rattle.writer.specs.Outcome.{measured}
 use Rattle.tree.specs.Text.{lead, element, elements, treeText}
 use Rattle.tree.specs.Outcome.{unsuited, refusal, written}
+use Rattle.tree.specs.Outcome as tree
 use Rattle.tree.proofs.Texts.{lead-compact}
 use Rattle.tape.proofs.FineBack.{tape-fine}
 use Rattle.tape.proofs.Accepted.{tape-accepted, tape-nodes}
+use Rattle.claims.specs.Writing.{WritesText}
+use Rattle.claims.specs.Examples.{list, listTape}
 use Rattle.claims.proofs.FirstBytes.{first-long}
 use Rattle.claims.proofs.NoteBack.{Delimits, Leads, scalar-leads, marker-leads, opening-leads}
 use Rattle.claims.proofs.StreamBack.{Parts, parts, parts-end, parts-closing, closing-ends, name-brace, body-nest, sequence-end, headed-back, free-marker, marker-body, scalar-body, brackets-long}
-use Rattle.claims.proofs.TapeBack.{suited, means-tape}
-use Rattle.claims.proofs.Marked.{list, listTape, list-tape, list-fine}
+use Rattle.claims.proofs.TapeBack.{suited, means-tape, writes-whole, writes-cut}
+use Rattle.claims.proofs.Marked.{list-tape, list-fine}
 
 -- ---- children and what stands between them
 
--- behind a child: nothing where it is the last, else a separator
+-- what stands before a child is Compact's separator
+lead-separator : (k : Frame) → lead true k ≡ separator 0 k
+unfolding lead separator
+lead-separator Top = refl
+lead-separator ListF = refl
+lead-separator Sexp = refl
+lead-separator Struct = refl
+
+-- behind a child: nothing where it is the last, else what stands before the next
 abbrev between : Frame → Nodes → List ℕ
 between k nil = []
-between k (more h n ns) = separator 0 k
+between k (more h n ns) = lead true k
 
 elements-true : (k : Frame) (ns : Nodes) → elements true k ns ≡ between k ns ++ elements false k ns
 unfolding element lead
@@ -55,7 +65,7 @@ elements-more k h n ns t = rw (elements-true k ns) (simp append-assoc)
 parts-between : (k : Frame) (ns : Nodes) (t : List ℕ) → Parts k [] t → Parts k (between k ns) (elements false k ns ++ t)
 unfolding element
 parts-between k nil t p = p
-parts-between k (more h n ns) t p = parts 0 k _
+parts-between k (more h n ns) t p = rw (lead-separator k) (parts 0 k _)
 
 -- ---- what an element's text starts with
 
@@ -165,16 +175,23 @@ tree-round-trip t b h e l = means-tape (treeText (nodesOf t)) t b h (tree-throug
 
 -- ---- which tapes have a tree text
 
--- The tape of well-formed nodes that 5 does not refuse is written as their tree text.
-pub element-written : (ns : Nodes) (n : ℕ) → Fines 64 Top ns → unsuited ns ≡ false → length (tape ns) ≤ 1048576 → written (tape ns) n ≡ measured (treeText ns) n
-unfolding written refusal
-element-written ns n f q m = rw (tape-accepted ns f m, tape-nodes ns f, q)
+-- The tape of well-formed nodes that 5 does not refuse is written as their tree text: the answer and the whole buffer.
+pub element-written : (ns : Nodes) → Fines 64 Top ns → unsuited ns ≡ false → length (tape ns) ≤ 1048576 → WritesText (treeText ns) (written (tape ns)) (tree.leaves (tape ns))
+unfolding written tree.leaves refusal
+element-written ns f q m =
+    let accepted = tape-accepted ns f m in
+    let nodes = tape-nodes ns f in
+    record { answers = λ n. rw (accepted, nodes, q); lays = λ b. rw (accepted, nodes, q) }
 
--- 01's list of 1 and 2: `[1, 2]`, which 6 bytes hold and 5 do not
-list-element : (n : ℕ) → written listTape n ≡ measured (ascii "[1, 2]") n
+-- 01's list of 1 and 2 is written as `[1, 2]`
+pub list-element : WritesText (ascii "[1, 2]") (written listTape) (tree.leaves listTape)
 unfolding unsuited numbered headNumbered symsNumbered scalarNumbered treeText element lead notesText scalarText nameText opening closing separator intText digits count pad
-list-element n = ap (λ (t : List ℕ). written t n) (sym list-tape) ∙ element-written list n list-fine refl (rw list-tape (omega arith))
+list-element = subst (λ (t : List ℕ). WritesText (ascii "[1, 2]") (written t) (tree.leaves t)) list-tape (element-written list list-fine refl (rw list-tape (omega arith)))
 
-pub list-answers : (written listTape 6 ≡ counted 6) × (written listTape 5 ≡ refused 6)
-unfolding measured
-list-answers = (list-element 6, list-element 5)
+-- so in every buffer of 6 bytes or more, the rest kept, and, cut, in one of 5
+pub list-answers : ((b : List ℕ) → 6 ≤ length b → (written listTape (length b) ≡ counted 6) × (tree.leaves listTape b ≡ ascii "[1, 2]" ++ drop 6 b))
+    × ((b : List ℕ) → length b ≡ 5 → (written listTape (length b) ≡ refused 6) × (tree.leaves listTape b ≡ ascii "[1, 2"))
+list-answers = (
+  λ b h. writes-whole list-element b h,
+  λ b e. let w = writes-cut list-element b (omega arith) in (w .0, w .1 ∙ ap (λ (n : ℕ). take n (ascii "[1, 2]")) e),
+)

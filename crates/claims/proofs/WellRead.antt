@@ -27,18 +27,19 @@ use Rattle.tape.specs.declared.Frame.{Frame}
 use Rattle.tape.specs.declared.Frame.the-variants.{Top, List as ListF, Sexp, Struct}
 use Rattle.reader.specs.Grammar.{taken, skip, opener, opens, closes, gap, note, notes, field, name, head, free, byKind, words, numeralNode, numbers, numeric, scalar, within, headed, body, sequence, meaning}
 use Rattle.tape.proofs.Reading.{if-all}
-use Rattle.claims.proofs.TokensRead.{Got, got-none, got, got-then, got-after, got-taken, got-or, SymP, ScalarP, NumeralP, KindP, kind-fits, IsText, word-text, string-text, symbol-got, symbol-scalar, string-scalar, clob-scalar, text-sym, clob-got, null-got, float-got, timestamp-got, numeral-got}
+use Rattle.claims.specs.InRange.{Got, got-none, got, IsText, SymInRange, NumeralInRange}
+use Rattle.claims.proofs.TokensRead.{got-then, got-after, got-taken, got-or, ScalarP, KindP, kind-fits, word-text, string-text, symbol-got, symbol-scalar, string-scalar, clob-scalar, text-sym, clob-got, null-got, float-got, timestamp-got, numeral-got}
 
 -- ---- heads
 
 abbrev SymsP : ℕ → List Sym → Type 0
 SymsP n ss = (length (encodeSyms ss) < 2 ^ 32 → FineSyms ss) × (length ss ≤ n)
 
-note-got : (t : List ℕ) → Got SymP (note t)
+note-got : (t : List ℕ) → Got SymInRange (note t)
 unfolding note
-note-got t = got-then SymP SymP (symbol t) _ (symbol-got t) (λ s p. got-after SymP (strip (ascii "::") (s .1)) _ (λ r. got p))
+note-got t = got-then SymInRange SymInRange (symbol t) _ (symbol-got t) (λ s p. got-after SymInRange (strip (ascii "::") (s .1)) _ (λ r. got p))
 
-syms-cons : (n : ℕ) (s : Sym) (ss : List Sym) → SymP s → SymsP n ss → SymsP (suc n) (s ∷ ss)
+syms-cons : (n : ℕ) (s : Sym) (ss : List Sym) → SymInRange s → SymsP n ss → SymsP (suc n) (s ∷ ss)
 unfolding encodeSyms
 syms-cons n s ss p q = ((λ l. let a = length-append (encodeSym s) (encodeSyms ss) in (p (omega arith), q .0 (omega arith))), omega (arith, q .1))
 
@@ -54,18 +55,18 @@ notes-got zero t = go (note t)
     go (some s) = got-none
 notes-got (suc n) t = go (note t) (note-got t) (λ u. notes-got n u)
   where
-    go : (o : Option (Sym × List ℕ)) → Got SymP o → ((u : List ℕ) → Got (SymsP n) (notes n u)) → Got (SymsP (suc n)) (on o (λ s. then (notes n (s .1)) (λ ss. some (s .0 ∷ ss .0, ss .1))) (some ([], t)))
+    go : (o : Option (Sym × List ℕ)) → Got SymInRange o → ((u : List ℕ) → Got (SymsP n) (notes n u)) → Got (SymsP (suc n)) (on o (λ s. then (notes n (s .1)) (λ ss. some (s .0 ∷ ss .0, ss .1))) (some ([], t)))
     go none g again = got (no-syms _)
     go (some s) (got p) again = got-then (SymsP n) (SymsP (suc n)) (notes n (s .1)) _ (again (s .1)) (λ ss q. got (syms-cons n (s .0) (ss .0) p q))
 
 abbrev NameP : Frame → Option Sym → Type 0
 NameP k x = length (encodeName x) < 2 ^ 32 → FineName k x
 
-field-got : (t : List ℕ) → Got SymP (field t)
+field-got : (t : List ℕ) → Got SymInRange (field t)
 unfolding field
-field-got t = got-then SymP SymP (symbol t) _ (symbol-got t) (λ s p. got-after SymP (strip (ascii ":") (skip (s .1))) _ (λ r. got p))
+field-got t = got-then SymInRange SymInRange (symbol t) _ (symbol-got t) (λ s p. got-after SymInRange (strip (ascii ":") (skip (s .1))) _ (λ r. got p))
 
-name-some : (s : Sym) → SymP s → NameP Struct (some s)
+name-some : (s : Sym) → SymInRange s → NameP Struct (some s)
 unfolding encodeName
 name-some s p l = p l
 
@@ -74,7 +75,7 @@ unfolding name
 name-got Top t = got (λ _. tt)
 name-got ListF t = got (λ _. tt)
 name-got Sexp t = got (λ _. tt)
-name-got Struct t = got-taken SymP (NameP Struct) some name-some (field t) (field-got t)
+name-got Struct t = got-taken SymInRange (NameP Struct) some name-some (field t) (field-got t)
 
 abbrev HeadP : Frame → Head → Type 0
 HeadP k h = length (encodeHead h) < 2 ^ 32 → FineHead k h
@@ -117,9 +118,9 @@ module _ (d : ℕ) (k : Frame) (ss : List Sym) where
   number-got t =
       got-or _ _ (token-node FineFloat Scalar.float (λ a p. p) (float t) (float-got t))
       (got-or _ _ (token-node (λ x. wellFormed x ≡ true) Scalar.timestamp (λ a p. p) (timestamp t) (timestamp-got t))
-      (got-taken NumeralP (NodeP d k ss) numeralNode numeral-node (numeral t) (numeral-got t)))
+      (got-taken NumeralInRange (NodeP d k ss) numeralNode numeral-node (numeral t) (numeral-got t)))
     where
-      numeral-node : (a : Numeral) → NumeralP a → NodeP d k ss (numeralNode a)
+      numeral-node : (a : Numeral) → NumeralInRange a → NodeP d k ss (numeralNode a)
       numeral-node (Numeral.int z) p = scalar-node (Scalar.int z) (λ _. p)
       numeral-node (Numeral.decimal neg m e) p = scalar-node (Scalar.decimal neg m e) (λ _. p)
 
@@ -147,7 +148,7 @@ module _ (d : ℕ) (k : Frame) (ss : List Sym) where
   scalar-got m [] h = got-none
   scalar-got m (c ∷ t) h =
       if-all (Got (NodeP d k ss)) {b = eqb c (byte "\"")} (λ _. got-taken IsText (NodeP d k ss) (λ s. Node.scalar (Scalar.string s)) (λ s p. scalar-node (Scalar.string s) (string-scalar s p)) (string (c ∷ t)) (string-text (c ∷ t))) (λ _.
-      if-all (Got (NodeP d k ss)) {b = eqb c (byte "'")} (λ _. got-taken SymP (NodeP d k ss) (λ s. Node.scalar (Scalar.symbol s)) (λ s p. scalar-node (Scalar.symbol s) (symbol-scalar s p)) (symbol (c ∷ t)) (symbol-got (c ∷ t))) (λ _.
+      if-all (Got (NodeP d k ss)) {b = eqb c (byte "'")} (λ _. got-taken SymInRange (NodeP d k ss) (λ s. Node.scalar (Scalar.symbol s)) (λ s p. scalar-node (Scalar.symbol s) (symbol-scalar s p)) (symbol (c ∷ t)) (symbol-got (c ∷ t))) (λ _.
       if-all (Got (NodeP d k ss)) {b = eqb c (byte "{")} (λ _. got-taken Bytes (NodeP d k ss) (λ s. Node.scalar (Scalar.clob s)) (λ s p. scalar-node (Scalar.clob s) (clob-scalar s p)) (clob (c ∷ t)) (clob-got (c ∷ t))) (λ _.
       if-all (Got (NodeP d k ss)) {b = numeric c} (λ _. number-got (c ∷ t)) (λ _. words-got m (c ∷ t) h))))
 

@@ -1,2 +1,5 @@
 pub mod Back
 pub mod Demand3
+pub mod Writing
+pub mod Examples
+pub mod InRange

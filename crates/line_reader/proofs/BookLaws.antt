@@ -6,13 +6,13 @@ use mathlib.Core.Option.{Option, some, none}
 use mathlib.Core.Bool.{Bool, true, false}
 use native.Mathlib.Omega.{arith}
 use borrow.Author.Tests.{lt-ltb, le-ltb, eq-eqb, ne-eqb, leb-true}
-use lib.ListN.{length, drop, length-append, length-drop, length-replicate}
+use lib.ListN.{length, take, drop, length-append, length-drop, length-replicate}
 use lib.Seq.{drop-drop, drop-append-seam, take-at, getD-at}
 use Rattle.output.specs.Logic.{if, on, then}
 use Rattle.reader.specs.Grammar.{meaning}
 use Rattle.reader.specs.Outcome.{fits, zeros}
 use Rattle.line_reader.specs.Cut.{lf, linesOf, toFirst}
-use Rattle.line_reader.specs.Book.{Call, success, failure, endMark, endsInLf, single, lineTape, room, byBook, play, book}
+use Rattle.line_reader.specs.Book.{Call, Turn, success, failure, endMark, endsInLf, single, lineTape, room, byBook, play, book}
 use Rattle.line_reader.specs.Calls.{pastText, step, calls}
 use Rattle.line_reader.proofs.CutLaws.{afterFirst, cut-first, first-after}
 
@@ -99,3 +99,17 @@ calls-from (suc n) text at buf h = go (calls-from n text) (drop at text) refl
 pub calls-book : (n : ℕ) (text buf : List ℕ) → calls n text 0 buf ≡ book n text buf
 unfolding book
 calls-book n text buf = calls-from n text 0 buf (omega arith)
+
+-- ---- calls more or fewer
+
+play-begins : (k n : ℕ) (ts : List Turn) (at : ℕ) (buf : List ℕ) → k ≤ n → take k (play n ts at buf) ≡ play k ts at buf
+unfolding play
+play-begins zero n ts at buf h = refl
+play-begins (suc k) zero ts at buf h = absurd (omega arith)
+play-begins (suc k) (suc n) [] at buf h = ap (λ (cs : List Call). endMark at buf ∷ cs) (play-begins k n [] at buf (omega arith))
+play-begins (suc k) (suc n) (t ∷ ts) at buf h = ap (λ (cs : List Call). t at buf ∷ cs) (play-begins k n ts (t at buf .at) (t at buf .buf) (omega arith))
+
+-- The first k of n calls are the k calls, so that what k calls leave is what n calls leave after k of them.
+pub book-begins : (k n : ℕ) (text buf : List ℕ) → k ≤ n → take k (book n text buf) ≡ book k text buf
+unfolding book
+book-begins k n text buf h = play-begins k n (map byBook (linesOf text)) 0 buf h

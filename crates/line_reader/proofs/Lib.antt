@@ -5,3 +5,4 @@ pub mod LineLaws
 pub mod RunLaws
 pub mod Again
 pub mod Placed
+pub mod LocalArray

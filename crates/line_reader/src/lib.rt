@@ -5,8 +5,8 @@ ghost use mathlib.Core.Path.{_≡_};
 ghost use Prim.Native.Nat.{ℕ, _+_, _≤_};
 ghost use lib.ListN.{length, drop};
 ghost use Rattle.line_reader.specs.Cut.{toFirst};
-ghost use Rattle.line_reader.specs.Book.{endsInLf, byBook, book};
-ghost use Rattle.line_reader.specs.Calls.{step, called, Ran};
+ghost use Rattle.line_reader.specs.Book.{endMark, endsInLf, byBook, book};
+ghost use Rattle.line_reader.specs.Calls.{step, called, Ran, lastCall, nthCall};
 
 // What a call answers, and the next offset.
 pub struct Called {
@@ -118,15 +118,49 @@ pub fn call_at(text: &[u8], at: usize, out: &mut [u8]) -> Called
     Called { answer, at: s.at }
 }
 
-// As many calls as there is room for answers, from a fresh session, each from what the last one left. Returns the last offset.
-pub fn read_lines(text: &[u8], out: &mut [u8], answers: &mut [Answer]) -> usize
-    ensures { λ r. ⌜ Ran (book (length (now (answers .entry))) (now (text .entry)) (now (out .entry))) (now (out .entry)) (now (answers .exit)) r (now (out .exit)) ⌝ }
+// As many calls as there are entries, from a fresh session, each from what the last one left: an entry gets its call's answer and offset. Returns the last offset.
+pub fn read_lines(text: &[u8], out: &mut [u8], calls: &mut [Called]) -> usize
+    ensures { λ r. ⌜ Ran (book (length (now (calls .entry))) (now (text .entry)) (now (out .entry))) (now (out .entry)) (now (calls .exit)) r (now (out .exit)) ⌝ }
 {
     let mut s = new(text);
     let mut i = 0;
-    while i < answers.len() {
-        answers[i] = next(&mut s, out);
+    while i < calls.len() {
+        let answer = next(&mut s, out);
+        calls[i] = Called { answer, at: s.at };
         i += 1;
     }
     s.at
+}
+
+// The last of 1 to 32 calls of `read_lines`.
+fn last_call(text: &[u8], n: usize, out: &mut [u8]) -> Called
+    requires { ⌜ (1 ≤ n) × (n ≤ 32) ⌝ }
+    ensures { λ r. ⌜ called (r .answer) (r .at) (now (out .exit)) ≡ lastCall (endMark 0 (now (out .entry))) (book n (now (text .entry)) (now (out .entry))) ⌝ }
+{
+    let mut calls = [Called {
+        answer: Answer::End,
+        at: 0,
+    }; 32];
+    read_lines(text, out, &mut calls[..n]);
+    calls[n - 1]
+}
+
+// The call number `n`, from 1 to 32, of a fresh session, by `read_lines`: its parameters are plain. For any other `n` no call is made: the end
+// mark, offset 0, and the buffer as it was.
+pub fn nth_call(text: &[u8], n: usize, out: &mut [u8]) -> Called
+    ensures { λ r. ⌜ called (r .answer) (r .at) (now (out .exit)) ≡ nthCall n (now (text .entry)) (now (out .entry)) ⌝ }
+{
+    if n == 0 {
+        return Called {
+            answer: Answer::End,
+            at: 0,
+        };
+    }
+    if 32 < n {
+        return Called {
+            answer: Answer::End,
+            at: 0,
+        };
+    }
+    last_call(text, n, out)
 }
