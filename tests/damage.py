@@ -3,18 +3,20 @@
     python3 tests/damage.py
 
 writes crates/damage/stdin (frames: u32 length, tape) and crates/damage/stdout. The texts are those of tests/model.py, the answers those of
-the book over tests/grammar.py; nothing expected here was ever asked of the program.
+the book over tests/grammar.py; nothing expected here was ever asked of the program. The program reads each text call by call and by lists of
+calls over one session, whose last call must be the same: on no text may the two differ. In no layout may a tape not read back as itself.
 """
 import collections
 import os
 import struct
 
 import model
-from grammar import book
+from grammar import book, expect
 from tapes import UNKNOWN, tape
 
 PRIME = 4294967291
 ROOM = 256
+LONG_ROOM = 512
 PAST = 1000
 answers = collections.Counter()
 texts = 0
@@ -102,9 +104,17 @@ def examples():
         yield from said
 
 
+def differs_back(layout, values):
+    """Whether the tape's text in a layout does not read back as the tape."""
+    made = tape(values)
+    text = model.stream(layout, made)
+    return len(text) > LONG_ROOM or expect(text, LONG_ROOM) != (len(made), made)
+
+
 def output():
     yield from examples()
     for values in TAPES:
+        yield b'written and read back, differs in layouts: %d\n' % sum(differs_back(layout, values) for layout in range(3))
         text = model.stream(1, tape(values))
         assert len(text) < 120, text
         yield text
@@ -112,7 +122,7 @@ def output():
             d = 0
             for place in places:
                 d = fed(d, damaged(text, *place))
-            yield b'%s: %d texts, %d\n' % (kind.encode(), len(places), d)
+            yield b'%s: %d texts, %d, lists differ on 0\n' % (kind.encode(), len(places), d)
 
 
 def main():

@@ -1,5 +1,6 @@
-// Damages the Lines texts of tapes in many ways and reads each damaged text by line calls, from its start through the end mark. Prints, for
-// each tape, its text and a line for each kind of damage: how many texts it makes, and a digest of every answer, offset and whole buffer.
+// Damages the Lines texts of tapes in many ways and reads each damaged text twice, from its start through the end mark: call by call, and by a
+// list of n calls over one session for each n. Prints, for each tape, in how many layouts it does not read back as itself, its text, and a line for
+// each kind of damage: how many texts it makes, a digest of every answer, offset and whole buffer, and on how many texts the lists differ from it.
 // Before that come document 01's two examples, on the first tape, answer by answer. A tape stands in a frame: u32 length, and its bytes. The
 // tapes and what they must give come from tests/damage.py.
 use libc::STDIN_FILENO;
@@ -98,14 +99,19 @@ fn feed_call(d: u64, a: Answer, at: usize, out: &[u8]) -> u64 {
     feed_bytes(feed(feed(d, signed(a)), at as u64), out)
 }
 
-// Two calls more: the end mark comes again, and an offset past the text is refused by 10. Both leave all as it was.
+// A call more, at an offset past the text: it is refused by 10, and leaves all as it was.
+fn feed_past(d: u64, text: &[u8], out: &mut [u8]) -> u64 {
+    let past = line_reader::call_at(text, 1000, out);
+    let a = past.answer;
+    feed_call(d, a, past.at, out)
+}
+
+// Two calls more: the end mark comes again, and then a call past the text.
 fn feed_after(d: u64, text: &[u8], out: &mut [u8]) -> u64 {
     let again = line_reader::call_at(text, text.len(), out);
     let a = again.answer;
     let e = feed_call(d, a, again.at, out);
-    let past = line_reader::call_at(text, 1000, out);
-    let b = past.answer;
-    feed_call(e, b, past.at, out)
+    feed_past(e, text, out)
 }
 
 // A digest with the calls on a text through the end mark, each from what the last one left, in a buffer of 256 bytes that is `#` all over
@@ -131,6 +137,33 @@ fn feed_calls(start: u64, text: &[u8], aloud: bool) -> u64 {
     d
 }
 
+// Two calls more, the first as the last of a list of n.
+fn feed_list_after(d: u64, text: &[u8], n: usize) -> u64 {
+    let mut out = [b'#'; 256];
+    let again = line_reader::nth_call(text, n, &mut out);
+    let a = again.answer;
+    let e = feed_call(d, a, again.at, &out);
+    feed_past(e, text, &mut out)
+}
+
+// What `feed_calls` makes, with each call as the last of a list: n calls of `read_lines` over one session, for n = 1, 2, … through the end mark,
+// each list from a buffer that is `#` all over.
+fn feed_lists(start: u64, text: &[u8]) -> u64 {
+    let mut d = start;
+    let mut n: usize = 1;
+    while n <= 32 {
+        let mut out = [b'#'; 256];
+        let c = line_reader::nth_call(text, n, &mut out);
+        let answer = c.answer;
+        d = feed_call(d, answer, c.at, &out);
+        if is_end(answer) {
+            return feed_list_after(d, text, n + 1);
+        }
+        n += 1;
+    }
+    d
+}
+
 fn append(made: &mut [u8], at: usize, s: &[u8]) -> usize {
     if 256 < at {
         return at;
@@ -151,36 +184,61 @@ fn replace(text: &[u8], from: usize, to: usize, new: &[u8], made: &mut [u8]) -> 
     append(made, middle, &text[to..text.len()])
 }
 
-fn feed_damaged(d: u64, text: &[u8], from: usize, to: usize, new: &[u8]) -> u64 {
+// A digest, and on how many texts the one by lists of calls differed.
+struct Fed {
+    digest: u64,
+    differ: u64,
+}
+
+fn one_more(n: u64) -> u64 {
+    if n < 1000000 { n + 1 } else { n }
+}
+
+fn feed_damaged(d: u64, differ: u64, text: &[u8], from: usize, to: usize, new: &[u8]) -> Fed {
     let mut made = [0u8; 256];
     let n = replace(text, from, to, new, &mut made);
     if 256 < n {
-        return d;
+        return Fed {
+            digest: d,
+            differ: one_more(differ),
+        };
     }
-    feed_calls(d, &made[0..n], false)
+    let digest = feed_calls(d, &made[0..n], false);
+    if digest == feed_lists(d, &made[0..n]) {
+        return Fed { digest, differ };
+    }
+    Fed {
+        digest,
+        differ: one_more(differ),
+    }
 }
 
-// How many texts, and their digest.
-fn say_digest(texts: usize, d: u64) {
+// How many texts, their digest, and on how many of them the lists of calls differ.
+fn say_digest(texts: usize, d: u64, differ: u64) {
     io::write_all(STDOUT_FILENO, b": ");
     say_number(texts as u64);
     io::write_all(STDOUT_FILENO, b" texts, ");
     say_number(d);
+    io::write_all(STDOUT_FILENO, b", lists differ on ");
+    say_number(differ);
     io::write_all(STDOUT_FILENO, b"\n");
 }
 
 // Each run of so many bytes replaced by the same bytes.
 fn replace_each(text: &[u8], width: usize, new: &[u8]) {
     let mut d: u64 = 0;
+    let mut differ: u64 = 0;
     let mut i: usize = 0;
     while i <= text.len() {
         if text.len() - i < width {
             break;
         }
-        d = feed_damaged(d, text, i, i + width, new);
+        let f = feed_damaged(d, differ, text, i, i + width, new);
+        d = f.digest;
+        differ = f.differ;
         i += 1;
     }
-    say_digest(i, d);
+    say_digest(i, d, differ);
 }
 
 fn following(b: u8) -> u8 {
@@ -190,14 +248,17 @@ fn following(b: u8) -> u8 {
 // Each byte replaced by the byte with the next number.
 fn raise(text: &[u8]) {
     let mut d: u64 = 0;
+    let mut differ: u64 = 0;
     let mut i: usize = 0;
     while i < text.len() {
         let new = [following(text[i])];
-        d = feed_damaged(d, text, i, i + 1, &new);
+        let f = feed_damaged(d, differ, text, i, i + 1, &new);
+        d = f.digest;
+        differ = f.differ;
         i += 1;
     }
     io::write_all(STDOUT_FILENO, b"raised");
-    say_digest(i, d);
+    say_digest(i, d, differ);
 }
 
 // Each byte changed to `b`.
@@ -264,11 +325,53 @@ fn show_damaged(text: &[u8], from: usize, to: usize) {
     }
 }
 
-fn damage(text: &[u8], first: bool) {
+// Whether the buffer starts with the tape and is `#` behind it.
+fn is_over(tape: &[u8], out: &[u8]) -> bool {
+    let mut i: usize = 0;
+    while i < out.len() {
+        let due = if i < tape.len() { tape[i] } else { b'#' };
+        if out[i] != due {
+            return false;
+        }
+        i += 1;
+    }
+    true
+}
+
+// 0 where the tape's text in a layout reads back as the tape, in a buffer that keeps its rest; else 1.
+fn differs_back(layout: u32, tape: &[u8]) -> u64 {
+    let mut text = [0u8; 512];
+    let mut out = [b'#'; 512];
+    let a = claims::write_and_read(layout, tape, &mut text, &mut out);
+    match a {
+        Answer::Count(n) => {
+            if n != tape.len() {
+                return 1;
+            }
+            if is_over(tape, &out) { 0 } else { 1 }
+        }
+        _ => 1,
+    }
+}
+
+fn say_back(tape: &[u8]) {
+    let compact = differs_back(0, tape);
+    let lines = differs_back(1, tape);
+    let pretty = differs_back(2, tape);
+    io::write_all(
+        STDOUT_FILENO,
+        b"written and read back, differs in layouts: ",
+    );
+    say_number((compact % 2) + (lines % 2) + (pretty % 2));
+    io::write_all(STDOUT_FILENO, b"\n");
+}
+
+fn damage(tape: &[u8], text: &[u8], first: bool) {
     if first {
         show_damaged(text, 2, 4);
         show_damaged(text, 2, 3);
     }
+    say_back(tape);
     io::write_all(STDOUT_FILENO, text);
     change_each(text);
     cut_each(text);
@@ -283,7 +386,7 @@ fn write_and_damage(tape: &[u8], first: bool) -> bool {
             if 256 < n {
                 return false;
             }
-            damage(&out[0..n], first);
+            damage(tape, &out[0..n], first);
             true
         }
         _ => false,

@@ -6,10 +6,10 @@ use Rattle.damage.proofs.raise.Statement.{statement}
 use Rattle.damage.proofs.raise.Tie as tie
 
 abbrev Inv-loop : tie.InvT-loop
-Inv-loop text d₀ i₀ t5 d i = i ≤ length text
+Inv-loop text d₀ differ₀ i₀ t6 d differ i = i ≤ length text
 
 abbrev μ-loop : tie.MeasureT-loop
-μ-loop text d₀ i₀ t5 d i = length text - i
+μ-loop text d₀ differ₀ i₀ t6 d differ i = length text - i
 
 loop-holds : tie.Need-loop-holds Inv-loop μ-loop
 loop-holds c = search needs

@@ -6,10 +6,10 @@ use Rattle.damage.proofs.replace_each.Statement.{statement}
 use Rattle.damage.proofs.replace_each.Tie as tie
 
 abbrev Inv-loop : tie.InvT-loop
-Inv-loop text width new d₀ i₀ d i = i ≤ length text + 1
+Inv-loop text width new d₀ differ₀ i₀ d differ i = i ≤ length text + 1
 
 abbrev μ-loop : tie.MeasureT-loop
-μ-loop text width new d₀ i₀ d i = length text + 1 - i
+μ-loop text width new d₀ differ₀ i₀ d differ i = length text + 1 - i
 
 loop-holds : tie.Need-loop-holds Inv-loop μ-loop
 loop-holds c = search needs
