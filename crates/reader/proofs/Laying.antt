@@ -61,7 +61,7 @@ pub laid-before : {a b c : List ℕ} {p s e z : ℕ} {h t : List ℕ} → s ≡ 
 laid-before {a} {b} {c} {p} {s} {e} {z} {h} {t} m g w =
     let e′ = g .count in
     let n = length-append h t in
-    let i = g .kept .same in
+    let i = g .kept .as-long in
     let j = w .room in
     record {
       kept = kept-then (kept-before (omega arith) (g .kept)) (wrote-kept w);

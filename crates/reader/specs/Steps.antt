@@ -29,7 +29,7 @@ use Rattle.reader.specs.declared.Made.the-variants.{Length, Nothing}
 
 -- The bytes s were written at p: the buffer went from a to b and the position to r, which is counted up to the limit. A length that is
 -- put in afterwards is the distance of two positions, so the bytes are said only where the limit was not reached: every tape that fits
--- into a buffer.
+-- into a buffer. Those before p are kept in any case.
 pub record Laid (a b : List ℕ) (p r : ℕ) (s : List ℕ) : Type 0 where
   pub kept : Kept p a b
   pub count : r ≡ min (p + length s) limit

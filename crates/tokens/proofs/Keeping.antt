@@ -15,23 +15,23 @@ take-sets n [] l i h = refl
 take-sets n (x ∷ s) l i h = take-sets n s (set l i x) (suc i) (omega arith) ∙ take-set-le n l i x h
 
 pub kept-all : {p : ℕ} {a : List ℕ} → Kept p a a
-kept-all = record { same = refl; front = refl }
+kept-all = record { as-long = refl; as-before = refl }
 
 pub kept-then : {p : ℕ} {a b c : List ℕ} → Kept p a b → Kept p b c → Kept p a c
-kept-then g h = record { same = h .same ∙ g .same; front = h .front ∙ g .front }
+kept-then g h = record { as-long = h .as-long ∙ g .as-long; as-before = h .as-before ∙ g .as-before }
 
 -- What is kept before q is kept before p, if q is not before p, or not before the buffer's end: then nothing was written at all.
 pub kept-before : {p q : ℕ} {a b : List ℕ} → min p (length a) ≤ q → Kept q a b → Kept p a b
-kept-before {p} {q} {a} {b} l h = record { same = h .same; front = go (decLe p q) }
+kept-before {p} {q} {a} {b} l h = record { as-long = h .as-long; as-before = go (decLe p q) }
   where
     go : Dec (p ≤ q) → take p b ≡ take p a
-    go (yes g) = sym (take-take p q b g) ∙ ap (take p) (h .front) ∙ take-take p q a g
+    go (yes g) = sym (take-take p q b g) ∙ ap (take p) (h .as-before) ∙ take-take p q a g
     go (no g) =
-        let n = h .same in
-        ap (take p) (sym (take-all q b (omega arith)) ∙ h .front ∙ take-all q a (omega arith))
+        let n = h .as-long in
+        ap (take p) (sym (take-all q b (omega arith)) ∙ h .as-before ∙ take-all q a (omega arith))
 
 pub wrote-kept : {a b : List ℕ} {p r : ℕ} {s : List ℕ} → Wrote a b p r s → Kept p a b
-wrote-kept {a} {b} {p} {r} {s} w = record { same = wrote-length w; front = ap (take p) (w .bytes) ∙ take-sets p s a p (omega arith) }
+wrote-kept {a} {b} {p} {r} {s} w = record { as-long = wrote-length w; as-before = ap (take p) (w .bytes) ∙ take-sets p s a p (omega arith) }
 
 -- a text was written at p, and then the buffer was kept before the place behind it
 pub wrote-then-kept : {a b c : List ℕ} {p q : ℕ} {s : List ℕ} → Wrote a b p q s → Kept q b c → Kept p a c

@@ -15,10 +15,11 @@ use Rattle.tokens.specs.declared.quoted.Step.the-variants.{Next, Bad}
 use Rattle.tokens.specs.declared.quoted.Hex.{Hex}
 use Rattle.tokens.specs.declared.quoted.Hex.the-variants as Hex
 
--- What a reader leaves that fails: it may have written from p on, and the buffer keeps its length and the bytes before p.
+-- The buffer went from b to b', and keeps its length and the bytes before p: so much is said of a reader that fails, which may have written from
+-- p on.
 pub record Kept (p : ℕ) (b b' : List ℕ) : Type 0 where
-  pub same : length b' ≡ length b
-  pub front : take p b' ≡ take p b
+  pub as-long : length b' ≡ length b
+  pub as-before : take p b' ≡ take p b
 
 -- A reader read up to a place that is lo at least, and wrote the bytes that it read at p; or nothing is read there, and the buffer is kept before p.
 abbrev pub Copied : List ℕ → ℕ → List ℕ → List ℕ → ℕ → Option (List ℕ × List ℕ) → Step → Type 0

@@ -28,7 +28,7 @@ returns : tie.Need-returns
 returns c =
     let t : List ℕ = c .before .before .before .before .before .before .before .before .args .text .now in
     let r = (rw (c .enum-told .given .1) at (c .before .before .before .before .sequence .ensures)) .told (suc (2 * length t)) (omega arith) in
-    (meaning-none t (r .0), r .1 .same)
+    (meaning-none t (r .0), r .1 .as-long)
 
 far-requires : tie.Need-far-requires
 far-requires c κs = search needs

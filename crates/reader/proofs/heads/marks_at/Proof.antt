@@ -47,7 +47,7 @@ same-length-2 : tie.Need-same-length-2 Inv-loop μ-loop
 same-length-2 c =
     let l = c .before .before .before .before .before .before .before .before .loop in
     let v = rw (c .before .before .next .given .1) at (c .before .before .before .before .before .before .note-at .ensures) in
-    v .4 .kept .same ∙ l .inv .4
+    v .4 .kept .as-long ∙ l .inv .4
 
 returns-2 : tie.Need-returns-2 Inv-loop μ-loop
 returns-2 c =
@@ -68,7 +68,7 @@ loop-again c =
     let l = c .before .before .before .before .before .before .before .before .loop in
     let v = rw (c .before .before .next .given .1) at (c .before .before .before .before .before .before .note-at .ensures) in
     let n : l .count ≡ 15 → ⊥ = c .if1 .left in
-    (omega (arith, v .2), v .3, laid-bound (v .4), omega (arith, n), v .4 .kept .same ∙ l .inv .4, λ r b' h. l .inv .5 r b' (marks-more _ (15 - (l .count + 1)) (v .0) r (omega (arith, n)) (v .1) (v .2) (l .inv .2) (v .4) h))
+    (omega (arith, v .2), v .3, laid-bound (v .4), omega (arith, n), v .4 .kept .as-long ∙ l .inv .4, λ r b' h. l .inv .5 r b' (marks-more _ (15 - (l .count + 1)) (v .0) r (omega (arith, n)) (v .1) (v .2) (l .inv .2) (v .4) h))
 
 pub marks-at-spec : {M : Type 1} → statement M
 marks-at-spec =

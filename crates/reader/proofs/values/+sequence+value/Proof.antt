@@ -2,7 +2,7 @@
 -- bracket before it calls `sequence`, and `sequence` calls `value` at the same place or behind it.
 -- The invariant of the loop is what is left to show: whatever holds of the rest of the sequence from the present place gives what the contract says of the whole.
 -- Assumes nothing.
-use Prim.Native.Nat.{ℕ, suc, _+_, _-_, _*_, _≤_, _<_}
+use Prim.Native.Nat.{ℕ, suc, _-_, _*_, _≤_, _<_}
 use mathlib.Core.Path.{_≡_, refl, _∙_}
 use mathlib.Core.List.{List}
 use native.Mathlib.Nat.{le-refl}
@@ -162,7 +162,7 @@ sequence-loop-again t c =
       g .2,
       omega (arith, w .2),
       laid-bound (w .4),
-      w .4 .kept .same ∙ l .inv .4,
+      w .4 .kept .as-long ∙ l .inv .4,
       λ r b' h. l .inv .5 r b' (run-more (s .ensures) e r (l .inv .3) v (g .0) (g .1) (g .2) h),
     )
 

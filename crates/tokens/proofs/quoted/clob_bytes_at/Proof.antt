@@ -74,7 +74,7 @@ enum-told c = search needs
 same-length-3 : tie.Need-same-length-3 Inv-loop μ-loop
 same-length-3 c =
     let h = rw (c .enum-told .given .1) at (c .before .before .before .before .clob-byte-at .ensures) in
-    h .told .1 .same ∙ wrote-length (c .before .before .before .before .before .before .before .before .before .before .before .put-bytes .ensures) ∙ c .before .before .before .before .before .before .before .before .before .before .before .before .before .before .before .loop .inv .3
+    h .told .1 .as-long ∙ wrote-length (c .before .before .before .before .before .before .before .before .before .before .before .put-bytes .ensures) ∙ c .before .before .before .before .before .before .before .before .before .before .before .before .before .before .before .loop .inv .3
 
 returns-3 : tie.Need-returns-3 Inv-loop μ-loop
 returns-3 c =
