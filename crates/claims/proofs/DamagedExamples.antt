@@ -25,14 +25,15 @@ use Rattle.tape.specs.Refusal.{noted}
 use Rattle.tape.specs.Fine.{Bytes, FineText, FineHead, Fine, Fines}
 use Rattle.tape.specs.Answer.{counted, ended}
 use Rattle.tape.specs.declared.Frame.the-variants.{Top}
-use Rattle.line_reader.specs.Cut.{grow, linesOf, lfs, toFirst, fromLast}
+use Rattle.line_reader.specs.Cut.{grow, linesOf}
 use Rattle.line_reader.specs.Book.{success, endMark, lineTape, room, byBook, play}
-use Rattle.line_reader.specs.Damage.{Written, asWritten, before, between, behindRun, damaged}
+use Rattle.line_reader.specs.Damage.{Written, damaged}
 use Rattle.line_reader.specs.Calls.{calls}
 use Rattle.writer.specs.Outcome.{refusal}
 use Rattle.writer.specs.Text.{symText, scalarText, nameText, separator, text, texts, streamText}
 use Rattle.text_rules.proofs.DigitLaws.{never}
 use Rattle.tape.proofs.Accepted.{tape-accepted, tape-nodes}
+use Rattle.line_reader.proofs.DamagedLines.{threeLines, two-bytes, one-byte}
 use Rattle.claims.specs.Demand3.{writtenAs}
 use Rattle.claims.specs.Examples.{intTape, xTape, x3Tape, call, tapeOver}
 use Rattle.claims.proofs.TokensRead.{bytes-none, bytes-more}
@@ -124,10 +125,10 @@ symbols-read at buf h = (
 
 -- ---- the calls
 
-turns : (damaged values (ascii "1\n") (ascii "2\n") (ascii "x") (ascii "3\n") ≡ success (ascii "1\n") (intTape 1) ∷ byBook (ascii "x3\n") ∷ [])
-    × (damaged values (ascii "1\n") (ascii "2") (ascii "x") (ascii "\n3\n") ≡ success (ascii "1\n") (intTape 1) ∷ byBook (ascii "x\n") ∷ success (ascii "3\n") (intTape 3) ∷ [])
-unfolding damaged before between behindRun asWritten writtenAs linesOf grow lfs toFirst fromLast tape encode encodeHead encodeName encodeNotes encodeScalar size leBytes bits
-turns = (refl, refl)
+-- the values are these three lines, each with its own tape
+values-are : values ≡ threeLines (intTape 1) (intTape 2) (intTape 3)
+unfolding writtenAs linesOf grow tape encode encodeHead encodeName encodeNotes encodeScalar size leBytes bits
+values-are = refl
 
 -- Bytes 2 and 3 replaced by one `x`: int 1, symbol x3, then end marks.
 pub x-for-two : (buf : List ℕ) → 35 ≤ length buf → calls 4 (ascii "1\nx3\n") 0 buf ≡
@@ -138,7 +139,7 @@ pub x-for-two : (buf : List ℕ) → 35 ≤ length buf → calls 4 (ascii "1\nx3
 unfolding play success endMark
 x-for-two buf l =
     three-damaged (ascii "1\n") (ascii "2\n") (ascii "x") (ascii "3\n") buf 4 refl l
-    ∙ rw (turns .0, symbols-read 2 (tapeOver (intTape 1) buf) (omega arith) .1)
+    ∙ rw (values-are, two-bytes (intTape 1) (intTape 2) (intTape 3), symbols-read 2 (tapeOver (intTape 1) buf) (omega arith) .1)
 
 -- Byte 2 alone replaced: 1, x, 3.
 pub x-for-one : (buf : List ℕ) → 35 ≤ length buf → calls 4 (ascii "1\nx\n3\n") 0 buf ≡
@@ -149,4 +150,4 @@ pub x-for-one : (buf : List ℕ) → 35 ≤ length buf → calls 4 (ascii "1\nx\
 unfolding play success endMark
 x-for-one buf l =
     three-damaged (ascii "1\n") (ascii "2") (ascii "x") (ascii "\n3\n") buf 4 refl l
-    ∙ rw (turns .1, symbols-read 2 (tapeOver (intTape 1) buf) (omega arith) .0)
+    ∙ rw (values-are, one-byte (intTape 1) (intTape 2) (intTape 3), symbols-read 2 (tapeOver (intTape 1) buf) (omega arith) .0)

@@ -15,7 +15,7 @@ use Rattle.tape.specs.declared.Frame.the-variants.{Top}
 use Rattle.reader.specs.Outcome.{fits}
 use Rattle.line_reader.specs.Cut.{lf, linesOf, lfs, toFirst, fromLast}
 use Rattle.line_reader.specs.Book.{single, lineTape, play, book}
-use Rattle.line_reader.specs.Damage.{Written, asWritten, before, behindRun, damaged}
+use Rattle.line_reader.specs.Damage.{Written, joinedText, asWritten, before, behindRun, damaged}
 use Rattle.line_reader.specs.Calls.{calls, Ran}
 use Rattle.line_reader.specs.declared.Called.{Called}
 use Rattle.writer.specs.Outcome.{refusal}
@@ -24,8 +24,8 @@ use Rattle.tape.proofs.Walking.{verdict-told, tape-back}
 use Rattle.tape.proofs.FineBack.{tape-fine}
 use Rattle.line_reader.proofs.CutLaws.{cut-line, lfs-last}
 use Rattle.line_reader.proofs.BookLaws.{line-tape, calls-book}
-use Rattle.line_reader.proofs.Demand.{Reads, All, joined, before-behind, undamaged, demand}
-use Rattle.claims.specs.Demand3.{writtenAs, linesEach, joinedText}
+use Rattle.line_reader.proofs.Demand.{Reads, All, before-behind, undamaged, demand}
+use Rattle.claims.specs.Demand3.{writtenAs, linesEach}
 use Rattle.claims.proofs.LineBack.{lineBody, line, lines-more, lines-none, line-alone, alone-first, alone-rest, line-body, line-body-back}
 use Rattle.claims.proofs.TapeBack.{through, first-shorter}
 
@@ -37,7 +37,7 @@ written nil = []
 written (more h n ns) = record { line = line h n; tape = tape (more h n nil) } ∷ written ns
 
 -- these lines joined are the Lines text
-written-text : (ns : Nodes) → joined (written ns) ≡ streamText 1 ns
+written-text : (ns : Nodes) → joinedText (written ns) ≡ streamText 1 ns
 unfolding written flatten
 written-text nil = sym lines-none
 written-text (more h n ns) = ap (λ (t : List ℕ). line h n ++ t) (written-text ns) ∙ sym (lines-more h n ns)
@@ -97,7 +97,7 @@ written-as (more h n ns) = rw (line-alone h n) (ap (λ (ws : List Written). reco
 
 -- what a tape that is let through is written as
 record Lines (t : List ℕ) (room : ℕ) : Type 0 where
-  text : joined (written (nodesOf t)) ≡ streamText 1 (nodesOf t)
+  text : joinedText (written (nodesOf t)) ≡ streamText 1 (nodesOf t)
   reads : All (Reads room) (written (nodesOf t))
   each : writtenAs (linesOf (streamText 1 (nodesOf t))) (nodesOf t) ≡ written (nodesOf t)
 

@@ -1,6 +1,6 @@
 -- Which values a Lines text was written from, line by line: what demand 3 calls "as written". Assumes nothing: these are definitions.
 use Prim.Native.Nat.{ℕ}
-use mathlib.Core.List.{List, [], _∷_, map, flatten}
+use mathlib.Core.List.{List, [], _∷_}
 use Rattle.tape.specs.Tree.{Nodes, nil, more, tape}
 use Rattle.line_reader.specs.Damage.{Written}
 use Rattle.writer.specs.Text.{streamText}
@@ -15,7 +15,3 @@ writtenAs (l ∷ ls) (more h n ns) = record { line = l; tape = tape (more h n ni
 unfoldable pub linesEach : Nodes → List (List ℕ)
 linesEach nil = []
 linesEach (more h n ns) = streamText 1 (more h n nil) ∷ linesEach ns
-
--- the text of written values: their lines joined
-abbrev pub joinedText : List Written → List ℕ
-joinedText ws = flatten (map (λ (w : Written). w .line) ws)

@@ -58,7 +58,7 @@ unfolding byBook room success failure fits zeros
 book-length l at buf = go (lineTape l)
   where
     go : (o : Option (List ℕ)) → length (on o (λ t. if (fits t (length buf)) (success l t at buf) (failure 9 l at buf)) (failure 8 l at buf) .buf) ≡ length buf
-    go none = simp (length-replicate {A = ℕ})
+    go none = search length-replicate
     go (some t) = held (fits t (length buf)) refl
       where
         held : (q : Bool) → fits t (length buf) ≡ q → length (if q (success l t at buf) (failure 9 l at buf) .buf) ≡ length buf

@@ -8,7 +8,7 @@ use lib.ListN.{length, take, drop}
 use Rattle.reader.specs.Outcome.{fits}
 use Rattle.line_reader.specs.Cut.{lf, linesOf, lfs, toFirst, fromLast}
 use Rattle.line_reader.specs.Book.{Call, Turn, lineTape, room, byBook, play, book}
-use Rattle.line_reader.specs.Damage.{Written, asWritten, before, between, behindRun, damaged}
+use Rattle.line_reader.specs.Damage.{Written, joinedText, asWritten, before, between, behindRun, damaged}
 use Rattle.line_reader.proofs.CutLaws.{cut-line, cut-damaged, lines-lie, lines-follow}
 use Rattle.line_reader.proofs.BookLaws.{book-length}
 
@@ -49,22 +49,18 @@ map-drop f (suc n) (x ∷ xs) = map-drop f n xs
 abbrev pub lineOf : Written → List ℕ
 lineOf w = w .line
 
--- their text: the lines joined
-abbrev pub joined : List Written → List ℕ
-joined ws = flatten (map lineOf ws)
-
--- which is cut into these lines again
-pub cut-joined : (n : ℕ) (ws : List Written) → All (Reads n) ws → linesOf (joined ws) ≡ map lineOf ws
+-- the lines joined are cut into these lines again
+pub cut-joined : (n : ℕ) (ws : List Written) → All (Reads n) ws → linesOf (joinedText ws) ≡ map lineOf ws
 unfolding flatten linesOf
 cut-joined n [] a = refl
 cut-joined n (w ∷ ws) a =
     let r = a .0 in
-    rw (r .is, append-assoc (r .body) (lf ∷ []) (joined ws), cut-line (r .body) (joined ws) (r .only))
+    rw (r .is, append-assoc (r .body) (lf ∷ []) (joinedText ws), cut-line (r .body) (joinedText ws) (r .only))
     (ap (λ (ls : List (List ℕ)). (r .body ++ lf ∷ []) ∷ ls) (cut-joined n ws (a .1)))
 
 -- The lines before, joined, are the head up to its last LF; those behind are the tail from behind its first.
-pub before-behind : (n : ℕ) (ws : List Written) → All (Reads n) ws → (head run tail : List ℕ) → joined ws ≡ head ++ run ++ tail
-    → (joined (before ws head) ++ fromLast head ≡ head) × (toFirst tail ++ joined (behindRun ws head run) ≡ tail)
+pub before-behind : (n : ℕ) (ws : List Written) → All (Reads n) ws → (head run tail : List ℕ) → joinedText ws ≡ head ++ run ++ tail
+    → (joinedText (before ws head) ++ fromLast head ≡ head) × (toFirst tail ++ joinedText (behindRun ws head run) ≡ tail)
 unfolding before behindRun
 before-behind n ws a head run tail e =
     let lines : map lineOf ws ≡ linesOf (head ++ run ++ tail) = sym (cut-joined n ws a) ∙ ap linesOf e in (
@@ -110,12 +106,12 @@ like-written n (w ∷ ws) a = like-more record { same = book-written n w (a .0);
 -- ---- demand 3
 
 -- A text of written values is answered as written, line by line.
-pub undamaged : (ws : List Written) (buf : List ℕ) → All (Reads (length buf)) ws → (n : ℕ) → book n (joined ws) buf ≡ play n (map asWritten ws) 0 buf
+pub undamaged : (ws : List Written) (buf : List ℕ) → All (Reads (length buf)) ws → (n : ℕ) → book n (joinedText ws) buf ≡ play n (map asWritten ws) 0 buf
 unfolding book
 undamaged ws buf a n = rw (cut-joined (length buf) ws a) (play-like n 0 buf refl (like-written (length buf) ws a))
 
 -- Of a text of written values one run is replaced: every list of calls is answered, by the book, as `damaged` says.
-pub demand : (ws : List Written) (buf : List ℕ) → All (Reads (length buf)) ws → (head run new tail : List ℕ) → joined ws ≡ head ++ run ++ tail
+pub demand : (ws : List Written) (buf : List ℕ) → All (Reads (length buf)) ws → (head run new tail : List ℕ) → joinedText ws ≡ head ++ run ++ tail
     → (n : ℕ) → book n (head ++ new ++ tail) buf ≡ play n (damaged ws head run new tail) 0 buf
 unfolding book damaged before between behindRun
 demand ws buf a head run new tail e n =

@@ -1,7 +1,7 @@
 -- DEMAND 3: what the calls answer on a written text of which one run of bytes is replaced. Assumes nothing: these are definitions. The grammar
 -- alone is cited, and not the writer: that the Lines text of a tape is written in this sense is a theorem (claims).
 use Prim.Native.Nat.{ℕ, suc}
-use mathlib.Core.List.{List, _++_, map}
+use mathlib.Core.List.{List, _++_, map, flatten}
 use lib.ListN.{take, drop}
 use Rattle.line_reader.specs.Cut.{linesOf, lfs, toFirst, fromLast}
 use Rattle.line_reader.specs.Book.{Turn, success, byBook}
@@ -10,6 +10,10 @@ use Rattle.line_reader.specs.Book.{Turn, success, byBook}
 pub record Written : Type 0 where
   pub line : List ℕ
   pub tape : List ℕ
+
+-- the text of written values: their lines joined
+abbrev pub joinedText : List Written → List ℕ
+joinedText ws = flatten (map (λ (w : Written). w .line) ws)
 
 -- "As written: the call lays the written tape's node and a trailer counting 1 node, and answers their length."
 unfoldable pub asWritten : Written → Turn
