@@ -1,6 +1,6 @@
 -- Laws on what is due. Assumes nothing.
 use Prim.Native.Nat.{ℕ, zero, suc, _<_}
-use mathlib.Core.Path.{_≡_, refl, ap, sym, _∙_}
+use mathlib.Core.Path.{_≡_, refl, ap, _∙_}
 use mathlib.Core.List.{List, [], _∷_, _++_}
 use mathlib.Core.Bool.{Bool, true, false}
 use native.Mathlib.Omega.{arith}
@@ -8,10 +8,13 @@ use lib.Dec.{eqb}
 use lib.ListN.{length, getD, replicate, length-append, length-take, length-replicate, getD-replicate}
 use lib.Seq.{getD-take}
 use borrow.Author.Tests.{eqb-true, eq-eqb}
-use Rattle.tape.specs.Answer.{Outcome, counted, ended, refused}
+use Rattle.tape.specs.Answer.{counted, ended, refused}
 use Rattle.listing.specs.Due.{Decides, due, filled}
 
 -- ---- tests
+
+pub contrary : {t : Bool} → t ≡ false → t ≡ true → ⊥
+contrary e g = let z : _≡_ {A = ℕ} 0 1 = cc in omega arith
 
 pub denied : {P : Type 0} → (P → ⊥) → Decides false P
 denied h = record { yes = λ e. let z : _≡_ {A = ℕ} 0 1 = cc in absurd (omega arith); no = λ p. absurd (h p) }

@@ -1,7 +1,7 @@
 -- Laws on spellings: the two digits of a byte, the byte at a place, and all of them from there. Assumes nothing.
 use Prim.Native.Nat.{ℕ, zero, suc, _+_, _-_, _*_, _<_, _≤_}
-use mathlib.Core.Path.{_≡_, refl, ap, sym, _∙_}
-use mathlib.Core.List.{List, [], _∷_, _++_, append-assoc, append-nil}
+use mathlib.Core.Path.{_≡_, refl, ap, sym}
+use mathlib.Core.List.{List, [], _∷_, _++_, append-assoc}
 use mathlib.Core.Option.{Option, none, some}
 use native.Mathlib.Omega.{arith}
 use lib.ListN.{length, getD, drop, length-append, length-drop, drop-of-length-le}
@@ -15,7 +15,7 @@ use Rattle.listing.specs.declared.decode.Form.the-variants.{Hex, Text}
 use Rattle.listing.specs.declared.decode.One.{One}
 use Rattle.listing.specs.declared.decode.One.the-variants.{Byte, Nothing}
 use Rattle.listing.specs.declared.decode.Decoded.the-variants.{Length, Malformed}
-use Rattle.listing.specs.Spelling.{oneByte, bytesOf, decodedAs, Decodes}
+use Rattle.listing.specs.Spelling.{oneByte, bytesOf, Decodes}
 use Rattle.listing.specs.DecodeSteps.{PairAt, OneAt}
 
 -- ---- two digits

@@ -3,7 +3,7 @@ use Prim.Native.Nat.{ℕ, zero, suc}
 use mathlib.Core.Path.{_≡_}
 use mathlib.Core.List.{List, _++_}
 use mathlib.Core.Bool.{Bool, true}
-use lib.ListN.{take, replicate}
+use lib.ListN.{length, take, replicate}
 use Rattle.tape.specs.Answer.{Outcome, counted, refused}
 
 -- r says whether P holds
@@ -19,3 +19,8 @@ due (suc k) n = refused (suc k)
 -- a buffer of n bytes: the bytes s, or as many of them as it has room for, and then `rest` to its end
 abbrev pub filled : ℕ → List ℕ → ℕ → List ℕ
 filled n s rest = take n (s ++ replicate n rest)
+
+-- an answer and a whole buffer are as due
+pub record AsDue (o : Outcome) (b : List ℕ) (refusal : ℕ) (s : List ℕ) (rest : ℕ) : Type 0 where
+  pub answer : o ≡ due refusal (length s)
+  pub buffer : b ≡ filled (length b) s rest

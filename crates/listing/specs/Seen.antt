@@ -22,3 +22,8 @@ pub record Keeps (a b : List ℕ) : Type 0 where
 pub record Differs (a b : List ℕ) : Type 0 where
   pub exactly : b ≡ oneMore a 7
   pub kept : differences a ≤ differences b
+
+-- P holds and nothing is counted, or it does not and there is one difference more
+pub data Judged (P : Type 0) (a b : List ℕ) : Type 0 where
+  agrees : P → b ≡ a → Judged P a b
+  deviates : (P → ⊥) → b ≡ oneMore a 7 → Judged P a b

@@ -2,7 +2,9 @@
 ghost use mathlib.Core.Path.{_≡_};
 ghost use lib.ListN.{length, getD};
 ghost use Rattle.tape.specs.Answer.{outcome};
-ghost use Rattle.listing.specs.Due.{Decides, due, filled};
+ghost use Rattle.listing.specs.Due.{Decides, due, filled, AsDue};
+ghost use Rattle.listing.specs.Seen.{Keeps, Judged};
+use crate::report;
 use tape::answer::Answer;
 
 // The answer is the refusal, or, where that is 0, the count.
@@ -43,4 +45,26 @@ pub fn holds(out: &[u8], bytes: &[u8], rest: u8) -> bool
         i += 1;
     }
     true
+}
+
+// Compares what a call answered, and its whole buffer, with what is due, and reports a difference.
+pub fn judge(
+    what: u8,
+    a: Answer,
+    refusal: u8,
+    bytes: &[u8],
+    rest: u8,
+    out: &[u8],
+    seen: &mut [usize; 8],
+)
+    ensures { λ _. ⌜ Judged (AsDue (outcome a) (now (out .entry)) refusal (now (bytes .entry)) rest) (now (seen .entry)) (now (seen .exit)) ⌝ }
+    ensures { λ _. ⌜ Keeps (now (seen .entry)) (now (seen .exit)) ⌝ }
+{
+    if !answers(a, refusal, bytes.len()) {
+        report::differs(what, refusal, bytes, a, out, seen);
+        return;
+    }
+    if !holds(out, bytes, rest) {
+        report::differs(what, refusal, bytes, a, out, seen);
+    }
 }

@@ -127,14 +127,7 @@ fn found(a: Answer, out: &[u8]) {
 }
 
 // A call that did not answer what was due, or did not leave its buffer so.
-pub fn differs(
-    what: u8,
-    refusal: u8,
-    bytes: &[u8],
-    a: Answer,
-    out: &[u8],
-    seen: &mut [usize; 8],
-)
+pub fn differs(what: u8, refusal: u8, bytes: &[u8], a: Answer, out: &[u8], seen: &mut [usize; 8])
     ensures { λ _. ⌜ Differs (now (seen .entry)) (now (seen .exit)) ⌝ }
 {
     difference(seen);

@@ -4,13 +4,18 @@
 mod reading;
 mod writing;
 
+ghost use mathlib.Core.Path.{_≡_};
+ghost use lib.Dec.{eqb};
+ghost use Rattle.listing.specs.Seen.{differences, Keeps};
 use libc::STDIN_FILENO;
 use listing::decode;
 use listing::decode::Decoded;
 use listing::report;
 
 // `x`: the tape that the lines behind it are about.
-fn tape_line(hex: &[u8], tape: &mut [u8], seen: &mut [usize; 8]) {
+fn tape_line(hex: &[u8], tape: &mut [u8], seen: &mut [usize; 8])
+    ensures { λ _. ⌜ Keeps (now (seen .entry)) (now (seen .exit)) ⌝ }
+{
     let Decoded::Length(n) = decode::hex(hex, tape) else {
         report::malformed(seen);
         return;
@@ -19,11 +24,15 @@ fn tape_line(hex: &[u8], tape: &mut [u8], seen: &mut [usize; 8]) {
 }
 
 // Behind `=`: the text of a layout, the tree text, or with `r` any text that means the tape.
-fn text(mode: u8, text: &[u8], tape: &[u8], seen: &mut [usize; 8]) {
+fn text(mode: u8, text: &[u8], tape: &[u8], seen: &mut [usize; 8])
+    ensures { λ _. ⌜ Keeps (now (seen .entry)) (now (seen .exit)) ⌝ }
+{
     report::count(seen, report::TEXTS);
-    if mode != b'r' {
-        writing::text(mode, text, tape, seen);
+    if mode == b'r' {
+        reading::text(text, tape, seen);
+        return;
     }
+    writing::text(mode, text, tape, seen);
     reading::text(text, tape, seen);
     if mode == b'1' {
         reading::lines(text, tape, seen);
@@ -31,7 +40,9 @@ fn text(mode: u8, text: &[u8], tape: &[u8], seen: &mut [usize; 8]) {
 }
 
 // Behind `!`: the number of a refusal; with `r` the text refused, and behind 6 the first bytes, which fill the buffer.
-fn refusal(mode: u8, number: u8, bytes: &[u8], tape: &[u8], seen: &mut [usize; 8]) {
+fn refusal(mode: u8, number: u8, bytes: &[u8], tape: &[u8], seen: &mut [usize; 8])
+    ensures { λ _. ⌜ Keeps (now (seen .entry)) (now (seen .exit)) ⌝ }
+{
     report::count(seen, report::REFUSALS);
     if mode == b'r' {
         reading::refusal(number, bytes, seen);
@@ -41,7 +52,9 @@ fn refusal(mode: u8, number: u8, bytes: &[u8], tape: &[u8], seen: &mut [usize; 8
 }
 
 // What is said behind `=`, with the number 0, or behind `!` and a number.
-fn said(mode: u8, number: u8, said: &[u8], tape: &[u8], seen: &mut [usize; 8]) {
+fn said(mode: u8, number: u8, said: &[u8], tape: &[u8], seen: &mut [usize; 8])
+    ensures { λ _. ⌜ Keeps (now (seen .entry)) (now (seen .exit)) ⌝ }
+{
     let mut made = [0u8; 16384];
     let Decoded::Length(n) = decode::text(said, &mut made) else {
         report::malformed(seen);
@@ -59,7 +72,9 @@ fn said(mode: u8, number: u8, said: &[u8], tape: &[u8], seen: &mut [usize; 8]) {
 }
 
 // A mode, and what it gives.
-fn answer_line(line: &[u8], tape: &[u8], seen: &mut [usize; 8]) {
+fn answer_line(line: &[u8], tape: &[u8], seen: &mut [usize; 8])
+    ensures { λ _. ⌜ Keeps (now (seen .entry)) (now (seen .exit)) ⌝ }
+{
     if line.len() < 2 {
         report::malformed(seen);
         return;
@@ -88,7 +103,9 @@ fn answer_line(line: &[u8], tape: &[u8], seen: &mut [usize; 8]) {
     said(line[0], number, &line[3..], tape, seen);
 }
 
-fn line(line: &[u8], tape: &mut [u8], seen: &mut [usize; 8]) {
+fn line(line: &[u8], tape: &mut [u8], seen: &mut [usize; 8])
+    ensures { λ _. ⌜ Keeps (now (seen .entry)) (now (seen .exit)) ⌝ }
+{
     report::new_line(seen);
     if line.len() == 0 {
         return;
@@ -109,16 +126,17 @@ fn line(line: &[u8], tape: &mut [u8], seen: &mut [usize; 8]) {
 }
 
 // Every whole line; answers the length of these.
-fn lines(text: &[u8], tape: &mut [u8], seen: &mut [usize; 8]) -> usize {
+fn lines(text: &[u8], tape: &mut [u8], seen: &mut [usize; 8]) -> usize
+    ensures { λ _. ⌜ Keeps (now (seen .entry)) (now (seen .exit)) ⌝ }
+{
     let mut start: usize = 0;
-    let mut i: usize = 0;
-    while i < text.len() {
-        let end = i;
-        i += 1;
-        if text[end] == b'\n' {
-            line(&text[start..end], tape, seen);
-            start = i;
+    while start < text.len() {
+        let end = program_io::find(text, start, b'\n');
+        if end == text.len() {
+            return start;
         }
+        line(&text[start..end], tape, seen);
+        start = end + 1;
     }
     start
 }
@@ -144,13 +162,17 @@ enum Left {
     Ended,
 }
 
-fn broken_off(seen: &mut [usize; 8]) -> Left {
+fn broken_off(seen: &mut [usize; 8]) -> Left
+    ensures { λ _. ⌜ Keeps (now (seen .entry)) (now (seen .exit)) ⌝ }
+{
     report::malformed(seen);
     Left::Ended
 }
 
 // One piece of the input, behind the bytes that the last one left. The input must end behind a whole line.
-fn piece(buf: &mut [u8], left: usize, tape: &mut [u8], seen: &mut [usize; 8]) -> Left {
+fn piece(buf: &mut [u8], left: usize, tape: &mut [u8], seen: &mut [usize; 8]) -> Left
+    ensures { λ _. ⌜ Keeps (now (seen .entry)) (now (seen .exit)) ⌝ }
+{
     if buf.len() < left {
         return broken_off(seen);
     }
@@ -170,7 +192,9 @@ fn piece(buf: &mut [u8], left: usize, tape: &mut [u8], seen: &mut [usize; 8]) ->
 }
 
 // A proved loop has to end, and nothing says that the input does: the turns are counted down from a number that no list uses up.
-fn pieces(buf: &mut [u8], tape: &mut [u8], seen: &mut [usize; 8]) {
+fn pieces(buf: &mut [u8], tape: &mut [u8], seen: &mut [usize; 8])
+    ensures { λ _. ⌜ Keeps (now (seen .entry)) (now (seen .exit)) ⌝ }
+{
     let mut left: usize = 0;
     let mut turns: usize = 1000000;
     while 0 < turns {
@@ -183,11 +207,13 @@ fn pieces(buf: &mut [u8], tape: &mut [u8], seen: &mut [usize; 8]) {
     report::malformed(seen);
 }
 
-// The list on standard input.
-pub fn list() {
+// The list on standard input. Whether nothing differed; how much was compared is printed.
+pub fn list(seen: &mut [usize; 8]) -> bool
+    ensures { λ r. ⌜ r ≡ eqb (differences (now (seen .exit))) 0 ⌝ }
+    ensures { λ _. ⌜ Keeps (now (seen .entry)) (now (seen .exit)) ⌝ }
+{
     let mut buf = io::large_buffer();
     let mut tape = [0u8; 16384];
-    let mut seen = [0usize; 8];
-    pieces(&mut buf, &mut tape, &mut seen);
-    report::sum(&seen);
+    pieces(&mut buf, &mut tape, seen);
+    report::sum(seen)
 }

@@ -1,31 +1,21 @@
 // Reading, compared with the list: each text gives its own tape or is refused, and each line of a Lines text gives the tape of its node.
+ghost use Rattle.listing.specs.Seen.{Keeps};
 use listing::compare;
 use listing::report;
 use tape::answer::Answer;
 
 // One call, on a buffer that is 165 all over: the refusal, or 0 for the count of the tape; the tape at its start and `rest` behind it.
-fn read_into(
-    text: &[u8],
-    refusal: u8,
-    tape: &[u8],
-    rest: u8,
-    out: &mut [u8],
-    seen: &mut [usize; 8],
-) {
+fn read_into(text: &[u8], refusal: u8, tape: &[u8], rest: u8, out: &mut [u8], seen: &mut [usize; 8])
+    ensures { λ _. ⌜ Keeps (now (seen .entry)) (now (seen .exit)) ⌝ }
+{
     report::count(seen, report::READS);
     let a = reader::read_text(text, out);
-    if compare::answers(a, refusal, tape.len()) {
-        if compare::holds(out, tape, rest) {
-            return;
-        }
-    }
-    report::difference(seen);
-    report::doing(b'r', out.len());
-    report::expected(refusal, tape.len(), tape);
-    report::found(a, out);
+    compare::judge(b'r', a, refusal, tape, rest, out, seen);
 }
 
-fn read_in(text: &[u8], refusal: u8, tape: &[u8], rest: u8, room: usize, seen: &mut [usize; 8]) {
+fn read_in(text: &[u8], refusal: u8, tape: &[u8], rest: u8, room: usize, seen: &mut [usize; 8])
+    ensures { λ _. ⌜ Keeps (now (seen .entry)) (now (seen .exit)) ⌝ }
+{
     let mut out = [165u8; 32768];
     if 32768 < room {
         report::malformed(seen);
@@ -35,7 +25,9 @@ fn read_in(text: &[u8], refusal: u8, tape: &[u8], rest: u8, room: usize, seen: &
 }
 
 // A text gives its tape, with room to spare and with just its room; one byte less is refusal 9, which leaves zeros.
-pub fn text(text: &[u8], tape: &[u8], seen: &mut [usize; 8]) {
+pub fn text(text: &[u8], tape: &[u8], seen: &mut [usize; 8])
+    ensures { λ _. ⌜ Keeps (now (seen .entry)) (now (seen .exit)) ⌝ }
+{
     let n = tape.len();
     if n == 0 {
         report::malformed(seen);
@@ -51,7 +43,9 @@ pub fn text(text: &[u8], tape: &[u8], seen: &mut [usize; 8]) {
 }
 
 // A refusal leaves zeros, whatever the room.
-pub fn refusal(number: u8, text: &[u8], seen: &mut [usize; 8]) {
+pub fn refusal(number: u8, text: &[u8], seen: &mut [usize; 8])
+    ensures { λ _. ⌜ Keeps (now (seen .entry)) (now (seen .exit)) ⌝ }
+{
     read_in(text, number, b"", 0, 0, seen);
     read_in(text, number, b"", 0, 40, seen);
     read_in(text, number, b"", 0, 9999, seen);
@@ -108,10 +102,10 @@ fn node_at(out: &[u8], n: usize, nodes: &[u8], at: usize) -> Node {
     Node::Behind(at + size)
 }
 
-fn line_differs(a: Answer, at: usize, nodes: &[u8], out: &[u8], seen: &mut [usize; 8]) -> Next {
-    report::difference(seen);
-    report::line_of(at, nodes);
-    report::found(a, out);
+fn line_differs(a: Answer, at: usize, nodes: &[u8], out: &[u8], seen: &mut [usize; 8]) -> Next
+    ensures { λ _. ⌜ Keeps (now (seen .entry)) (now (seen .exit)) ⌝ }
+{
+    report::line_differs(at, nodes, a, out, seen);
     Next::Nothing
 }
 
@@ -124,7 +118,9 @@ fn judge(
     done: usize,
     out: &[u8],
     seen: &mut [usize; 8],
-) -> Next {
+) -> Next
+    ensures { λ _. ⌜ Keeps (now (seen .entry)) (now (seen .exit)) ⌝ }
+{
     match a {
         Answer::Count(n) => {
             let Node::Behind(behind) = node_at(out, n, nodes, done) else {
@@ -152,7 +148,9 @@ fn line_into(
     done: usize,
     out: &mut [u8],
     seen: &mut [usize; 8],
-) -> Next {
+) -> Next
+    ensures { λ _. ⌜ Keeps (now (seen .entry)) (now (seen .exit)) ⌝ }
+{
     report::count(seen, report::READS);
     let c = line_reader::call_at(text, at, out);
     let a = c.answer;
@@ -160,7 +158,9 @@ fn line_into(
 }
 
 // One call, on a buffer that is 165 all over, with 9 bytes to spare for the whole tape.
-fn line(text: &[u8], at: usize, nodes: &[u8], done: usize, seen: &mut [usize; 8]) -> Next {
+fn line(text: &[u8], at: usize, nodes: &[u8], done: usize, seen: &mut [usize; 8]) -> Next
+    ensures { λ _. ⌜ Keeps (now (seen .entry)) (now (seen .exit)) ⌝ }
+{
     let mut out = [165u8; 16401];
     let n = nodes.len();
     if 16384 < n {
@@ -171,7 +171,9 @@ fn line(text: &[u8], at: usize, nodes: &[u8], done: usize, seen: &mut [usize; 8]
 }
 
 // The lines of a Lines text, one node of the tape each, through the end mark.
-pub fn lines(text: &[u8], tape: &[u8], seen: &mut [usize; 8]) {
+pub fn lines(text: &[u8], tape: &[u8], seen: &mut [usize; 8])
+    ensures { λ _. ⌜ Keeps (now (seen .entry)) (now (seen .exit)) ⌝ }
+{
     if tape.len() < 8 {
         report::malformed(seen);
         return;
@@ -179,7 +181,9 @@ pub fn lines(text: &[u8], tape: &[u8], seen: &mut [usize; 8]) {
     calls(text, &tape[0..tape.len() - 8], seen);
 }
 
-fn calls(text: &[u8], nodes: &[u8], seen: &mut [usize; 8]) {
+fn calls(text: &[u8], nodes: &[u8], seen: &mut [usize; 8])
+    ensures { λ _. ⌜ Keeps (now (seen .entry)) (now (seen .exit)) ⌝ }
+{
     let mut at: usize = 0;
     let mut done: usize = 0;
     let mut calls: usize = 0;

@@ -1,4 +1,5 @@
 // Writing, compared with the list: the answer and the whole buffer.
+ghost use Rattle.listing.specs.Seen.{Keeps};
 use listing::compare;
 use listing::report;
 use tape::answer::Answer;
@@ -24,28 +25,17 @@ fn write_into(
     bytes: &[u8],
     out: &mut [u8],
     seen: &mut [usize; 8],
-) {
+)
+    ensures { λ _. ⌜ Keeps (now (seen .entry)) (now (seen .exit)) ⌝ }
+{
     report::count(seen, report::WRITES);
     let a = write(layout, tape, out);
-    if compare::answers(a, refusal, bytes.len()) {
-        if compare::holds(out, bytes, 165) {
-            return;
-        }
-    }
-    report::difference(seen);
-    report::doing(layout, out.len());
-    report::expected(refusal, bytes.len(), bytes);
-    report::found(a, out);
+    compare::judge(layout, a, refusal, bytes, 165, out, seen);
 }
 
-fn write_in(
-    layout: u8,
-    tape: &[u8],
-    refusal: u8,
-    bytes: &[u8],
-    room: usize,
-    seen: &mut [usize; 8],
-) {
+fn write_in(layout: u8, tape: &[u8], refusal: u8, bytes: &[u8], room: usize, seen: &mut [usize; 8])
+    ensures { λ _. ⌜ Keeps (now (seen .entry)) (now (seen .exit)) ⌝ }
+{
     let mut out = [165u8; 32768];
     if 32768 < room {
         report::malformed(seen);
@@ -55,7 +45,9 @@ fn write_in(
 }
 
 // A text, with room to spare, with just its room, and with less: one byte less, half of it and none.
-pub fn text(layout: u8, bytes: &[u8], tape: &[u8], seen: &mut [usize; 8]) {
+pub fn text(layout: u8, bytes: &[u8], tape: &[u8], seen: &mut [usize; 8])
+    ensures { λ _. ⌜ Keeps (now (seen .entry)) (now (seen .exit)) ⌝ }
+{
     let n = bytes.len();
     if 32000 < n {
         report::malformed(seen);
@@ -72,7 +64,9 @@ pub fn text(layout: u8, bytes: &[u8], tape: &[u8], seen: &mut [usize; 8]) {
 }
 
 // A refusal. 6 comes with its buffer; any other leaves the buffer alone, whether there is one or not.
-pub fn refusal(layout: u8, number: u8, bytes: &[u8], tape: &[u8], seen: &mut [usize; 8]) {
+pub fn refusal(layout: u8, number: u8, bytes: &[u8], tape: &[u8], seen: &mut [usize; 8])
+    ensures { λ _. ⌜ Keeps (now (seen .entry)) (now (seen .exit)) ⌝ }
+{
     if number == 6 {
         write_in(layout, tape, 6, bytes, bytes.len(), seen);
         return;

@@ -1,25 +1,29 @@
--- `replay::lines` is safe and ends. Assumes nothing.
+-- `replay::lines` keeps what was counted, and ends. Assumes nothing.
 use Prim.Native.Nat.{_-_, _≤_}
 use mathlib.Core.Path.{_≡_}
 use lib.ListN.{length}
+use Rattle.listing.specs.Seen.{Keeps}
 use borrow.Author.Needs.{needs}
 use Rattle.replay.proofs.lines.Statement.{statement}
 use Rattle.replay.proofs.lines.Tie as tie
 
 abbrev Inv-loop : tie.InvT-loop
-Inv-loop text tape₀ seen₀ start₀ i₀ tape seen start i = (start ≤ i) × (i ≤ length text) × (length tape₀ ≡ length tape)
+Inv-loop text tape₀ seen₀ start₀ tape seen start = (start ≤ length text) × (length tape₀ ≡ length tape) × Keeps seen₀ seen
 
 abbrev μ-loop : tie.MeasureT-loop
-μ-loop text tape₀ seen₀ start₀ i₀ tape seen start i = length text - i
+μ-loop text tape₀ seen₀ start₀ tape seen start = length text - start
 
 loop-holds : tie.Need-loop-holds Inv-loop μ-loop
 loop-holds c = search needs
 
-add-i : tie.Need-add-i Inv-loop μ-loop
-add-i c = search needs
+find-requires : tie.Need-find-requires Inv-loop μ-loop
+find-requires c κs = search needs
 
-shared-slice-read-if1 : tie.Need-shared-slice-read-if1 Inv-loop μ-loop
-shared-slice-read-if1 c = search needs
+same-length : tie.Need-same-length Inv-loop μ-loop
+same-length c = search needs
+
+returns : tie.Need-returns Inv-loop μ-loop
+returns c = search needs
 
 sub-line : tie.Need-sub-line Inv-loop μ-loop
 sub-line c = search needs
@@ -33,23 +37,20 @@ part-line-end c = search needs
 line-requires : tie.Need-line-requires Inv-loop μ-loop
 line-requires c κs = search needs
 
+add-start : tie.Need-add-start Inv-loop μ-loop
+add-start c = search needs
+
 loop-less : tie.Need-loop-less Inv-loop μ-loop
 loop-less c = search needs
 
 loop-again : tie.Need-loop-again Inv-loop μ-loop
 loop-again c = search needs
 
-loop-less-2 : tie.Need-loop-less-2 Inv-loop μ-loop
-loop-less-2 c = search needs
+same-length-2 : tie.Need-same-length-2 Inv-loop μ-loop
+same-length-2 c = search needs
 
-loop-again-2 : tie.Need-loop-again-2 Inv-loop μ-loop
-loop-again-2 c = search needs
-
-same-length : tie.Need-same-length Inv-loop μ-loop
-same-length c = search needs
-
-returns : tie.Need-returns Inv-loop μ-loop
-returns c = search needs
+returns-2 : tie.Need-returns-2 Inv-loop μ-loop
+returns-2 c = search needs
 
 pub lines-spec : {M : Type 1} → statement M
 lines-spec =
@@ -58,15 +59,15 @@ lines-spec =
     Inv-loop
     μ-loop
     loop-holds
-    add-i
-    shared-slice-read-if1
+    find-requires
+    same-length
+    returns
     sub-line
     part-line-start
     part-line-end
     line-requires
+    add-start
     loop-less
     loop-again
-    loop-less-2
-    loop-again-2
-    same-length
-    returns)
+    same-length-2
+    returns-2)

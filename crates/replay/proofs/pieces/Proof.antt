@@ -1,12 +1,13 @@
--- `replay::pieces` is safe and ends: the turns are counted. Assumes nothing.
+-- `replay::pieces` keeps what was counted, and ends: the turns are counted. Assumes nothing.
 use mathlib.Core.Path.{_≡_}
 use lib.ListN.{length}
+use Rattle.listing.specs.Seen.{Keeps}
 use borrow.Author.Needs.{needs}
 use Rattle.replay.proofs.pieces.Statement.{statement}
 use Rattle.replay.proofs.pieces.Tie as tie
 
 abbrev Inv-loop : tie.InvT-loop
-Inv-loop buf₀ tape₀ seen₀ left₀ turns₀ buf tape seen left turns = (length buf₀ ≡ length buf) × (length tape₀ ≡ length tape)
+Inv-loop buf₀ tape₀ seen₀ left₀ turns₀ buf tape seen left turns = (length buf₀ ≡ length buf) × (length tape₀ ≡ length tape) × Keeps seen₀ seen
 
 abbrev μ-loop : tie.MeasureT-loop
 μ-loop buf₀ tape₀ seen₀ left₀ turns₀ buf tape seen left turns = turns

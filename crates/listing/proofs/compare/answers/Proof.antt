@@ -1,8 +1,5 @@
 -- `listing::compare::answers` meets its contract. Assumes nothing.
-use mathlib.Core.Path.{_≡_}
-use Rattle.tape.specs.Answer.{Outcome, counted, refused}
 use Rattle.program_io.proofs.Answers.{is-refusal}
-use Rattle.listing.specs.Due.{Decides, due}
 use Rattle.listing.proofs.Comparing.{denied, no-count, no-end, same-count, same-refusal}
 use borrow.Author.Needs.{needs}
 use Rattle.listing.proofs.compare.answers.Statement.{statement}

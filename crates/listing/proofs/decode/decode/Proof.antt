@@ -81,15 +81,16 @@ loop-again c =
     let n = length-set (l .out) (l .n) (v .0) in
     let o = bytesOf (a .form) 0 (drop (v .1 .0) (now (a .said))) in
     let w : take (l .n) (l .out) ++ (v .0 ∷ []) ≡ take (l .n + 1) (set (l .out) (l .n) (v .0)) = rw (add-one (l .n)) (sym (take-suc-set (l .out) (l .n) (v .0) (omega arith))) in
-    let e : drop (l .n + 1) (l .out) ≡ drop (l .n + 1) (now (a .out)) = sym (drop-drop 1 (l .n) (l .out)) ∙ ap (drop 1) (l .inv .3) ∙ drop-drop 1 (l .n) (now (a .out)) in
-    (h .2
-    , omega arith
-    , omega arith
-    , drop-set-lt (l .n + 1) (l .out) (l .n) _ (omega arith) ∙ e
-    , l .inv .4
-    ∙ ap (behind (take (l .n) (l .out))) (bytes-one (a .form) (now (a .said)) (l .at) _ _ (h .1) (h .2) (h .0))
-    ∙ behind-more (take (l .n) (l .out)) (v .0) o
-    ∙ ap (λ (d : List ℕ). behind d o) w)
+    let e : drop (l .n + 1) (l .out) ≡ drop (l .n + 1) (now (a .out)) = sym (drop-drop 1 (l .n) (l .out)) ∙ ap (drop 1) (l .inv .3) ∙ drop-drop 1 (l .n) (now (a .out)) in (
+      h .2,
+      omega arith,
+      omega arith,
+      drop-set-lt (l .n + 1) (l .out) (l .n) _ (omega arith) ∙ e,
+      l .inv .4
+          ∙ ap (behind (take (l .n) (l .out))) (bytes-one (a .form) (now (a .said)) (l .at) _ _ (h .1) (h .2) (h .0))
+          ∙ behind-more (take (l .n) (l .out)) (v .0) o
+          ∙ ap (λ (d : List ℕ). behind d o) w,
+    )
 
 same-length-3 : tie.Need-same-length-3 Inv-loop μ-loop
 same-length-3 c = search needs

@@ -1,5 +1,4 @@
 -- `listing::decode::one_at` meets its contract. Assumes nothing.
-use native.Mathlib.Omega.{arith}
 use denote.Ref.{now}
 use Rattle.listing.proofs.Spelled.{one-hex, one-marked, one-itself}
 use borrow.Author.Needs.{needs}

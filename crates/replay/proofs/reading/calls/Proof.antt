@@ -1,12 +1,13 @@
--- `replay::reading::calls` is safe and ends. Assumes nothing.
+-- `replay::reading::calls` keeps what was counted, and ends. Assumes nothing.
 use Prim.Native.Nat.{_+_, _-_, _≤_}
 use lib.ListN.{length}
+use Rattle.listing.specs.Seen.{Keeps}
 use borrow.Author.Needs.{needs}
 use Rattle.replay.proofs.reading.calls.Statement.{statement}
 use Rattle.replay.proofs.reading.calls.Tie as tie
 
 abbrev Inv-loop : tie.InvT-loop
-Inv-loop text nodes seen₀ at₀ done₀ calls₀ seen at done calls = calls ≤ length text + 1
+Inv-loop text nodes seen₀ at₀ done₀ calls₀ seen at done calls = (calls ≤ length text + 1) × Keeps seen₀ seen
 
 abbrev μ-loop : tie.MeasureT-loop
 μ-loop text nodes seen₀ at₀ done₀ calls₀ seen at done calls = length text + 1 - calls
