@@ -6,7 +6,7 @@ use native.Mathlib.Nat.{add-zero, add-suc, suc-add}
 use native.Mathlib.Decide.{decLe}
 use native.Mathlib.Numerals.{add-one}
 use native.Mathlib.Omega.{arith}
-use lib.ListN.{length, take, drop, getD, set, length-append, length-drop, take-append-drop}
+use lib.ListN.{length, take, drop, getD, set, length-append, length-take, length-drop, take-append-drop}
 use lib.Seq.{sets, length-sets, set-out, set-set, set-comm, take-length, length-take-le, take-all, take-add, drop-drop, drop-cons}
 use Rattle.output.specs.Wrote.{Wrote, limit, leBytes}
 
@@ -33,6 +33,10 @@ sets-clip l i s room = go (decLe i limit)
 
 pub wrote-none : (a : List ℕ) (p : ℕ) → p ≤ limit → length a < limit → Wrote a a p p []
 wrote-none a p h room = record { bytes = refl; count = omega arith; room = room }
+
+-- past the buffer's end nothing is stored, and all n bytes are counted
+pub wrote-past : (a : List ℕ) (p r n : ℕ) (s : List ℕ) → length a ≤ p → length a < limit → length s ≡ n → r ≡ min (p + n) limit → Wrote a a p r s
+wrote-past a p r n s h room l e = record { bytes = sym (sets-out a p s h); count = e ∙ ap (λ (k : ℕ). min (p + k) limit) (sym l); room = room }
 
 pub wrote-length : {a b : List ℕ} {p r : ℕ} {s : List ℕ} → Wrote a b p r s → length b ≡ length a
 wrote-length {a} {b} {p} {r} {s} w = ap length (w .bytes) ∙ length-sets a p s
@@ -91,6 +95,17 @@ sets-twice s t l i u h =
     sym (sets-append (sets l i s) i t u)
     ∙ ap (λ (k : List ℕ). sets k (i + length t) u) (ap (λ (v : List ℕ). sets (sets l i v) i t) (sym (append-nil s)) ∙ sets-over s t [] l i h ∙ ap (sets l i) (append-nil t))
     ∙ sets-append l i t u
+
+-- what stands behind a text is overwritten by what is longer
+pub sets-behind : (l s j t : List ℕ) (p : ℕ) → length j ≤ length t → sets (sets l p (s ++ j)) (p + length s) t ≡ sets l p (s ++ t)
+sets-behind l s j t p h =
+    let k = length j in
+    let e : length j ≡ length (take k t) = simp length-take (omega arith) in
+    ap (λ (x : List ℕ). sets x (p + length s) t) (sym (sets-append l p s j))
+    ∙ ap (λ (x : List ℕ). sets (sets (sets l p s) (p + length s) j) (p + length s) x) (sym (take-append-drop k t))
+    ∙ sets-twice j (take k t) (sets l p s) (p + length s) (drop k t) e
+    ∙ ap (λ (x : List ℕ). sets (sets l p s) (p + length s) x) (take-append-drop k t)
+    ∙ sets-append l p s t
 
 -- the next k bytes of a text, behind the i that are stored
 pub sets-next : (s l : List ℕ) (p i k : ℕ) → i ≤ length s → sets (sets l p (take i s)) (p + i) (take k (drop i s)) ≡ sets l p (take (i + k) s)

@@ -2,21 +2,13 @@
 use mathlib.Core.Path.{_≡_, refl, sym, ap, subst, _∙_}
 use mathlib.Core.List.{List, [], _∷_, _++_}
 use Prim.Native.Nat.{ℕ, zero, suc, _+_, _-_, _*_, _/_, _%_, _^_, _≤_, _<_}
-use native.Mathlib.Nat.{suc-add, zero-add, sub-zero, div-one, div-div-eq-div-mul, pow-succ'}
+use native.Mathlib.Nat.{suc-add, zero-add, sub-zero, mul-assoc, div-one, div-div-eq-div-mul, pow-succ'}
 use native.Mathlib.Omega.{arith}
 use lib.ListN.{length, take, drop, replicate}
 use lib.Seq.{sets}
-use lib.Pow.{pow-add}
+use lib.Pow.{pow-add, shr-shr}
 use Rattle.output.specs.Wrote.{leBytes}
 use Rattle.output.proofs.Laws.{length-le, sets-lap}
-
--- a byte, and a number above it
-pub le-cons : (w b m : ℕ) → b < 256 → leBytes (suc w) (b + 256 * m) ≡ b ∷ leBytes w m
-unfolding leBytes
-le-cons w b m h =
-    let e : (b + 256 * m) % 256 ≡ b = omega arith in
-    let f : (b + 256 * m) / 256 ≡ m = omega arith in
-    rw (e, f)
 
 -- dividing by a power of 256 and one more
 div-pow : (n k : ℕ) → n / 256 / 256 ^ k ≡ n / 256 ^ suc k
@@ -70,6 +62,22 @@ le-lap l p w n k h g =
     g in
     rw (d, take-le k n w h) at q
 
+-- a shift leaves the last bytes
+pub shift : (w v : ℕ) → w ≤ 8 → leBytes w (v / 2 ^ (64 - 8 * w)) ≡ drop (8 - w) (leBytes 8 v)
+shift w v h =
+    let e : 64 - 8 * w ≡ 8 * (8 - w) = omega arith in
+    let m : 8 - (8 - w) ≡ w = omega arith in
+    rw (e, pow-bytes (8 - w), drop-le (8 - w) 8 v, m)
+
+-- its last c bytes by two stores of k bytes that overlap
+pub last-lap : (l : List ℕ) (p v c k : ℕ) → k ≤ c → c ≤ k + k → c ≤ 8 → sets (sets l p (leBytes k (v / 2 ^ (64 - 8 * c)))) (p + (c - k)) (leBytes k (v / 2 ^ (64 - 8 * k))) ≡ sets l p (drop (8 - c) (leBytes 8 v))
+last-lap l p v c k h g b =
+    let e : 64 - 8 * k ≡ 64 - 8 * c + 8 * (c - k) = omega arith in
+    let q = v / 2 ^ (64 - 8 * c) in
+    ap (λ (m : ℕ). sets (sets l p (leBytes k q)) (p + (c - k)) (leBytes k m)) (ap (λ (j : ℕ). v / 2 ^ j) e ∙ sym (shr-shr v (64 - 8 * c) (8 * (c - k))))
+    ∙ le-lap l p q c k h g
+    ∙ ap (sets l p) (shift c v b)
+
 -- the four and the eight lowest bytes, each by one division
 pub le-4 : (w : ℕ) → leBytes 4 w ≡ w % 256 ∷ w / 256 % 256 ∷ w / 65536 % 256 ∷ w / 16777216 % 256 ∷ []
 unfolding leBytes
@@ -87,56 +95,55 @@ le-8 w =
     ∙ ap (λ (t : List ℕ). t ++ leBytes 4 (w / 4294967296)) (le-4 w)
     ∙ ap (λ (t : List ℕ). w % 256 ∷ w / 256 % 256 ∷ w / 65536 % 256 ∷ w / 16777216 % 256 ∷ t) (le-4 (w / 4294967296) ∙ rw (e, f, g))
 
--- eight bytes, each times its power of 256, added up
-pub le-sum : (a b c d e f g h : ℕ) → a < 256 → b < 256 → c < 256 → d < 256 → e < 256 → f < 256 → g < 256 → h < 256 → leBytes 8 (a + 256 * b + 65536 * c + 16777216 * d + 4294967296 * e + 1099511627776 * f + 281474976710656 * g + 72057594037927936 * h) ≡ a ∷ b ∷ c ∷ d ∷ e ∷ f ∷ g ∷ h ∷ []
-unfolding leBytes
-le-sum a b c d e f g h la lb lc ld le lf lg lh =
-    let m7 : ℕ = h + 256 * 0 in
-    let m6 : ℕ = g + 256 * m7 in
-    let m5 : ℕ = f + 256 * m6 in
-    let m4 : ℕ = e + 256 * m5 in
-    let m3 : ℕ = d + 256 * m4 in
-    let m2 : ℕ = c + 256 * m3 in
-    let m1 : ℕ = b + 256 * m2 in
-    let q : a + 256 * b + 65536 * c + 16777216 * d + 4294967296 * e + 1099511627776 * f + 281474976710656 * g + 72057594037927936 * h ≡ a + 256 * m1 = omega arith in
-    ap (leBytes 8) q
-    ∙ le-cons 7 a m1 la
-    ∙ ap (λ (t : List ℕ). a ∷ t) (le-cons 6 b m2 lb
-    ∙ ap (λ (t : List ℕ). b ∷ t) (le-cons 5 c m3 lc
-    ∙ ap (λ (t : List ℕ). c ∷ t) (le-cons 4 d m4 ld
-    ∙ ap (λ (t : List ℕ). d ∷ t) (le-cons 3 e m5 le
-    ∙ ap (λ (t : List ℕ). e ∷ t) (le-cons 2 f m6 lf
-    ∙ ap (λ (t : List ℕ). f ∷ t) (le-cons 1 g m7 lg
-    ∙ ap (λ (t : List ℕ). g ∷ t) (le-cons 0 h 0 lh)))))))
+-- bytes as a number, the lowest first
+unfoldable pub value : List ℕ → ℕ
+value [] = 0
+value (b ∷ s) = value s * 256 + b
 
--- four bytes, each times its power of 256, added up
+abbrev Bytes : List ℕ → Type 0
+Bytes [] = Unit
+Bytes (b ∷ s) = (b < 256) × Bytes s
+
+-- a byte, and a number above it
+le-cons : (w b m : ℕ) → b < 256 → leBytes (suc w) (m * 256 + b) ≡ b ∷ leBytes w m
+unfolding leBytes
+le-cons w b m h =
+    let e : (m * 256 + b) % 256 ≡ b = omega arith in
+    let f : (m * 256 + b) / 256 ≡ m = omega arith in
+    rw (e, f)
+
+-- the bytes of a number are those that it was made of
+le-value : (s : List ℕ) → Bytes s → leBytes (length s) (value s) ≡ s
+unfolding leBytes value
+le-value [] h = refl
+le-value (b ∷ s) h = le-cons (length s) b (value s) (h .0) ∙ ap (λ (t : List ℕ). b ∷ t) (le-value s (h .1))
+
+-- four and eight bytes, each times its power of 256, added up
 pub le-sum-4 : (a b c d : ℕ) → a < 256 → b < 256 → c < 256 → d < 256 → leBytes 4 (a + 256 * b + 65536 * c + 16777216 * d) ≡ a ∷ b ∷ c ∷ d ∷ []
-unfolding leBytes
+unfolding value
 le-sum-4 a b c d la lb lc ld =
-    let m3 : ℕ = d + 256 * 0 in
-    let m2 : ℕ = c + 256 * m3 in
-    let m1 : ℕ = b + 256 * m2 in
-    let q : a + 256 * b + 65536 * c + 16777216 * d ≡ a + 256 * m1 = omega arith in
-    ap (leBytes 4) q
-    ∙ le-cons 3 a m1 la
-    ∙ ap (λ (t : List ℕ). a ∷ t) (le-cons 2 b m2 lb
-    ∙ ap (λ (t : List ℕ). b ∷ t) (le-cons 1 c m3 lc
-    ∙ ap (λ (t : List ℕ). c ∷ t) (le-cons 0 d 0 ld)))
+    let s : List ℕ = a ∷ b ∷ c ∷ d ∷ [] in
+    let q : a + 256 * b + 65536 * c + 16777216 * d ≡ value s = omega arith in
+    ap (leBytes 4) q ∙ le-value s (la, (lb, (lc, (ld, tt))))
 
--- two halves of four bytes
-pub le-halves : (a b : ℕ) → a < 4294967296 → leBytes 8 (a + 4294967296 * b) ≡ leBytes 4 a ++ leBytes 4 b
-le-halves a b h =
-    let w : ℕ = a + 4294967296 * b in
-    let e : w % 256 ≡ a % 256 = omega arith in
-    let f1 : w / 256 ≡ a / 256 + 16777216 * b = omega arith in
-    let f2 : (a / 256 + 16777216 * b) % 256 ≡ a / 256 % 256 = omega arith in
-    let g1 : w / 65536 ≡ a / 65536 + 65536 * b = omega arith in
-    let g2 : (a / 65536 + 65536 * b) % 256 ≡ a / 65536 % 256 = omega arith in
-    let i1 : w / 16777216 ≡ a / 16777216 + 256 * b = omega arith in
-    let i2 : (a / 16777216 + 256 * b) % 256 ≡ a / 16777216 % 256 = omega arith in
-    let q : w / 4294967296 ≡ b = omega arith in
-    let low : leBytes 4 w ≡ leBytes 4 a = le-4 w ∙ rw (e, f1, f2, g1, g2, i1, i2) (sym (le-4 a)) in
-    le-add 4 4 w ∙ rw (low, q)
+pub le-sum : (a b c d e f g h : ℕ) → a < 256 → b < 256 → c < 256 → d < 256 → e < 256 → f < 256 → g < 256 → h < 256 → leBytes 8 (a + 256 * b + 65536 * c + 16777216 * d + 4294967296 * e + 1099511627776 * f + 281474976710656 * g + 72057594037927936 * h) ≡ a ∷ b ∷ c ∷ d ∷ e ∷ f ∷ g ∷ h ∷ []
+unfolding value
+le-sum a b c d e f g h la lb lc ld le lf lg lh =
+    let s : List ℕ = a ∷ b ∷ c ∷ d ∷ e ∷ f ∷ g ∷ h ∷ [] in
+    let q : a + 256 * b + 65536 * c + 16777216 * d + 4294967296 * e + 1099511627776 * f + 281474976710656 * g + 72057594037927936 * h ≡ value s = omega arith in
+    ap (leBytes 8) q ∙ le-value s (la, (lb, (lc, (ld, (le, (lf, (lg, (lh, tt))))))))
+
+-- v bytes, and a number above them
+pub le-above : (v w a b : ℕ) → a < 256 ^ v → leBytes (v + w) (a + 256 ^ v * b) ≡ leBytes v a ++ leBytes w b
+unfolding leBytes
+le-above zero w a b h =
+    let e : a + 1 * b ≡ b = omega arith in
+    rw (zero-add w, e)
+le-above (suc v) w a b h =
+    let p = 256 ^ v in
+    let l : a < 256 * p = rw (pow-succ' 256 v) at h in
+    let e : a + 256 * p * b ≡ (a / 256 + p * b) * 256 + a % 256 = rw (mul-assoc 256 p b) (omega arith) in
+    rw (suc-add v w, pow-succ' 256 v, e) (le-cons (v + w) (a % 256) (a / 256 + p * b) (omega arith) ∙ ap (λ (t : List ℕ). a % 256 ∷ t) (le-above v w (a / 256) b (omega arith)))
 
 -- one byte n times, as the bytes of a word
 take-replicate : (n m x : ℕ) → n ≤ m → take n (replicate m x) ≡ replicate n x

@@ -4,7 +4,7 @@
 // (docs/BENCHMARKS.md).
 ghost use mathlib.Core.Path.{_≡_};
 ghost use mathlib.Core.List.{[], _∷_};
-ghost use Prim.Native.Nat.{_+_, _<_, _≤_, min};
+ghost use Prim.Native.Nat.{_+_, _-_, _<_, _≤_, min};
 ghost use lib.ListN.{length, take, drop, replicate};
 ghost use lib.Seq.{sets};
 ghost use Rattle.output.specs.Wrote.{Wrote, limit, leBytes};
@@ -228,6 +228,9 @@ fn repeat_clipped(buf: &mut [u8], pos: usize, x: u8, n: usize) -> usize
     requires { ⌜ pos ≤ limit ⌝ }
     ensures { λ r. ⌜ Wrote (now (buf .entry)) (now (buf .exit)) pos r (replicate n x) ⌝ }
 {
+    if buf.len() <= pos {
+        return ahead(pos, n);
+    }
     let mut p = pos;
     let mut i = 0;
     while i < n {
@@ -283,6 +286,26 @@ pub fn store_low(buf: &mut [u8], pos: usize, w: u64, n: usize)
     }
     if n == 1 {
         buf[pos] = (w % 256) as u8;
+    }
+}
+
+// The last c of a word's eight bytes, for which there is room: two stores that overlap.
+pub fn store_last(buf: &mut [u8], p: usize, w: u64, c: usize)
+    requires { ⌜ (c ≤ 8) × (p + c ≤ length (now buf)) ⌝ }
+    ensures { λ _. ⌜ now (buf .exit) ≡ sets (now (buf .entry)) p (drop (8 - c) (leBytes 8 w)) ⌝ }
+{
+    if 4 <= c {
+        store_4(buf, p, w >> (64 - 8 * c));
+        store_4(buf, p + (c - 4), w / 4294967296);
+        return;
+    }
+    if 2 <= c {
+        store_2(buf, p, w >> (64 - 8 * c));
+        store_2(buf, p + (c - 2), w / 281474976710656);
+        return;
+    }
+    if c == 1 {
+        buf[p] = (w / 72057594037927936) as u8;
     }
 }
 

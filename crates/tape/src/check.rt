@@ -53,7 +53,7 @@ fn is_text(tape: &[u8], at: usize, n: usize) -> bool
     }
     let from = at + 5;
     if n <= 8 {
-        if text_rules::lanes::is_ascii(output::word_at(tape, from), n) {
+        if text_rules::utf8::is_ascii(output::word_at(tape, from), n) {
             return true;
         }
     }

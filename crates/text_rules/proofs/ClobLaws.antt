@@ -7,7 +7,7 @@ use lib.Dec.{eqb, leb}
 use lib.ListN.{length, getD, drop}
 use Rattle.output.specs.Logic.{if, byte}
 use Rattle.text_rules.specs.Escapes.{letterOf, hasLetter, escapeKind, hexDigit, clobEscape, clobBody}
-use Rattle.text_rules.proofs.EscapesLaws.{byte-at}
+use Rattle.text_rules.proofs.Places.{byte-at}
 
 abbrev pub hexText : ℕ → List ℕ
 hexText c = byte "\\" ∷ byte "x" ∷ hexDigit (c / 16) ∷ hexDigit (c % 16) ∷ []

@@ -1,6 +1,6 @@
 -- Laws of digits. Assumes nothing.
 use mathlib.Core.Path.{_≡_, refl, sym, ap, _∙_}
-use mathlib.Core.Bool.{Bool, true, false, _&&_, not}
+use mathlib.Core.Bool.{Bool, true, false, not}
 use mathlib.Core.List.{List, [], _∷_, _++_, append-assoc, append-nil}
 use Prim.Native.Nat.{ℕ, zero, suc, _+_, _-_, _*_, _/_, _%_, _^_, _≤_, _<_}
 use native.Mathlib.Nat.{pow-suc, pow-succ', mul-assoc, mod-eq-of-lt, add-zero, add-suc, div-one, div-div-eq-div-mul, mul-le-mul-right, pow-le-pow-right}
@@ -12,10 +12,8 @@ use lib.ListN.{length, take, drop, replicate, length-append, replicate-append-re
 use lib.Seq.{take-at, drop-at}
 use borrow.Author.Tests.{lt-ltb, le-leb, ltb-true, ltb-false, leb-true, ne-eqb}
 use Rattle.output.specs.Logic.{if, byte}
+pub use Rattle.output.proofs.Bools.{never, both}
 use Rattle.text_rules.specs.Digits.{pad, count, digits, isDigit, run, behindDigits, number, whole}
-
-pub never : {A : Type 0} → true ≡ false → A
-never h = let n : _≡_ {A = ℕ} 0 1 = cc in let bad : ⊥ = omega arith in absurd bad
 
 -- ---- lists of digits
 
@@ -29,12 +27,7 @@ NoDigit (c ∷ t) = isDigit c ≡ false
 
 pub digit-range : (c : ℕ) → isDigit c ≡ true → (48 ≤ c) × (c ≤ 57)
 unfolding isDigit
-digit-range c h = go (leb 48 c) refl (leb c 57) refl h
-  where
-    go : (a : Bool) → leb 48 c ≡ a → (b : Bool) → leb c 57 ≡ b → a && b ≡ true → (48 ≤ c) × (c ≤ 57)
-    go true e true f h = (leb-true 48 c e, leb-true c 57 f)
-    go true e false f h = never (sym h)
-    go false e b f h = never (sym h)
+digit-range c h = let p = both (leb 48 c) (leb c 57) h in (leb-true 48 c (p .0), leb-true c 57 (p .1))
 
 pub digits-append : (s t : List ℕ) → Digits s → Digits t → Digits (s ++ t)
 digits-append [] t hs ht = ht

@@ -1,30 +1,17 @@
--- Laws of what is written for a byte, and of a bitwise or of flags. Assumes nothing.
+-- Laws of what is written for a byte. Assumes nothing.
 use mathlib.Core.Path.{_≡_, refl, sym, ap, ap₂, _∙_}
 use mathlib.Core.Bool.{Bool, true, false, _||_}
 use mathlib.Core.List.{List, [], _∷_, _++_, append-assoc}
 use Prim.Native.Nat.{ℕ, zero, suc, _+_, _-_, _≤_, _<_}
-use native.Mathlib.Numerals.{add-one}
 use native.Mathlib.Omega.{arith}
-use lib.Bits.{bitOr, or-add-and, and-comm, and-le-l}
 use lib.Dec.{eqb}
 use lib.ListN.{length, getD, take, drop, take-append-drop, length-drop}
-use lib.Seq.{drop-cons, drop-drop, take-all}
+use lib.Seq.{drop-drop, take-all}
 use Rattle.output.specs.Logic.{if, byte}
 use Rattle.text_rules.specs.Escapes.{letterOf, hasLetter, textEscape, textBody}
-
--- ---- a bitwise or is no less than either side
-
-pub or-left : (a b : ℕ) → a ≤ bitOr a b
-or-left a b = omega (arith, or-add-and a b, and-comm a b, and-le-l b a)
-
-pub or-right : (a b : ℕ) → b ≤ bitOr a b
-or-right a b = omega (arith, or-add-and a b, and-le-l a b)
+pub use Rattle.text_rules.proofs.Places.{byte-at}
 
 -- ---- text
-
--- the text from a place on: the byte there, and the text behind it
-pub byte-at : (t : List ℕ) (i : ℕ) → i < length t → drop i t ≡ getD t i 0 ∷ drop (i + 1) t
-byte-at t i h = rw (add-one, drop-cons t i 0 h)
 
 pub escape-short : (b : ℕ) → length (textEscape b) ≤ 2
 unfolding textEscape

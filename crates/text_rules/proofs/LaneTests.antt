@@ -1,103 +1,45 @@
 -- What the tests of a word's bytes say: each is one test over the 256 bytes, and then every byte of a text passes it. Assumes nothing.
 use mathlib.Core.Path.{_≡_, refl, sym, ap, subst, _∙_}
 use mathlib.Core.Bool.{Bool, true, false, _&&_, _||_, not}
-use mathlib.Core.List.{List, [], _∷_, _++_, append-nil}
+use mathlib.Core.List.{List, [], _∷_, _++_}
 use mathlib.Core.Option.{none}
 use Prim.Native.Nat.{ℕ, zero, suc, _+_, _-_, _*_, _/_, _%_, _^_, _≤_, _<_}
 use native.Mathlib.Nat.{mod-one, pow-suc}
 use native.Mathlib.Decide.{decLe}
 use native.Mathlib.Omega.{arith}
 use lib.Arith.{mod-mul}
-use lib.Bits.{bitAnd, bitOr, bitXor, and-mask}
+use lib.Bits.{bitAnd, and-mask}
 use lib.Dec.{eqb, ltb, leb}
-use lib.ListN.{length, take, drop, take-append-drop, length-drop}
-use lib.Seq.{drop-drop, take-all, take-take}
-use borrow.Author.Tests.{ltb-true, not-true, eq-eqb, ne-eqb}
+use lib.ListN.{length, take, drop}
+use lib.Seq.{take-take}
+use borrow.Author.Tests.{ltb-true, not-true, ne-eqb}
 use Rattle.output.specs.Logic.{if, on, byte, ascii}
 use Rattle.output.specs.Wrote.{leBytes}
 use Rattle.output.proofs.Laws.{length-le}
-use Rattle.output.proofs.Words.{take-le, pow-bytes}
+use Rattle.output.proofs.Words.{value, take-le, pow-bytes}
+use Rattle.lanes.specs.Lanes.{every, unmarkedBy, letterMark, noLetter, noPart, noRaw}
+use Rattle.lanes.proofs.LaneLaws.{two-digits, every-same}
 use Rattle.text_rules.specs.Texts.{empty, starts, strip, same}
 use Rattle.text_rules.specs.Digits.{isDigit}
-use Rattle.text_rules.specs.Utf8.{charAt, after, valid}
 use Rattle.text_rules.specs.Escapes.{hasLetter, textEscape, textBody}
 use Rattle.text_rules.specs.Words.{isStart, isPart, behindWord, isKeyword, resemblesSymbolId, resemblesVersionMarker, isIdentifier}
-use Rattle.text_rules.specs.WordSteps.{isName, isBare, allPart}
+use Rattle.text_rules.specs.WordSteps.{isLetterOrUnderscore, isBare, allPart}
 use Rattle.text_rules.specs.Text.{symbolText}
-use Rattle.text_rules.specs.Lanes.{Lane, rep, low, equalMark, letterMark}
-use Rattle.text_rules.proofs.Table.{same as agree}
-use Rattle.text_rules.proofs.LaneLaws.{every, two-digits, lane-self, unmarked}
-use Rattle.text_rules.proofs.SymbolsText.{symbol-marked}
-use Rattle.text_rules.proofs.Utf8Chars.{ascii as one-byte}
+use Rattle.lanes.proofs.Table.{same as agree}
+use Rattle.text_rules.proofs.SymbolsText.{symbol-bare, symbol-marked}
 use Rattle.text_rules.proofs.WordsLaws.{same-long, same-is}
-use Rattle.text_rules.proofs.DigitLaws.{never}
-
-both : (a b : Bool) → (a && b) ≡ true → (a ≡ true) × (b ≡ true)
-both true b h = (refl, h)
-both false b h = never (sym h)
-
--- ---- bytes below hex 80
-
-abbrev pub isAscii : ℕ → Bool
-isAscii b = ltb b 0x80
-
-pub ascii-test : (b : ℕ) → b < 256 → eqb (bitAnd b 128) 0 ≡ isAscii b
-ascii-test = agree (λ b. eqb (bitAnd b 128) 0) isAscii 256 refl
-
--- in front of a text they decide nothing
-pub ascii-front : (s t : List ℕ) → every isAscii s ≡ true → after 0 (s ++ t) ≡ after 0 t
-unfolding after every
-ascii-front [] t h = refl
-ascii-front (b ∷ s) t h =
-    let p = both (isAscii b) (every isAscii s) h in
-    let one : charAt (b ∷ (s ++ t)) 0 ≡ 1 = one-byte _ _ _ _ (ltb-true b 0x80 (p .0)) in
-    rw one (ascii-front s t (p .1))
-
-pub ascii-all : (s : List ℕ) → every isAscii s ≡ true → valid s ≡ true
-unfolding valid after
-ascii-all s h = ap (after 0) (sym (append-nil s)) ∙ ascii-front s [] h
-
--- eight bytes of which no high bit is set
-word-ascii : (x : ℕ) → x < 2 ^ 64 → bitAnd x 0x8080808080808080 ≡ 0 → every isAscii (leBytes 8 x) ≡ true
-unfolding rep
-word-ascii x h e = sym (unmarked isAscii 8 (lane-self x h) ascii-test (omega arith)) ∙ eq-eqb (bitAnd x 0x8080808080808080) 0 e
-
--- a word at a place of which no high bit is set is passed
-pub word-passed : (s : List ℕ) (i x : ℕ) → x < 2 ^ 64 → leBytes 8 x ≡ take 8 (drop i s) → bitAnd x 0x8080808080808080 ≡ 0 → valid (drop i s) ≡ valid (drop (i + 8) s)
-unfolding valid
-word-passed s i x h w e =
-    let a : every isAscii (take 8 (drop i s)) ≡ true = rw w at (word-ascii x h e) in
-    ap (after 0) (sym (take-append-drop 8 (drop i s))) ∙ ascii-front (take 8 (drop i s)) (drop 8 (drop i s)) a ∙ ap (after 0) (drop-drop 8 i s)
-
-every-drop : (p : ℕ → Bool) (k : ℕ) (s : List ℕ) → every p s ≡ true → every p (drop k s) ≡ true
-unfolding every
-every-drop p zero s h = h
-every-drop p (suc k) [] h = h
-every-drop p (suc k) (b ∷ s) h = every-drop p k s (both (p b) (every p s) h .1)
-
--- where no high bit of the last eight bytes is set, what is left of them is valid
-pub last-word : (s : List ℕ) (i x : ℕ) → 8 ≤ length s → length s < i + 8 → x < 2 ^ 64 → leBytes 8 x ≡ take 8 (drop (length s - 8) s) → bitAnd x 0x8080808080808080 ≡ 0 → valid (drop i s) ≡ true
-last-word s i x l g h w e =
-    let m = length s - 8 in
-    let t : take 8 (drop m s) ≡ drop m s = take-all 8 (drop m s) (omega (arith, length-drop m s)) in
-    let a : every isAscii (drop m s) ≡ true = rw (w ∙ t) at (word-ascii x h e) in
-    let j : m + (i - m) ≡ i = omega arith in
-    ap (λ (u : List ℕ). valid u) (sym (drop-drop (i - m) m s ∙ ap (λ (k : ℕ). drop k s) j)) ∙ ascii-all (drop (i - m) (drop m s)) (every-drop isAscii (i - m) (drop m s) a)
+use Rattle.text_rules.proofs.DigitLaws.{never, both}
 
 -- ---- bytes that text has raw
 
-abbrev pub isRaw : ℕ → Bool
+abbrev isRaw : ℕ → Bool
 isRaw b = leb 0x20 b && not (hasLetter b || eqb b (byte "'"))
 
--- its mark: hex 20 at least, and no quote mark or backslash
-abbrev pub rawMark : ℕ → ℕ
-rawMark b = bitAnd (bitAnd (bitAnd (low b + 0x60) (bitXor (low b) 0x22 + 0x7F)) (bitXor (low b) 0x27 + 0x7F)) (bitXor (low b) 0x5C + 0x7F)
+raw-test : (b : ℕ) → b < 256 → unmarkedBy noRaw b ≡ isRaw b
+unfolding unmarkedBy hasLetter
+raw-test = agree (unmarkedBy noRaw) isRaw 256 refl
 
-pub raw-test : (b : ℕ) → b < 256 → eqb (bitAnd (0xFF - bitOr (rawMark b) b) 128) 0 ≡ isRaw b
-unfolding hasLetter
-raw-test = agree (λ b. eqb (bitAnd (0xFF - bitOr (rawMark b) b) 128) 0) isRaw 256 refl
-
-pub raw-body : (s : List ℕ) → every isRaw s ≡ true → textBody s ≡ s
+raw-body : (s : List ℕ) → every isRaw s ≡ true → textBody s ≡ s
 unfolding textBody textEscape every
 raw-body [] h = refl
 raw-body (b ∷ s) h =
@@ -105,17 +47,16 @@ raw-body (b ∷ s) h =
     let q = both (leb 0x20 b) (not (hasLetter b || eqb b (byte "'"))) (p .0) in
     rw (not-true (hasLetter b || eqb b (byte "'")) (q .1), raw-body s (p .1))
 
+pub raw-word : (n x : ℕ) → every (unmarkedBy noRaw) (leBytes n x) ≡ true → textBody (leBytes n x) ≡ leBytes n x
+raw-word n x h = raw-body (leBytes n x) (sym (every-same (unmarkedBy noRaw) isRaw raw-test n x) ∙ h)
+
 -- ---- bytes of identifiers
 
--- the mark of a digit
-abbrev pub digitMark : ℕ → ℕ
-digitMark b = bitAnd (low b + 0x50) (0xFF - (low b + 0x46))
+part-test : (b : ℕ) → b < 256 → unmarkedBy noPart b ≡ isPart b
+unfolding unmarkedBy isPart isStart isDigit
+part-test = agree (unmarkedBy noPart) isPart 256 refl
 
-pub part-test : (b : ℕ) → b < 256 → eqb (bitAnd (bitOr (0xFF - bitOr (bitOr (letterMark b) (digitMark b)) (equalMark 0x24 b)) b) 128) 0 ≡ isPart b
-unfolding isPart isStart isDigit
-part-test = agree (λ b. eqb (bitAnd (bitOr (0xFF - bitOr (bitOr (letterMark b) (digitMark b)) (equalMark 0x24 b)) b) 128) 0) isPart 256 refl
-
-pub every-part : (s : List ℕ) → every isPart s ≡ allPart s
+every-part : (s : List ℕ) → every isPart s ≡ allPart s
 unfolding allPart behindWord every
 every-part [] = refl
 every-part (b ∷ s) = go (isPart b) (every-part s)
@@ -124,64 +65,58 @@ every-part (b ∷ s) = go (isPart b) (every-part s)
     go true e = e
     go false e = refl
 
+pub part-word : (n x : ℕ) → every (unmarkedBy noPart) (leBytes n x) ≡ allPart (leBytes n x)
+part-word n x = every-same (unmarkedBy noPart) isPart part-test n x ∙ every-part (leBytes n x)
+
 -- letters and `_`
-pub name-test : (b : ℕ) → b < 256 → eqb (bitAnd (bitOr (0xFF - letterMark b) b) 128) 0 ≡ isName b
-unfolding isName isStart
-name-test = agree (λ b. eqb (bitAnd (bitOr (0xFF - letterMark b) b) 128) 0) isName 256 refl
+letter-test : (b : ℕ) → b < 256 → unmarkedBy noLetter b ≡ isLetterOrUnderscore b
+unfolding unmarkedBy isLetterOrUnderscore isStart
+letter-test = agree (unmarkedBy noLetter) isLetterOrUnderscore 256 refl
 
 -- an identifier's byte with the mark of a letter or `_`
-start-test : (b : ℕ) → b < 256 → isPart b && not (eqb (bitAnd (letterMark b) 128) 0) ≡ isName b
-unfolding isPart isName isStart isDigit
-start-test = agree (λ b. isPart b && not (eqb (bitAnd (letterMark b) 128) 0)) isName 256 refl
+start-test : (b : ℕ) → b < 256 → isPart b && not (unmarkedBy letterMark b) ≡ isLetterOrUnderscore b
+unfolding unmarkedBy isPart isLetterOrUnderscore isStart isDigit
+start-test = agree (λ b. isPart b && not (unmarkedBy letterMark b)) isLetterOrUnderscore 256 refl
 
 part-first : (b : ℕ) (s : List ℕ) → allPart (b ∷ s) ≡ true → (isPart b ≡ true) × (allPart s ≡ true)
 part-first b s h =
     let p : isPart b && allPart s ≡ true = ap (λ (e : Bool). isPart b && e) (sym (every-part s)) ∙ unfold every in (every-part (b ∷ s) ∙ h) in
     both (isPart b) (allPart s) p
 
-names-part : (s : List ℕ) → every isName s ≡ true → allPart s ≡ true
-unfolding allPart behindWord every isPart isName
-names-part [] h = refl
-names-part (b ∷ s) h =
-    let p = both (isName b) (every isName s) h in
+letters-part : (s : List ℕ) → every isLetterOrUnderscore s ≡ true → allPart s ≡ true
+unfolding allPart behindWord every isPart isLetterOrUnderscore
+letters-part [] h = refl
+letters-part (b ∷ s) h =
+    let p = both (isLetterOrUnderscore b) (every isLetterOrUnderscore s) h in
     let q = both (isStart b) (not (eqb b (byte "$"))) (p .0) in
-    rw (q .0) (names-part s (p .1))
+    rw (q .0) (letters-part s (p .1))
 
 -- an identifier that starts with no `$` and is no keyword is bare
-pub name-bare : (b : ℕ) (s : List ℕ) → isName b ≡ true → allPart s ≡ true → isKeyword (b ∷ s) ≡ false → isBare (b ∷ s) ≡ true
-unfolding isBare isIdentifier resemblesSymbolId resemblesVersionMarker starts strip allPart isName
-name-bare b s h e k =
+letter-bare : (b : ℕ) (s : List ℕ) → isLetterOrUnderscore b ≡ true → allPart s ≡ true → isKeyword (b ∷ s) ≡ false → isBare (b ∷ s) ≡ true
+unfolding isBare isIdentifier resemblesSymbolId resemblesVersionMarker starts strip allPart isLetterOrUnderscore
+letter-bare b s h e k =
     let q = both (isStart b) (not (eqb b (byte "$"))) h in
     rw (q .0, e, k, not-true (eqb b (byte "$")) (q .1))
 
-pub names-bare : (s : List ℕ) → 0 < length s → every isName s ≡ true → isKeyword s ≡ false → isBare s ≡ true
+letters-bare : (s : List ℕ) → 0 < length s → every isLetterOrUnderscore s ≡ true → isKeyword s ≡ false → isBare s ≡ true
 unfolding every
-names-bare [] l h k = absurd (omega arith)
-names-bare (b ∷ s) l h k =
-    let p = both (isName b) (every isName s) h in
-    name-bare b s (p .0) (names-part s (p .1)) k
+letters-bare [] l h k = absurd (omega arith)
+letters-bare (b ∷ s) l h k =
+    let p = both (isLetterOrUnderscore b) (every isLetterOrUnderscore s) h in
+    letter-bare b s (p .0) (letters-part s (p .1)) k
 
--- the mark of the lowest byte
-pub first-name : (x v : ℕ) → Lane letterMark x v → (bitAnd v 128 ≡ 0 → ⊥) → isPart (x % 256) ≡ true → isName (x % 256) ≡ true
-unfolding rep every leBytes
-first-name x v a e p =
-    let b = x % 256 in
-    let m : ℕ → Bool = λ c. eqb (bitAnd (letterMark c) 128) 0 in
-    let t : every m (leBytes 1 x) ≡ false = sym (unmarked m 1 a (λ c h. refl) (omega arith)) ∙ ne-eqb (bitAnd v 128) 0 e in
-    let g : m b ≡ false = first (m b) t in
-    sym (start-test b (omega arith)) ∙ rw (p, g)
-  where
-    first : (c : Bool) → c && true ≡ false → c ≡ false
-    first true h = h
-    first false h = refl
+-- the n lowest bytes are letters and `_`, and no keyword
+pub letters-word : (n x : ℕ) → 1 ≤ n → every (unmarkedBy noLetter) (leBytes n x) ≡ true → isKeyword (leBytes n x) ≡ false → symbolText (leBytes n x) ≡ leBytes n x
+letters-word n x l h k =
+    symbol-bare _ (letters-bare (leBytes n x) (omega (arith, length-le n x)) (sym (every-same (unmarkedBy noLetter) isLetterOrUnderscore letter-test n x) ∙ h) k)
 
--- the lowest bytes are an identifier that starts with such a byte
-pub word-bare : (n x : ℕ) → 1 ≤ n → allPart (leBytes n x) ≡ true → (isPart (x % 256) ≡ true → isName (x % 256) ≡ true) → isKeyword (leBytes n x) ≡ false → isBare (leBytes n x) ≡ true
+-- they are an identifier that starts with such a byte
+pub word-bare : (n x : ℕ) → 1 ≤ n → allPart (leBytes n x) ≡ true → not (unmarkedBy letterMark (x % 256)) ≡ true → isKeyword (leBytes n x) ≡ false → isBare (leBytes n x) ≡ true
 unfolding leBytes
 word-bare zero x l p h k = absurd (omega arith)
 word-bare (suc n) x l p h k =
     let q = part-first (x % 256) (leBytes n (x / 256)) p in
-    name-bare (x % 256) (leBytes n (x / 256)) (h (q .0)) (q .1) k
+    letter-bare (x % 256) (leBytes n (x / 256)) (sym (start-test (x % 256) (omega arith)) ∙ rw (q .0, h)) (q .1) k
 
 -- a text that is no identifier, or is a keyword, is not bare
 pub identifier-part : (s : List ℕ) → isIdentifier s ≡ true → allPart s ≡ true
@@ -228,11 +163,6 @@ keyword-raw s h = go (same (ascii "true") s) refl (same (ascii "false") s) refl 
     go false p false q true r d t e = rw (same-is (ascii "nan") s r)
     go false p false q false r true t e = rw (same-is (ascii "null") s t)
     go false p false q false r false t e = never (sym e)
-
--- a text as a number, the lowest byte first
-unfoldable value : List ℕ → ℕ
-value [] = 0
-value (b ∷ s) = value s * 256 + b
 
 same-cons : (c b : ℕ) (s t : List ℕ) → same (c ∷ s) (b ∷ t) ≡ eqb b c && same s t
 unfolding same strip

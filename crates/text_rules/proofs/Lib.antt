@@ -7,7 +7,6 @@ pub mod Table
 pub mod DigitWords
 pub mod EscapesLaws
 pub mod ClobLaws
-pub mod Utf8Ones
 pub mod Utf8Chars
 pub mod Utf8Scalar
 pub mod Utf8View
@@ -15,6 +14,5 @@ pub mod WordsLaws
 pub mod SymbolsText
 pub mod FloatsBits
 pub mod NullsText
-pub mod LaneLaws
 pub mod LaneTests
 pub mod WordsBack

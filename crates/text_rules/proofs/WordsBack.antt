@@ -6,22 +6,16 @@ use mathlib.Core.Bool.{Bool, true, false, _||_, _&&_}
 use native.Mathlib.Omega.{arith}
 use lib.Dec.{eqb, leb}
 use borrow.Author.Tests.{eqb-true, ne-eqb, lt-leb, leb-true}
-use Rattle.output.specs.Logic.{byte}
 use Rattle.text_rules.specs.Digits.{isDigit}
 use Rattle.text_rules.specs.Texts.{empty, blank, delimiter, ended}
 use Rattle.text_rules.specs.Words.{isStart, isPart, word, behindWord, isIdentifier}
-use Rattle.text_rules.proofs.DigitLaws.{never, Digits}
+use Rattle.text_rules.proofs.DigitLaws.{never, both, Digits}
 
 -- ---- what may follow a token is no part of a word
 
 or-cases : {A : Type 0} (a b : Bool) → (a ≡ true → A) → (b ≡ true → A) → a || b ≡ true → A
 or-cases true b f g h = f refl
 or-cases false b f g h = g h
-
-and-both : (a b : Bool) → a && b ≡ true → (a ≡ true) × (b ≡ true)
-and-both true true h = (refl, refl)
-and-both true false h = never (sym h)
-and-both false b h = never (sym h)
 
 low-part : (c : ℕ) → c ≤ 35 → isPart c ≡ false
 unfolding isPart isStart isDigit
@@ -36,39 +30,19 @@ unfolding blank
 blank-part c h =
     or-cases (eqb c 32) (leb 9 c && leb c 13)
     (is-part c 32 (low-part 32 (omega arith)))
-    (λ e. let l : c ≤ 13 = leb-true c 13 (and-both (leb 9 c) (leb c 13) e .1) in low-part c (omega arith))
+    (λ e. let l : c ≤ 13 = leb-true c 13 (both (leb 9 c) (leb c 13) e .1) in low-part c (omega arith))
     h
 
-comma : isPart (byte ",") ≡ false
-unfolding isPart isStart isDigit
-comma = refl
-
-square : isPart (byte "]") ≡ false
-unfolding isPart isStart isDigit
-square = refl
-
-round : isPart (byte ")") ≡ false
-unfolding isPart isStart isDigit
-round = refl
-
-brace : isPart (byte "}") ≡ false
-unfolding isPart isStart isDigit
-brace = refl
-
-colon : isPart (byte ":") ≡ false
-unfolding isPart isStart isDigit
-colon = refl
-
 pub delimiter-part : (c : ℕ) → delimiter c ≡ true → isPart c ≡ false
-unfolding delimiter
+unfolding delimiter isPart isStart isDigit
 delimiter-part c =
     or-cases (blank c || eqb c 44 || eqb c 93 || eqb c 41 || eqb c 125) (eqb c 58)
     (or-cases (blank c || eqb c 44 || eqb c 93 || eqb c 41) (eqb c 125)
     (or-cases (blank c || eqb c 44 || eqb c 93) (eqb c 41)
-    (or-cases (blank c || eqb c 44) (eqb c 93) (or-cases (blank c) (eqb c 44) (blank-part c) (is-part c 44 comma)) (is-part c 93 square))
-    (is-part c 41 round))
-    (is-part c 125 brace))
-    (is-part c 58 colon)
+    (or-cases (blank c || eqb c 44) (eqb c 93) (or-cases (blank c) (eqb c 44) (blank-part c) (is-part c 44 refl)) (is-part c 93 refl))
+    (is-part c 41 refl))
+    (is-part c 125 refl))
+    (is-part c 58 refl)
 
 -- what may follow a token is no byte that may not
 pub delimiter-not : (c x : ℕ) → delimiter c ≡ true → delimiter x ≡ false → eqb c x ≡ false
@@ -135,7 +109,7 @@ behind-digits (c ∷ w) h = rw (digit-part c (h .0)) (behind-digits w (h .1))
 pub identifier-parts : (c : ℕ) (w : List ℕ) → isIdentifier (c ∷ w) ≡ true → (isStart c ≡ true) × (behindWord (c ∷ w) ≡ [])
 unfolding isIdentifier behindWord
 identifier-parts c w h =
-    let p = and-both (isStart c) (empty (behindWord w)) h in
+    let p = both (isStart c) (empty (behindWord w)) h in
     (p .0, rw (start-part c (p .0)) (empty-is (behindWord w) (p .1)))
 
 pub identifier-word : (w : List ℕ) → isIdentifier w ≡ true → behindWord w ≡ []

@@ -478,7 +478,3 @@ pub keyword-none : (w : List ℕ) → length w ≡ 0 → isKeyword w ≡ false
 unfolding isKeyword same strip
 keyword-none [] h = refl
 keyword-none (x ∷ w) h = absurd (omega arith)
-
-pub kind-none : (w : List ℕ) → length w ≡ 0 → kindOf w ≡ Refused
-kind-none [] h = kind-nothing
-kind-none (x ∷ w) h = absurd (omega arith)

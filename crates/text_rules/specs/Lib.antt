@@ -6,5 +6,5 @@ pub mod Words
 pub mod Utf8
 pub mod Escapes
 pub mod Text
+pub mod TextSteps
 pub mod WordSteps
-pub mod Lanes

@@ -57,5 +57,5 @@ unfoldable pub allPart : List ℕ → Bool
 allPart s = empty (behindWord s)
 
 -- a letter or `_`: the first byte of most names
-unfoldable pub isName : ℕ → Bool
-isName c = isStart c && not (eqb c (byte "$"))
+unfoldable pub isLetterOrUnderscore : ℕ → Bool
+isLetterOrUnderscore c = isStart c && not (eqb c (byte "$"))

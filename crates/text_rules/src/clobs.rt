@@ -8,25 +8,23 @@ ghost use Rattle.text_rules.specs.Escapes.{escapeKind, EscapeTable, hexD
 ghost use Rattle.text_rules.specs.Text.{clobText};
 
 // A lower-case hex digit.
-fn hex_digit(d: u8) -> u8
+fn hex_digit(d: u8) -> u64
     requires { ⌜ d < 16 ⌝ }
-    ensures { λ r. ⌜ r ≡ hexDigit d ⌝ }
+    ensures { λ r. ⌜ (r ≡ hexDigit d) × (r < 256) ⌝ }
 {
     if d < 10 {
-        return b'0' + d;
+        return (b'0' + d) as u64;
     }
-    b'a' + (d - 10)
+    (b'a' + (d - 10)) as u64
 }
 
-// `\x` and two hex digits.
+// `\x` and two hex digits, as the bytes of a word.
 fn put_hex(buf: &mut [u8], pos: usize, b: u8) -> usize
     requires { ⌜ pos ≤ limit ⌝ }
     ensures { λ r. ⌜ Wrote (now (buf .entry)) (now (buf .exit)) pos r (byte "\\" ∷ byte "x" ∷ hexDigit (b / 16) ∷ hexDigit (b % 16) ∷ []) ⌝ }
 {
-    let p = output::put(buf, pos, b'\\');
-    let x = output::put(buf, p, b'x');
-    let h = output::put(buf, x, hex_digit(b / 16));
-    output::put(buf, h, hex_digit(b % 16))
+    let w = 0x785C + 65536 * hex_digit(b / 16) + 16777216 * hex_digit(b % 16);
+    output::put_le(buf, pos, w, 4)
 }
 
 // One byte of a clob, whose kind is at hand.
@@ -110,11 +108,12 @@ fn format_clob_body(buf: &mut [u8], pos: usize, s: &[u8]) -> usize
     put_clob_escaped(buf, pos, s)
 }
 
+// The marks too, the first byte lowest.
 pub fn format_clob(buf: &mut [u8], pos: usize, s: &[u8]) -> usize
     requires { ⌜ pos ≤ limit ⌝ }
     ensures { λ r. ⌜ Wrote (now (buf .entry)) (now (buf .exit)) pos r (clobText (now (s .entry))) ⌝ }
 {
-    let p = output::put_bytes(buf, pos, b"{{\"");
+    let p = output::put_le(buf, pos, 0x227B7B, 3);
     let e = format_clob_body(buf, p, s);
-    output::put_bytes(buf, e, b"\"}}")
+    output::put_le(buf, e, 0x7D7D22, 3)
 }

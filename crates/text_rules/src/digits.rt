@@ -2,11 +2,13 @@
 ghost use mathlib.Core.Path.{_≡_};
 ghost use mathlib.Core.List.{_++_};
 ghost use Prim.Native.Nat.{_+_, _-_, _/_, _%_, _^_, _≤_, _<_};
-ghost use lib.ListN.{length, drop};
+ghost use lib.ListN.{length};
 ghost use lib.Seq.{sets};
 ghost use Rattle.output.specs.Wrote.{Wrote, limit, leBytes};
 ghost use Rattle.text_rules.specs.Digits.{digit, pad, count, digits, zeroPadded, isDigit};
-ghost use Rattle.text_rules.specs.DigitSteps.{Led, Ahead, RunJoined, PairLanes, Split, Zeros, wordOf};
+ghost use Rattle.text_rules.specs.DigitSteps.{Led, Ahead, RunJoined, Zeros};
+// Passed on to the crates above: the last digits of a word are its last bytes.
+pub use output::store_last;
 
 // Ten to the power k: the compiler makes a table of the arms.
 pub fn pow10(k: usize) -> u64
@@ -67,37 +69,10 @@ fn digit_of(x: u32) -> u8
     48 + x as u8
 }
 
-// ---- eight digits in one word, a byte each, the first lowest
+// ---- eight digits in one word, a byte each, the first lowest (`lanes::digit_words`)
 
 // The digit 0 eight times.
 const ZEROS: u64 = 0x3030303030303030;
-
-// The eight digits, as numbers, of four numbers below 100 in lanes of sixteen bits: all four by ten with one product, as
-// x * 103 / 1024 is x / 10.
-fn lanes(h: u64) -> u64
-    requires { ⌜ PairLanes h ⌝ }
-    ensures { λ r. ⌜ Split h r ⌝ }
-{
-    let u = h * 103 / 1024;
-    let tens = u % 64
-        + u / 65536 % 64 * 65536
-        + u / 4294967296 % 64 * 4294967296
-        + u / 281474976710656 * 281474976710656;
-    tens + (h - 10 * tens) * 256
-}
-
-// The eight digits of x, as numbers: both halves by a hundred with one product, as y * 10486 / 1048576 is y / 100.
-fn word8(x: u64) -> u64
-    requires { ⌜ x < 100000000 ⌝ }
-    ensures { λ r. ⌜ (r ≡ wordOf x) × (r < 720575940379279360) ⌝ }
-{
-    let hi = x / 10000;
-    let lo = x % 10000;
-    let m = hi + 4294967296 * lo;
-    let v = m * 10486 / 1048576;
-    let top = v / 4294967296 * 4294967296 + v % 4096;
-    lanes((m - 100 * top) * 65536 + top)
-}
 
 // How many of eight digits, as numbers, are zeros in front of the others; the last one counts as another. Without branches.
 fn zeros8(d: u64) -> usize
@@ -111,7 +86,7 @@ pub fn eight_digits(x: u64) -> u64
     requires { ⌜ x < 100000000 ⌝ }
     ensures { λ r. ⌜ leBytes 8 r ≡ pad 8 x ⌝ }
 {
-    word8(x) + ZEROS
+    lanes::digit_words::word8(x) + ZEROS
 }
 
 // The digits of four numbers below 100, two each, at the price of one.
@@ -119,7 +94,7 @@ pub fn four_pairs(a: u64, b: u64, c: u64, d: u64) -> u64
     requires { ⌜ (a < 100) × (b < 100) × (c < 100) × (d < 100) ⌝ }
     ensures { λ r. ⌜ leBytes 8 r ≡ pad 2 a ++ pad 2 b ++ pad 2 c ++ pad 2 d ⌝ }
 {
-    lanes(a + 65536 * b + 4294967296 * c + 281474976710656 * d) + ZEROS
+    lanes::digit_words::pair_digits(a + 65536 * b + 4294967296 * c + 281474976710656 * d) + ZEROS
 }
 
 // ---- where there is room
@@ -151,34 +126,14 @@ fn eight(buf: &mut [u8], p: usize, x: u64)
     output::store_8(buf, p, eight_digits(x));
 }
 
-// The last c of a word's eight bytes: two stores that overlap.
-pub fn store_last(buf: &mut [u8], p: usize, w: u64, c: usize)
-    requires { ⌜ (c ≤ 8) × (p + c ≤ length (now buf)) ⌝ }
-    ensures { λ _. ⌜ now (buf .exit) ≡ sets (now (buf .entry)) p (drop (8 - c) (leBytes 8 w)) ⌝ }
-{
-    if 4 <= c {
-        output::store_4(buf, p, w >> (64 - 8 * c));
-        output::store_4(buf, p + (c - 4), w / 4294967296);
-        return;
-    }
-    if 2 <= c {
-        output::store_2(buf, p, w >> (64 - 8 * c));
-        output::store_2(buf, p + (c - 2), w / 281474976710656);
-        return;
-    }
-    if c == 1 {
-        buf[p] = (w / 72057594037927936) as u8;
-    }
-}
-
 // One to eight digits, no byte more, and the position behind them.
 fn lead_exact(buf: &mut [u8], p: usize, x: u64) -> usize
     requires { ⌜ (x < 100000000) × (p + 8 ≤ length (now buf)) ⌝ }
     ensures { λ r. ⌜ Led (now (buf .entry)) (now (buf .exit)) p r x ⌝ }
 {
-    let d = word8(x);
+    let d = lanes::digit_words::word8(x);
     let c = 8 - zeros8(d);
-    store_last(buf, p, d + ZEROS, c);
+    output::store_last(buf, p, d + ZEROS, c);
     p + c
 }
 
@@ -188,7 +143,7 @@ fn lead_store(buf: &mut [u8], p: usize, x: u64) -> usize
     requires { ⌜ (x < 100000000) × (p + 8 ≤ length (now buf)) ⌝ }
     ensures { λ r. ⌜ Ahead (now (buf .entry)) (now (buf .exit)) p r x ⌝ }
 {
-    let d = word8(x);
+    let d = lanes::digit_words::word8(x);
     let k = zeros8(d);
     output::store_8(buf, p, (d + ZEROS) >> (8 * k));
     p + (8 - k)
@@ -228,7 +183,7 @@ fn fill_short(buf: &mut [u8], pos: usize, n: u64, w: usize)
     requires { ⌜ (w ≤ 8) × (pos + w ≤ length (now buf)) ⌝ }
     ensures { λ _. ⌜ now (buf .exit) ≡ sets (now (buf .entry)) pos (pad w n) ⌝ }
 {
-    store_last(buf, pos, eight_digits(n % 100000000), w);
+    output::store_last(buf, pos, eight_digits(n % 100000000), w);
 }
 
 // The w lowest digits of n, the last two first.
@@ -283,6 +238,9 @@ fn pad_clipped(buf: &mut [u8], pos: usize, n: u64, w: usize) -> usize
     requires { ⌜ pos ≤ limit ⌝ }
     ensures { λ r. ⌜ Wrote (now (buf .entry)) (now (buf .exit)) pos r (pad w n) ⌝ }
 {
+    if buf.len() <= pos {
+        return output::ahead(pos, w);
+    }
     let mut p = pos;
     let mut k = w;
     while 0 < k {
@@ -330,7 +288,8 @@ pub fn put_digits(buf: &mut [u8], pos: usize, n: u64) -> usize
     pad_clipped(buf, pos, n, w)
 }
 
-// Plain decimal, left-padded with zeros to at least w digits.
+// Plain decimal, left-padded with zeros to at least w digits: the Rust's function, proved over the width. No writer calls it: a timestamp's
+// fields, which the Rust writes by it, are written by words (`four_pairs`, `put_padded`), and the law `zero-padded` says that they are the same.
 pub fn write_zero_padded(buf: &mut [u8], pos: usize, n: u64, w: usize) -> usize
     requires { ⌜ pos ≤ limit ⌝ }
     ensures { λ r. ⌜ Wrote (now (buf .entry)) (now (buf .exit)) pos r (zeroPadded w n) ⌝ }

@@ -451,12 +451,12 @@ fn is_raw(s: &[u8]) -> bool
         return false;
     }
     while i + 8 < n {
-        if !crate::lanes::is_raw_word(output::word_at(s, i), 8) {
+        if !lanes::is_raw_word(output::word_at(s, i), 8) {
             return false;
         }
         i += 8;
     }
-    crate::lanes::is_raw_word(output::word_at(s, n - 8), 8)
+    lanes::is_raw_word(output::word_at(s, n - 8), 8)
 }
 
 // The body of quoted text and strings: NUL, 7 to 13, the backslash and both quote marks escaped, other characters raw.

@@ -3,7 +3,7 @@
 pub mod clobs;
 pub mod digits;
 pub mod escapes;
-pub mod lanes;
+pub mod short_words;
 pub mod text_formatter;
 pub mod texts;
 pub mod utf8;

@@ -6,77 +6,51 @@ ghost use lib.ListN.{length, take, drop};
 ghost use Rattle.output.specs.Logic.{byte};
 ghost use Rattle.output.specs.Wrote.{Wrote, limit, leBytes};
 ghost use Rattle.text_rules.specs.Text.{marked, symbolText, symbolIdText, stringText, nullText, boolText, bitsText, floatText};
+ghost use Rattle.text_rules.specs.TextSteps.{twoWordText};
 ghost use Rattle.text_rules.specs.WordSteps.{special, isBare};
 
-// A null of the types 1 to 4. Few literals to a function keep its proof small.
-fn put_null_number(buf: &mut [u8], pos: usize, t: u8) -> usize
-    requires { ⌜ (pos ≤ limit) × (1 ≤ t) × (t ≤ 4) ⌝ }
-    ensures { λ r. ⌜ Wrote (now (buf .entry)) (now (buf .exit)) pos r (nullText t) ⌝ }
+// A text by two words and its length: its bytes are those of the first word, the lowest first, and behind eight those of the second.
+struct Spelling(u64, u64, usize);
+
+// A null of a type: `null`, or `null.` and the type. A number past 12 is no type, and has no name. The compiler makes tables of the arms.
+fn spell_null(t: u8) -> Spelling
+    ensures { λ r. ⌜ twoWordText r ≡ nullText t ⌝ }
 {
-    if t == 1 {
-        return output::put_bytes(buf, pos, b"null.bool");
+    match t {
+        0 => Spelling(0x6C6C756E, 0, 4), // null
+        1 => Spelling(0x6F6F622E6C6C756E, 0x6C, 9), // null.bool
+        2 => Spelling(0x746E692E6C6C756E, 0, 8), // null.int
+        3 => Spelling(0x6F6C662E6C6C756E, 0x7461, 10), // null.float
+        4 => Spelling(0x6365642E6C6C756E, 0x6C616D69, 12), // null.decimal
+        5 => Spelling(0x6D69742E6C6C756E, 0x706D61747365, 14), // null.timestamp
+        6 => Spelling(0x6D79732E6C6C756E, 0x6C6F62, 11), // null.symbol
+        7 => Spelling(0x7274732E6C6C756E, 0x676E69, 11), // null.string
+        8 => Spelling(0x6F6C632E6C6C756E, 0x62, 9), // null.clob
+        9 => Spelling(0x6F6C622E6C6C756E, 0x62, 9), // null.blob
+        10 => Spelling(0x73696C2E6C6C756E, 0x74, 9), // null.list
+        11 => Spelling(0x7865732E6C6C756E, 0x70, 9), // null.sexp
+        12 => Spelling(0x7274732E6C6C756E, 0x746375, 11), // null.struct
+        _ => Spelling(0x2E6C6C756E, 0, 5), // null.
     }
-    if t == 2 {
-        return output::put_bytes(buf, pos, b"null.int");
-    }
-    if t == 3 {
-        return output::put_bytes(buf, pos, b"null.float");
-    }
-    output::put_bytes(buf, pos, b"null.decimal")
 }
 
-// A null of the types 5 to 8.
-fn put_null_text(buf: &mut [u8], pos: usize, t: u8) -> usize
-    requires { ⌜ (pos ≤ limit) × (5 ≤ t) × (t ≤ 8) ⌝ }
-    ensures { λ r. ⌜ Wrote (now (buf .entry)) (now (buf .exit)) pos r (nullText t) ⌝ }
+fn put_spelling(buf: &mut [u8], pos: usize, s: Spelling) -> usize
+    requires { ⌜ pos ≤ limit ⌝ }
+    ensures { λ r. ⌜ Wrote (now (buf .entry)) (now (buf .exit)) pos r (twoWordText s) ⌝ }
 {
-    if t == 5 {
-        return output::put_bytes(buf, pos, b"null.timestamp");
+    let n = s.2;
+    if n <= 8 {
+        return output::put_le(buf, pos, s.0, n);
     }
-    if t == 6 {
-        return output::put_bytes(buf, pos, b"null.symbol");
-    }
-    if t == 7 {
-        return output::put_bytes(buf, pos, b"null.string");
-    }
-    output::put_bytes(buf, pos, b"null.clob")
+    let p = output::put_le(buf, pos, s.0, 8);
+    output::put_le(buf, p, s.1, n - 8)
 }
 
-// A null of the types 9 to 12.
-fn put_null_container(buf: &mut [u8], pos: usize, t: u8) -> usize
-    requires { ⌜ (pos ≤ limit) × (9 ≤ t) × (t ≤ 12) ⌝ }
-    ensures { λ r. ⌜ Wrote (now (buf .entry)) (now (buf .exit)) pos r (nullText t) ⌝ }
-{
-    if t == 9 {
-        return output::put_bytes(buf, pos, b"null.blob");
-    }
-    if t == 10 {
-        return output::put_bytes(buf, pos, b"null.list");
-    }
-    if t == 11 {
-        return output::put_bytes(buf, pos, b"null.sexp");
-    }
-    output::put_bytes(buf, pos, b"null.struct")
-}
-
-// A null of a type: `null`, or `null.` and the type. A number past 12 is no type, and has no name.
 pub fn format_null(buf: &mut [u8], pos: usize, t: u8) -> usize
     requires { ⌜ pos ≤ limit ⌝ }
     ensures { λ r. ⌜ Wrote (now (buf .entry)) (now (buf .exit)) pos r (nullText t) ⌝ }
 {
-    if t == 0 {
-        return output::put_bytes(buf, pos, b"null");
-    }
-    if t <= 4 {
-        return put_null_number(buf, pos, t);
-    }
-    if t <= 8 {
-        return put_null_text(buf, pos, t);
-    }
-    if t <= 12 {
-        return put_null_container(buf, pos, t);
-    }
-    output::put_bytes(buf, pos, b"null.")
+    put_spelling(buf, pos, spell_null(t))
 }
 
 pub fn format_bool(buf: &mut [u8], pos: usize, b: bool) -> usize
@@ -90,32 +64,33 @@ pub fn format_bool(buf: &mut [u8], pos: usize, b: bool) -> usize
     output::put_le(buf, pos, 0x65736C6166, 5)
 }
 
-// A float by its bits, which are no NaN's. Only infinities and zeros have a text.
+// A float by its bits, which are no NaN's: `+inf`, `-inf`, `0e0`, `-0e0`, the first byte lowest. Only infinities and zeros have a text.
 fn put_float_bits(buf: &mut [u8], pos: usize, b: u64) -> usize
     requires { ⌜ pos ≤ limit ⌝ }
     ensures { λ r. ⌜ Wrote (now (buf .entry)) (now (buf .exit)) pos r (bitsText b) ⌝ }
 {
     if b == 0x7FF0_0000_0000_0000 {
-        return output::put_bytes(buf, pos, b"+inf");
+        return output::put_le(buf, pos, 0x666E692B, 4);
     }
     if b == 0xFFF0_0000_0000_0000 {
-        return output::put_bytes(buf, pos, b"-inf");
+        return output::put_le(buf, pos, 0x666E692D, 4);
     }
     if b == 0 {
-        return output::put_bytes(buf, pos, b"0e0");
+        return output::put_le(buf, pos, 0x306530, 3);
     }
     if b == 0x8000_0000_0000_0000 {
-        return output::put_bytes(buf, pos, b"-0e0");
+        return output::put_le(buf, pos, 0x3065302D, 4);
     }
     pos
 }
 
+// The same, or `nan`.
 pub fn format_float(buf: &mut [u8], pos: usize, x: f64) -> usize
     requires { ⌜ pos ≤ limit ⌝ }
     ensures { λ r. ⌜ Wrote (now (buf .entry)) (now (buf .exit)) pos r (floatText x) ⌝ }
 {
     if x != x {
-        return output::put_bytes(buf, pos, b"nan");
+        return output::put_le(buf, pos, 0x6E616E, 3);
     }
     put_float_bits(buf, pos, f64::to_bits(x))
 }
@@ -215,15 +190,15 @@ pub fn format_symbol_at(buf: &mut [u8], pos: usize, s: &[u8], from: usize, n: us
         if n <= 8 {
             if from + 8 <= s.len() {
                 let x = output::word_at(s, from);
-                if crate::lanes::is_keyword_word(x, n) {
+                if crate::short_words::is_keyword_word(x, n) {
                     return put_quoted_word(buf, pos, x, n);
                 }
-                if crate::lanes::is_identifier_word(x, n) {
-                    if crate::lanes::starts_with_letter(x) {
+                if lanes::is_identifier_word(x, n) {
+                    if lanes::starts_with_letter(x) {
                         return output::put_le(buf, pos, x, n);
                     }
                 } else {
-                    if crate::lanes::is_raw_word(x, n) {
+                    if lanes::is_raw_word(x, n) {
                         return put_quoted_word(buf, pos, x, n);
                     }
                 }

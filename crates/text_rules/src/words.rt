@@ -7,8 +7,7 @@ ghost use Rattle.output.specs.Logic.{byte};
 ghost use Rattle.text_rules.specs.Digits.{number};
 ghost use Rattle.text_rules.specs.Texts.{starts, same};
 ghost use Rattle.text_rules.specs.Words.{isStart, isPart, allDigits, isKeyword, resemblesSymbolId, version, resemblesVersionMarker, isIdentifier, symbolId, kindOf};
-ghost use Rattle.text_rules.specs.WordSteps.{WordAt};
-ghost use Rattle.text_rules.specs.WordSteps.{Spanned, Passed, WordStands, bounded};
+ghost use Rattle.text_rules.specs.WordSteps.{Spanned, Passed, WordStands, WordAt, bounded};
 
 // What a word of identifier bytes is where it stands bare.
 pub enum Kind {
@@ -316,16 +315,6 @@ fn keyword_kind(w: &[u8]) -> Kind
         return Kind::False;
     }
     Kind::Nan
-}
-
-// What a word is where it stands bare.
-pub fn kind_of(w: &[u8]) -> Kind
-    ensures { λ r. ⌜ r ≡ kindOf (now (w .entry)) ⌝ }
-{
-    if w.len() == 0 {
-        return Kind::Refused;
-    }
-    known_kind(w, token_is_identifier(w))
 }
 
 // The word of identifier bytes at a place. Its bytes are all of an identifier's, so the first one tells whether it is one.

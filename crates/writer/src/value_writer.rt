@@ -108,7 +108,7 @@ fn plain_at(tape: &[u8], from: usize, n: usize) -> bool
 {
     if 1 <= n {
         if n <= 8 {
-            return text_rules::lanes::is_plain(output::word_at(tape, from), n);
+            return text_rules::short_words::is_plain(output::word_at(tape, from), n);
         }
     }
     false

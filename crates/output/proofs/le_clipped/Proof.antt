@@ -1,9 +1,9 @@
 -- `output::le_clipped` meets its contract. Assumes nothing.
-use Prim.Native.Nat.{ℕ, suc, _+_, _-_, min}
-use mathlib.Core.Path.{_≡_, sym, ap, _∙_}
+use Prim.Native.Nat.{ℕ, suc, _-_}
+use mathlib.Core.Path.{_≡_, ap}
 use native.Mathlib.Omega.{arith}
-use Rattle.output.specs.Wrote.{limit, leBytes}
-use Rattle.output.proofs.Laws.{sets-out, length-le, Progress, start, more, finish, wrote-length}
+use Rattle.output.specs.Wrote.{leBytes}
+use Rattle.output.proofs.Laws.{length-le, wrote-past, Progress, start, more, finish, wrote-length}
 use borrow.Author.Needs.{needs}
 use Rattle.output.proofs.le_clipped.Statement.{statement}
 use Rattle.output.proofs.le_clipped.Tie as tie
@@ -20,11 +20,7 @@ ahead-requires c κs = search needs
 returns : tie.Need-returns Inv-loop μ-loop
 returns c =
     let a = c .before .before .before .args in
-    record {
-      bytes = sym (sets-out (a .buf .now) (a .pos) (leBytes (a .width) (a .n)) (c .before .if1 .taken));
-      count = c .ahead .ensures ∙ ap (λ (k : ℕ). min (a .pos + k) limit) (sym (length-le (a .width) (a .n)));
-      room = search needs;
-    }
+    wrote-past _ _ _ (a .width) (leBytes (a .width) (a .n)) (c .before .if1 .taken) (search needs) (length-le (a .width) (a .n)) (c .ahead .ensures)
 
 loop-holds : tie.Need-loop-holds Inv-loop μ-loop
 loop-holds c = start _ _ _ (search needs) (search needs)

@@ -1,8 +1,8 @@
 -- `output::put_bytes` meets its contract. Assumes nothing.
-use mathlib.Core.Path.{sym, _∙_}
+use mathlib.Core.Path.{refl, sym, _∙_}
 use native.Mathlib.Omega.{arith}
 use lib.Seq.{length-take-le}
-use Rattle.output.proofs.Laws.{sets-out, sets-room}
+use Rattle.output.proofs.Laws.{wrote-past, sets-room}
 use borrow.Author.Needs.{needs}
 use Rattle.output.proofs.put_bytes.Statement.{statement}
 use Rattle.output.proofs.put_bytes.Tie as tie
@@ -13,7 +13,7 @@ ahead-requires c κs = search needs
 returns : tie.Need-returns
 returns c =
     let a = c .before .before .before .before .args in
-    record { bytes = sym (sets-out (a .buf .now) (a .pos) (a .s .now) (c .before .if1 .taken)); count = c .ahead .ensures; room = search needs }
+    wrote-past _ _ _ _ (a .s .now) (c .before .if1 .taken) (search needs) refl (c .ahead .ensures)
 
 sub-lesser : tie.Need-sub-lesser
 sub-lesser c = search needs

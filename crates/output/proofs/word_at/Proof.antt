@@ -6,7 +6,7 @@ use native.Mathlib.Omega.{arith}
 use lib.ListN.{take, drop}
 use lib.Seq.{take-add, take-take}
 use Rattle.output.specs.Wrote.{leBytes}
-use Rattle.output.proofs.Words.{le-halves}
+use Rattle.output.proofs.Words.{le-above}
 use borrow.Author.Needs.{needs}
 use Rattle.output.proofs.word_at.Statement.{statement}
 use Rattle.output.proofs.word_at.Tie as tie
@@ -42,7 +42,7 @@ returns c =
     let e : a .from + 8 - a .from ≡ 8 = omega arith in
     let h = rw e at (c .before .half-at .ensures .0) in
     let g = rw e at (c .half-at2 .ensures .0) in
-    le-halves _ _ (c .before .half-at .ensures .1)
+    le-above 4 4 _ _ (c .before .half-at .ensures .1)
     ∙ ap (λ (u : List ℕ). u ++ leBytes 4 (c .half-at2 .result)) h
     ∙ ap (λ (u : List ℕ). take 4 t ++ u) g
     ∙ sym (take-add 4 4 t)

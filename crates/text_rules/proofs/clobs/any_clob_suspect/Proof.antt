@@ -6,7 +6,7 @@ use mathlib.Core.List.{[]}
 use native.Mathlib.Omega.{arith}
 use lib.ListN.{length, drop, drop-of-length-le}
 use Rattle.text_rules.specs.Escapes.{clobBody}
-use Rattle.text_rules.proofs.EscapesLaws.{or-left, or-right}
+use Rattle.lanes.proofs.LaneLaws.{or-left, or-right}
 use Rattle.text_rules.proofs.ClobLaws.{clob-raw}
 use borrow.Author.Needs.{needs}
 use Rattle.text_rules.proofs.clobs.any_clob_suspect.Statement.{statement}

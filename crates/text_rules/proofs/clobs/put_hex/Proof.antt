@@ -1,45 +1,40 @@
 -- `clobs::put_hex` meets its contract. Assumes nothing.
 use mathlib.Core.Path.{sym}
-use Rattle.output.proofs.Laws.{wrote-then}
+use native.Mathlib.Omega.{arith}
+use Rattle.output.proofs.Words.{le-sum-4}
 use borrow.Author.Needs.{needs}
 use Rattle.text_rules.proofs.clobs.put_hex.Statement.{statement}
 use Rattle.text_rules.proofs.clobs.put_hex.Tie as tie
 
-put-requires : tie.Need-put-requires
-put-requires c κs = search needs
-
-put-requires-2 : tie.Need-put-requires-2
-put-requires-2 c κs = search needs
-
 hex-digit-requires : tie.Need-hex-digit-requires
 hex-digit-requires c κs = search needs
 
-put-requires-3 : tie.Need-put-requires-3
-put-requires-3 c κs = search needs
+mul-w : tie.Need-mul-w
+mul-w c = search needs
+
+add-w : tie.Need-add-w
+add-w c = search needs
 
 hex-digit-requires-2 : tie.Need-hex-digit-requires-2
 hex-digit-requires-2 c κs = search needs
 
-put-requires-4 : tie.Need-put-requires-4
-put-requires-4 c κs = search needs
+mul-w-2 : tie.Need-mul-w-2
+mul-w-2 c = search needs
+
+add-w-2 : tie.Need-add-w-2
+add-w-2 c = search needs
+
+put-le-requires : tie.Need-put-le-requires
+put-le-requires c κs = search needs
 
 same-length : tie.Need-same-length
 same-length c = search needs
 
 returns : tie.Need-returns
 returns c =
-    let w = wrote-then (wrote-then (wrote-then (c .before .before .before .before .before .before .before .before .before .before .before .before .before .before .before .before .put .ensures) (c .before .before .before .before .before .before .before .before .before .before .before .before .put2 .ensures)) (c .before .before .before .before .before .before .before .put3 .ensures)) (c .before .before .put4 .ensures) in
-    rw (sym (c .before .before .before .before .before .before .before .before .hex-digit .ensures), sym (c .before .before .before .hex-digit2 .ensures)) w
+    let h = c .before .before .before .before .before .hex-digit .ensures in
+    let l = c .before .before .before .before .hex-digit2 .ensures in
+    rw (sym (h .0), sym (l .0), sym (le-sum-4 92 120 _ _ (omega arith) (omega arith) (h .1) (l .1))) (c .before .before .put-le .ensures)
 
 pub put-hex-spec : {M : Type 1} → statement M
-put-hex-spec =
-    tie.close
-    (tie.spec
-    put-requires
-    put-requires-2
-    hex-digit-requires
-    put-requires-3
-    hex-digit-requires-2
-    put-requires-4
-    same-length
-    returns)
+put-hex-spec = tie.close (tie.spec hex-digit-requires mul-w add-w hex-digit-requires-2 mul-w-2 add-w-2 put-le-requires same-length returns)

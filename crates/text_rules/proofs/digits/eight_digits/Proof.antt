@@ -6,7 +6,7 @@ use Rattle.text_rules.proofs.DigitWords.{zeros, word-of}
 use borrow.Author.Needs.{needs}
 use Rattle.text_rules.proofs.digits.eight_digits.Statement.{statement}
 use Rattle.text_rules.proofs.digits.eight_digits.Tie as tie
-use Rattle.text_rules.proofs.digits.word8.Reads as word8-reads
+use Rattle.lanes.proofs.digit_words.word8.Reads as word8-reads
 
 word8-requires : tie.Need-word8-requires
 word8-requires c κs = search needs

@@ -8,7 +8,7 @@ use borrow.Author.Needs.{needs}
 use Rattle.text_rules.proofs.digits.fill_short.Statement.{statement}
 use Rattle.text_rules.proofs.digits.fill_short.Tie as tie
 use Rattle.text_rules.proofs.digits.eight_digits.Reads as eight-digits-reads
-use Rattle.text_rules.proofs.digits.store_last.Reads as store-last-reads
+use Rattle.output.proofs.store_last.Reads as store-last-reads
 
 eight-digits-requires : tie.Need-eight-digits-requires
 eight-digits-requires c κs = search needs

@@ -9,8 +9,8 @@ use Rattle.text_rules.proofs.DigitWords.{zeros, word-of, last-digits}
 use borrow.Author.Needs.{needs}
 use Rattle.text_rules.proofs.digits.lead_exact.Statement.{statement}
 use Rattle.text_rules.proofs.digits.lead_exact.Tie as tie
-use Rattle.text_rules.proofs.digits.store_last.Reads as store-last-reads
-use Rattle.text_rules.proofs.digits.word8.Reads as word8-reads
+use Rattle.output.proofs.store_last.Reads as store-last-reads
+use Rattle.lanes.proofs.digit_words.word8.Reads as word8-reads
 use Rattle.text_rules.proofs.digits.zeros8.Reads as zeros8-reads
 
 word8-requires : tie.Need-word8-requires

@@ -9,7 +9,7 @@ use borrow.Author.Needs.{needs}
 use Rattle.text_rules.proofs.digits.lead_store.Statement.{statement}
 use Rattle.text_rules.proofs.digits.lead_store.Tie as tie
 use Rattle.output.proofs.store_8.Reads as store-8-reads
-use Rattle.text_rules.proofs.digits.word8.Reads as word8-reads
+use Rattle.lanes.proofs.digit_words.word8.Reads as word8-reads
 use Rattle.text_rules.proofs.digits.zeros8.Reads as zeros8-reads
 
 word8-requires : tie.Need-word8-requires

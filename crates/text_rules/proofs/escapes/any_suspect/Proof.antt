@@ -5,7 +5,8 @@ use mathlib.Core.Path.{_≡_}
 use native.Mathlib.Omega.{arith}
 use lib.ListN.{length, drop}
 use Rattle.text_rules.specs.Escapes.{textBody}
-use Rattle.text_rules.proofs.EscapesLaws.{or-left, or-right, body-raw}
+use Rattle.lanes.proofs.LaneLaws.{or-left, or-right}
+use Rattle.text_rules.proofs.EscapesLaws.{body-raw}
 use borrow.Author.Needs.{needs}
 use Rattle.text_rules.proofs.escapes.any_suspect.Statement.{statement}
 use Rattle.text_rules.proofs.escapes.any_suspect.Tie as tie

@@ -1,6 +1,6 @@
 -- `escapes::escapes` meets its contract: the table's rule is one test, which antt computes over all of its entries. Assumes nothing.
 use Rattle.text_rules.specs.Escapes.{hasLetter, escapeKind}
-use Rattle.text_rules.proofs.Table.{rule}
+use Rattle.lanes.proofs.Table.{rule}
 use Rattle.text_rules.proofs.escapes.escapes.Statement.{statement}
 use Rattle.text_rules.proofs.escapes.escapes.Tie as tie
 

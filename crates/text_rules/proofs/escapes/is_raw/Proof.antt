@@ -1,12 +1,13 @@
 -- `escapes::is_raw` meets its contract. The invariant: the whole needs no escape if what is left needs none. Assumes nothing.
 use Prim.Native.Nat.{_-_, _≤_}
-use mathlib.Core.Path.{_≡_, sym}
+use mathlib.Core.Path.{_≡_, sym, _∙_}
 use native.Mathlib.Omega.{arith}
 use borrow.Author.Tests.{not-false}
 use lib.ListN.{length, drop}
 use Rattle.text_rules.specs.Escapes.{textBody}
 use Rattle.text_rules.proofs.DigitLaws.{never}
 use Rattle.text_rules.proofs.EscapesLaws.{body-part, body-last}
+use Rattle.text_rules.proofs.LaneTests.{raw-word}
 use borrow.Author.Needs.{needs}
 use Rattle.text_rules.proofs.escapes.is_raw.Statement.{statement}
 use Rattle.text_rules.proofs.escapes.is_raw.Tie as tie
@@ -57,7 +58,7 @@ loop-again : tie.Need-loop-again Inv-loop μ-loop
 loop-again c =
     let l = c .before .before .before .before .loop in
     let s = c .before .before .before .before .before .before .before .before .before .args .s .now in
-    let raw = rw (c .before .before .word-at .ensures) at (c .before .is-raw-word .ensures (not-false _ (c .if3 .left))) in
+    let raw = rw (c .before .before .word-at .ensures) at (raw-word 8 _ (sym (c .before .is-raw-word .ensures) ∙ not-false _ (c .if3 .left))) in
     (omega (arith, c .before .before .before .loop-test .taken), λ h. l .inv .1 (body-part s (l .i) 8 raw h))
 
 word-at-requires-2 : tie.Need-word-at-requires-2 Inv-loop μ-loop
@@ -72,7 +73,7 @@ returns-4 c =
     let l = a .before .loop in
     let e = a .before .before .before .before in
     let s = e .before .before .args .s .now in
-    λ h. l .inv .1 (body-last s (l .i) 8 (a .loop-test .left) (e .if1 .left) (rw (c .before .word-at2 .ensures) at (c .is-raw-word2 .ensures h)))
+    λ h. l .inv .1 (body-last s (l .i) 8 (a .loop-test .left) (e .if1 .left) (rw (c .before .word-at2 .ensures) at (raw-word 8 _ (sym (c .is-raw-word2 .ensures) ∙ h))))
 
 pub is-raw-spec : {M : Type 1} → statement M
 is-raw-spec =

@@ -1,23 +1,21 @@
 -- `text_formatter::format_float` meets its contract: a NaN alone differs from itself, and what is no NaN goes by its bits. Assumes nothing.
 use lib.Ieee.{isNan}
+use Rattle.output.specs.Wrote.{leBytes}
 use Rattle.text_rules.specs.Text.{floatText}
 use Rattle.text_rules.proofs.FloatsBits.{self, other, not-nan}
 use borrow.Author.Needs.{needs}
 use Rattle.text_rules.proofs.text_formatter.format_float.Statement.{statement}
 use Rattle.text_rules.proofs.text_formatter.format_float.Tie as tie
 
-slice-aggregate-put-bytes : tie.Need-slice-aggregate-put-bytes
-slice-aggregate-put-bytes c = search needs
-
-put-bytes-requires : tie.Need-put-bytes-requires
-put-bytes-requires c κs = search needs
+put-le-requires : tie.Need-put-le-requires
+put-le-requires c κs = search needs
 
 same-length : tie.Need-same-length
 same-length c = search needs
 
 returns : tie.Need-returns
-unfolding floatText isNan
-returns c = simp (other (c .before .before .before .before .before .before .before .args .x) (c .before .before .before .before .before .if1 .taken)) (c .before .before .put-bytes .ensures)
+unfolding floatText isNan leBytes
+returns c = simp (other (c .before .before .before .before .before .before .args .x) (c .before .before .before .before .if1 .taken)) (c .before .before .put-le .ensures)
 
 float-to-bits-put-float-bits : tie.Need-float-to-bits-put-float-bits
 float-to-bits-put-float-bits c = self (c .before .before .before .args .x) (c .before .if1 .left)
@@ -36,8 +34,7 @@ pub format-float-spec : {M : Type 1} → statement M
 format-float-spec =
     tie.close
     (tie.spec
-    slice-aggregate-put-bytes
-    put-bytes-requires
+    put-le-requires
     same-length
     returns
     float-to-bits-put-float-bits

@@ -5,7 +5,7 @@ use native.Mathlib.Omega.{arith}
 use lib.ListN.{take, drop}
 use Rattle.output.specs.Wrote.{leBytes}
 use Rattle.text_rules.proofs.SymbolsText.{symbol-bare}
-use Rattle.text_rules.proofs.LaneTests.{word-part, word-bare, symbol-quoted, keyword-marked, keyword-raw, other-marked}
+use Rattle.text_rules.proofs.LaneTests.{word-part, part-word, raw-word, word-bare, symbol-quoted, keyword-marked, keyword-raw, other-marked}
 use borrow.Author.Needs.{needs}
 use Rattle.text_rules.proofs.text_formatter.format_symbol_at.Statement.{statement}
 use Rattle.text_rules.proofs.text_formatter.format_symbol_at.Tie as tie
@@ -52,9 +52,9 @@ returns-2 c =
     let a = w .before .before .before .before .before .before .args in
     let x = w .word-at .result in
     let e : leBytes (a .n) x ≡ take (a .n) (drop (a .from) (a .s .now)) = word-part (a .s .now) (a .from) (a .n) x (w .before .before .if2 .taken) (w .word-at .ensures) in
-    let p = sym (c .before .before .before .before .before .before .before .is-identifier-word .ensures) ∙ c .before .before .before .before .before .before .if5 .taken in
+    let p = sym (part-word (a .n) x) ∙ sym (c .before .before .before .before .before .before .before .is-identifier-word .ensures) ∙ c .before .before .before .before .before .before .if5 .taken in
     let k = sym (c .before .before .before .before .before .before .before .before .before .is-keyword-word .ensures) ∙ c .before .before .before .before .before .before .before .before .if4 .left in
-    let b = word-bare (a .n) x (w .before .before .before .if1 .taken) p (c .before .before .before .before .before .starts-with-letter .ensures (c .before .before .before .before .if6 .taken)) k in
+    let b = word-bare (a .n) x (w .before .before .before .if1 .taken) p (sym (c .before .before .before .before .before .starts-with-letter .ensures) ∙ c .before .before .before .before .if6 .taken) k in
     rw (sym e, symbol-bare (leBytes (a .n) x) b) (c .before .before .put-le .ensures)
 
 is-raw-word-requires : tie.Need-is-raw-word-requires
@@ -72,8 +72,8 @@ returns-3 c =
     let a = w .before .before .before .before .before .before .args in
     let x = w .word-at .result in
     let e : leBytes (a .n) x ≡ take (a .n) (drop (a .from) (a .s .now)) = word-part (a .s .now) (a .from) (a .n) x (w .before .before .if2 .taken) (w .word-at .ensures) in
-    let o = other-marked (leBytes (a .n) x) (sym (c .before .before .before .before .before .before .before .is-identifier-word .ensures) ∙ c .before .before .before .before .before .before .if5 .left) in
-    rw (sym e, symbol-quoted (leBytes (a .n) x) o (c .before .before .before .before .before .is-raw-word .ensures (c .before .before .before .before .if7 .taken))) (c .before .before .put-quoted-word2 .ensures)
+    let o = other-marked (leBytes (a .n) x) (sym (part-word (a .n) x) ∙ sym (c .before .before .before .before .before .before .before .is-identifier-word .ensures) ∙ c .before .before .before .before .before .before .if5 .left) in
+    rw (sym e, symbol-quoted (leBytes (a .n) x) o (raw-word (a .n) x (sym (c .before .before .before .before .before .is-raw-word .ensures) ∙ c .before .before .before .before .if7 .taken))) (c .before .before .put-quoted-word2 .ensures)
 
 add-to : tie.Need-add-to
 add-to c = search needs
