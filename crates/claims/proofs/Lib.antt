@@ -13,3 +13,4 @@ pub mod Reread
 pub mod Marked
 pub mod Demand3
 pub mod DamagedExamples
+pub mod Enough

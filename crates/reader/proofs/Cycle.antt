@@ -21,9 +21,8 @@ use Rattle.reader.specs.Steps.{Skipped, Read, Counted, noteCount, freeBy
 use Rattle.reader.specs.declared.heads.Run.{Run}
 use Rattle.reader.specs.declared.heads.Run.the-variants.{Whole, Broken}
 use Rattle.reader.proofs.Laying.{laid-none, laid-then-kept, laid-then, laid-sized}
-use Rattle.reader.proofs.Shorter.{opens-some}
 use Rattle.reader.proofs.HeadSteps.{free-count}
-use Rattle.reader.proofs.Reading.{body-nest, body-deep, body-scalar, body-nothing, value-headless, value-head, further, further-none, further-some, sequence-end, sequence-child}
+use Rattle.reader.proofs.Reading.{opens-some, body-nest, body-deep, body-scalar, body-nothing, value-headless, value-head, further, further-none, further-some, sequence-end, sequence-child}
 
 -- ---- a value behind its head
 

@@ -5,6 +5,5 @@ pub mod HeadSteps
 pub mod ScalarSteps
 pub mod Reading
 pub mod Shorter
-pub mod Enough
 pub mod Cycle
 pub mod Whole

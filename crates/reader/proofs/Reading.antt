@@ -1,15 +1,22 @@
 -- The grammar's steps for values and sequences. Assumes nothing.
-use Prim.Native.Nat.{ℕ, zero, suc, _*_}
+use Prim.Native.Nat.{ℕ, zero, suc, _*_, _<_}
 use mathlib.Core.Path.{_≡_, refl}
-use mathlib.Core.List.{List}
+use mathlib.Core.List.{List, [], _∷_}
 use mathlib.Core.Bool.{Bool}
 use mathlib.Core.Option.{Option, none, some}
+use native.Mathlib.Omega.{arith}
 use lib.ListN.{length, drop}
 use Rattle.output.specs.Logic.{then}
 use Rattle.tape.specs.Tree.{Head, Node, Nodes}
 use Rattle.tape.specs.declared.Frame.{Frame}
 use Rattle.tape.specs.declared.Frame.the-variants.{Top}
 use Rattle.reader.specs.Grammar.{opens, scalar, closes, gap, skip, head, free, body, value, sequence, meaning}
+
+-- a text that opens a frame is not empty
+pub opens-some : (t : List ℕ) (k : Frame) → opens t ≡ some k → length (drop 1 t) < length t
+unfolding opens
+opens-some [] k e = absurd (let z : _≡_ {A = ℕ} 0 1 = cc in omega arith)
+opens-some (c ∷ t) k e = omega arith
 
 pub body-nest : (f : ℕ) (m : Bool) (l : ℕ) (t : List ℕ) (k : Frame) (o : Option (Nodes × List ℕ)) → opens t ≡ some k → sequence f k l (drop 1 t) ≡ o
     → body (suc f) m (suc l) t ≡ then o (λ r. some (Node.nest k (r .0), r .1))

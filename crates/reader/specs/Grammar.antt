@@ -1,5 +1,5 @@
 -- The grammar, as the function that gives a text's meaning. A rule takes a text and gives what it read and the text behind it, or `none`.
--- `body` and `sequence` go f steps deep at most: for a text of n bytes every f above 2n gives the same (`sequence-enough`).
+-- `body` and `sequence` go f steps deep at most: for a text of n bytes every f above 2n gives the same (`sequence-enough`, in claims).
 -- Assumes nothing: these are definitions.
 use Prim.Native.Nat.{ℕ, zero, suc, _*_}
 use mathlib.Core.List.{List, [], _∷_}
