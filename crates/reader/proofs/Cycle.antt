@@ -54,8 +54,8 @@ module _ {text : List ℕ} {at : ℕ} (inside : at ≤ length text) {m : Bool} {
   body-at-deep {left} z = record { told = λ f l. (ap (λ (i : ℕ). body f m i (drop at text)) z ∙ body-deep f m (drop at text) k open-here, kept-all) }
 
   module _ {left : ℕ} (room : left ≡ 0 → ⊥) where
-    pub body-at-broken : {p q : ℕ} {b b1 : List ℕ} → p ≤ limit → q ≡ min (p + 5) limit → RunAt text (at + 1) k (left - 1) b b1 q 0 Broken → BodyAt text at m left b b1 p Bad
-    body-at-broken {p} {q} {b} {b1} lp u h = record {
+    pub body-at-broken : {p q : ℕ} {b b1 : List ℕ} → p ≤ q → RunAt text (at + 1) k (left - 1) b b1 q 0 Broken → BodyAt text at m left b b1 p Bad
+    body-at-broken {p} {q} {b} {b1} u h = record {
       told = body-told text at m left b b1 p Bad (opens-inside text at k inside open-here) λ f l.
           let i = opens-inside text at k inside open-here in
           let g = h .told f (omega arith) in

@@ -160,8 +160,8 @@ pub notes-no : (text : List ℕ) (at p : ℕ) (b b' : List ℕ) → b' ≡ b →
 notes-no text at p b b' e h hi lp = subst (λ (z : List ℕ). Counted encodeNotes length text at b z p 0 (notes 16 (drop at text)) (Whole at p 0)) (sym e) (notes-kept text at p b h hi lp)
 
 module _ (text : List ℕ) (at a p : ℕ) {q s : ℕ} {b b1 b2 : List ℕ} (x : Sym) (first : note (drop at text) ≡ some (x, drop a text)) (lo : at < a) (w : Laid b b1 s q (encodeSym x)) where
-  pub notes-broken : p ≤ limit → s ≡ min (p + 2) limit → MarksAt text a 15 b1 b2 q 0 Broken → Counted encodeNotes length text at b b2 p 0 (notes 16 (drop at text)) Broken
-  notes-broken lp m k = let g = k .told in (notes-more 15 (drop at text) (drop a text) x none first (g .0), kept-before (omega arith) (laid-then-kept (omega arith) w (g .1)))
+  pub notes-broken : p ≤ s → s ≤ limit → MarksAt text a 15 b1 b2 q 0 Broken → Counted encodeNotes length text at b b2 p 0 (notes 16 (drop at text)) Broken
+  notes-broken u l k = let g = k .told in (notes-more 15 (drop at text) (drop a text) x none first (g .0), kept-before (omega arith) (laid-then-kept l w (g .1)))
 
   pub notes-some : {b3 : List ℕ} {z e c y : ℕ} → s ≡ min (p + 2) limit → MarksAt text a 15 b1 b2 q 0 (Whole z e c) → Wrote b2 b3 p y (13 ∷ (c + 1) ∷ []) → Counted encodeNotes length text at b b3 p 0 (notes 16 (drop at text)) (Whole z e (c + 1))
   unfolding encodeNotes encodeSyms

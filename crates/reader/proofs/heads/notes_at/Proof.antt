@@ -45,7 +45,7 @@ returns-2 : tie.Need-returns-2
 returns-2 c =
     let x = c .before .before .before .before .before .before .before .before .before .before .before .before .before .before .before .before .args in
     let v = rw (c .before .before .before .before .before .before .before .a .given .1) at (c .before .before .before .before .before .before .before .before .before .before .before .note-at .ensures) in
-    notes-broken (x .text .now) (x .at) _ (x .pos) (v .0) (v .1) (v .2) (v .4) (c .before .before .before .before .before .before .before .before .before .before .before .before .before .before .before .before .pre .1) (c .before .before .before .before .before .before .before .before .before .before .before .before .before .ahead .ensures) (rw (c .enum-told2 .given .1) at (c .before .before .before .before .marks-at .ensures))
+    notes-broken (x .text .now) (x .at) _ (x .pos) (v .0) (v .1) (v .2) (v .4) (omega (arith, c .before .before .before .before .before .before .before .before .before .before .before .before .before .before .before .before .pre .1, c .before .before .before .before .before .before .before .before .before .before .before .before .before .ahead .ensures)) (omega (arith, c .before .before .before .before .before .before .before .before .before .before .before .before .before .ahead .ensures)) (rw (c .enum-told2 .given .1) at (c .before .before .before .before .marks-at .ensures))
 
 cast-put2 : tie.Need-cast-put2
 cast-put2 c =

@@ -250,7 +250,7 @@ value-returns-4 : (t : ℕ) → value-lts.Need-returns-4 (value-calls t) (value-
 value-returns-4 t c =
     let h = rw (c .before .before .before .before .before .before .before .before .before .before .before .before .before .a .given .1) at (c .before .before .before .before .before .before .before .before .before .before .before .before .before .before .before .before .before .head-at .ensures) in
     let o = rw (c .before .before .before .before .before .before .before .before .before .inner .given .1) at (c .before .before .before .before .before .before .before .before .before .before .before .opener-at .ensures) in
-    value-at-head _ (c .before .before .before .before .before .before .before .before .before .before .before .before .before .before .before .before .before .before .before .before .before .pre .1 .1) h refl (body-at-broken (h .4) o (c .before .before .before .before .before .before .before .if1 .left) (laid-bound (h .5)) (c .before .before .before .before .before .before .ahead .ensures) (rw (c .enum-told3 .given .1) at (c .before .before .before .before .sequence .ensures)))
+    value-at-head _ (c .before .before .before .before .before .before .before .before .before .before .before .before .before .before .before .before .before .before .before .before .before .pre .1 .1) h refl (body-at-broken (h .4) o (c .before .before .before .before .before .before .before .if1 .left) (omega (arith, laid-bound (h .5), c .before .before .before .before .before .before .ahead .ensures)) (rw (c .enum-told3 .given .1) at (c .before .before .before .before .sequence .ensures)))
 
 value-tag-of-requires : (t : ℕ) → value-lts.Need-tag-of-requires (value-calls t) (value-at t) value.Post
 value-tag-of-requires t c κs = search needs
