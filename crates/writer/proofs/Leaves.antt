@@ -76,7 +76,7 @@ module _ (s : List ℕ) (at e : ℕ) (w : at ≤ e) (i : e ≤ length s) (z : 0 
       go (yes h) = h
       go (no h) = absurd (there (f (omega arith)))
 
-  pub leaf-place : at < e
+  leaf-place : at < e
   leaf-place = let n = part-length s at e i in let h = long 1 (λ h. scalar-empty l (omega arith)) in omega arith
 
   first-byte : kind l ≡ getD s at 0

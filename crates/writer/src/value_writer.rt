@@ -34,7 +34,8 @@ pub struct Step {
 
 // ---- scalars
 
-// The symbol, string or clob of n bytes whose node stands at a place: its bytes start 5 behind the kind byte.
+// The symbol, string or clob of n bytes whose node stands at a place: its bytes start 5 behind the kind byte. `format_symbol_at` has two callers,
+// here and in `write_notes`, so that it is not built into the walk.
 fn write_symbol_text(
     buf: &mut [u8],
     pos: usize,
@@ -73,21 +74,37 @@ fn write_clob(buf: &mut [u8], pos: usize, tape: &[u8], at: usize, n: usize, end:
     text_rules::clobs::format_clob(buf, pos, &tape[from..to])
 }
 
-// The scalar s, whose node stands at a place: a null, a bool, a float, an identifier or a clob. `write_leaf` has written the other kinds itself.
-fn write_scalar(buf: &mut [u8], pos: usize, tape: &[u8], at: usize, end: usize, s: Scalar) -> usize
+// The scalar s, whose node stands at a place: a null, a bool, a float, an identifier or a clob. `write_leaf` writes the other kinds itself.
+fn write_scalar(buf: &mut [u8], pos: usize, tape: &[u8], at: usize, end: usize, s: Scalar) -> Step
     requires { ⌜ pos ≤ limit ⌝ }
     requires { ⌜ at + sizeOf s ≤ end ⌝ }
     requires { ⌜ end ≤ length (now tape) ⌝ }
     requires { ⌜ Rare s ⌝ }
-    ensures { λ r. ⌜ Wrote (now (buf .entry)) (now (buf .exit)) pos r (scalarText (meantScalar s (part (now (tape .entry)) at end))) ⌝ }
+    ensures text { λ r. ⌜ Wrote (now (buf .entry)) (now (buf .exit)) pos (r .pos) (scalarText (meantScalar s (part (now (tape .entry)) at end))) ⌝ }
+    ensures place { λ r. ⌜ r .at ≡ at + sizeOf s ⌝ }
 {
     match s {
-        Scalar::Null(t) => text_formatter::format_null(buf, pos, t),
-        Scalar::Bool(b) => text_formatter::format_bool(buf, pos, b),
-        Scalar::Float(x) => text_formatter::format_float(buf, pos, x),
-        Scalar::Id(i) => text_formatter::format_symbol_id(buf, pos, i),
-        Scalar::Clob(n) => write_clob(buf, pos, tape, at, n, end),
-        _ => pos,
+        Scalar::Null(t) => Step {
+            pos: text_formatter::format_null(buf, pos, t),
+            at: at + 2,
+        },
+        Scalar::Bool(b) => Step {
+            pos: text_formatter::format_bool(buf, pos, b),
+            at: at + 2,
+        },
+        Scalar::Float(x) => Step {
+            pos: text_formatter::format_float(buf, pos, x),
+            at: at + 9,
+        },
+        Scalar::Id(i) => Step {
+            pos: text_formatter::format_symbol_id(buf, pos, i),
+            at: at + 5,
+        },
+        Scalar::Clob(n) => Step {
+            pos: write_clob(buf, pos, tape, at, n, end),
+            at: at + (5 + n),
+        },
+        _ => Step { pos, at },
     }
 }
 
@@ -220,7 +237,7 @@ fn write_notes(
                 return p;
             }
             Symbol::Text(n) => {
-                p = write_symbol_text(buf, p, tape, from, n, end);
+                p = text_formatter::format_symbol_at(buf, p, tape, from + 5, n);
                 p = write_colons(buf, p);
                 from = from + (5 + n);
             }
@@ -356,11 +373,7 @@ fn write_leaf(buf: &mut [u8], pos: usize, tape: &[u8], at: usize, end: usize) ->
     let Scanned::Is(s) = tape::scalar_at(tape, at, end) else {
         return Step { pos, at };
     };
-    let p = write_scalar(buf, pos, tape, at, end, s);
-    Step {
-        pos: p,
-        at: at + tape::size_of(s),
-    }
+    write_scalar(buf, pos, tape, at, end, s)
 }
 
 // The version marker. A literal is stored where its function starts, so it stays out of the walk.

@@ -1,7 +1,6 @@
 -- `value_writer::write_leaf` meets its contract. Assumes nothing.
-use mathlib.Core.Path.{refl, sym, ap}
+use mathlib.Core.Path.{sym, ap}
 use native.Mathlib.Omega.{arith}
-use Prim.Native.Nat.{ℕ, _+_}
 use denote.Ref.{now}
 use mir.Syntax.{w32, w64}
 use mir.Val.{SFits}
@@ -15,19 +14,14 @@ use Rattle.tape.specs.Fine.{Bytes}
 use Rattle.tape.proofs.Reading.{scalar-sound}
 use Rattle.tape.proofs.CodeReading.{place-within}
 use Rattle.writer.specs.Text.{scalarText}
-use Rattle.writer.proofs.Leaves.{leaf-place, int-leaf, decimal-leaf, timestamp-leaf, string-leaf, rare-leaf}
+use Rattle.writer.proofs.Leaves.{int-leaf, decimal-leaf, timestamp-leaf, string-leaf, rare-leaf}
 use Rattle.tape.proofs.Parts.{trailed}
 use borrow.Author.Needs.{needs}
 use Rattle.writer.proofs.value_writer.write_leaf.Statement.{statement}
 use Rattle.writer.proofs.value_writer.write_leaf.Tie as tie
 
 shared-slice-read-k : tie.Need-shared-slice-read-k
-shared-slice-read-k c =
-    let s = c .before .before .before in
-    let a = s .args in
-    let r = leaf-place (now (a .tape)) (a .at) (a .end) (s .pre .1 .0) (trailed (s .pre .1 .1 .0)) (s .pre .1 .1 .1) in
-    let k = s .pre .1 .1 .0 in
-    omega arith
+shared-slice-read-k c = search needs
 
 int-of-requires : tie.Need-int-of-requires
 int-of-requires c κs =
@@ -40,8 +34,8 @@ int-of-requires c κs =
 format-integer-requires : tie.Need-format-integer-requires
 format-integer-requires c κs = search needs
 
-add-t22 : tie.Need-add-t22
-add-t22 c = search needs
+add-t21 : tie.Need-add-t21
+add-t21 c = search needs
 
 same-length : tie.Need-same-length
 same-length c = search needs
@@ -76,18 +70,13 @@ add-format-text : tie.Need-add-format-text
 add-format-text c = search needs
 
 shared-slice-read-format-text : tie.Need-shared-slice-read-format-text
-shared-slice-read-format-text c =
-    let s = c .before .before .before .before .before .before .before .before .before in
-    let a = s .args in
-    let r = decimal-leaf (now (a .tape)) (a .at) (a .end) (s .pre .1 .0) (trailed (s .pre .1 .1 .0)) (s .pre .1 .1 .1) (c .before .before .before .before .if2 .taken) .room in
-    let k = s .pre .1 .1 .0 in
-    omega arith
+shared-slice-read-format-text c = search needs
 
 format-text-requires : tie.Need-format-text-requires
 format-text-requires c κs = search needs
 
-add-t25 : tie.Need-add-t25
-add-t25 c = search needs
+add-t24 : tie.Need-add-t24
+add-t24 c = search needs
 
 same-length-2 : tie.Need-same-length-2
 same-length-2 c = search needs
@@ -113,8 +102,8 @@ timestamp-of-requires c κs =
 format-requires : tie.Need-format-requires
 format-requires c κs = search needs
 
-add-t32 : tie.Need-add-t32
-add-t32 c = search needs
+add-t31 : tie.Need-add-t31
+add-t31 c = search needs
 
 same-length-3 : tie.Need-same-length-3
 same-length-3 c = search needs
@@ -128,26 +117,19 @@ returns-3 c =
     (rw (q .read) (rw (c .before .before .before .timestamp-of .ensures) at (c .before .before .format .ensures)), rw (q .read))
 
 write-symbol-requires : tie.Need-write-symbol-requires
-write-symbol-requires c κs =
-    let s = c .before .before .before .before .before .before .before .before in
-    (s .pre .0, (s .pre .1 .0, (s .pre .1 .1 .0, (s .pre .1 .1 .1, c .before .if4 .taken))))
+write-symbol-requires c κs = search needs
 
 same-length-4 : tie.Need-same-length-4
 same-length-4 c = search needs
 
 returns-4 : tie.Need-returns-4
-returns-4 c = c .before .before .write-symbol .ensures
+returns-4 c = search needs
 
 add-u32-at : tie.Need-add-u32-at
 add-u32-at c = search needs
 
 u32-at-requires : tie.Need-u32-at-requires
-u32-at-requires c κs =
-    let s = c .before .before .before .before .before .before .before .before in
-    let a = s .args in
-    let r = string-leaf (now (a .tape)) (a .at) (a .end) (s .pre .1 .0) (trailed (s .pre .1 .1 .0)) (s .pre .1 .1 .1) _ refl (c .if5 .taken) .room in
-    let k = s .pre .1 .1 .0 in
-    omega arith
+u32-at-requires c κs = search needs
 
 write-string-requires : tie.Need-write-string-requires
 write-string-requires c κs =
@@ -156,11 +138,11 @@ write-string-requires c κs =
     let q = string-leaf (now (a .tape)) (a .at) (a .end) (s .pre .1 .0) (trailed (s .pre .1 .1 .0)) (s .pre .1 .1 .1) _ (c .before .u32-at .ensures .0) (c .before .before .if5 .taken) in
     (s .pre .0, (q .room, trailed (s .pre .1 .1 .0)))
 
-add-t36 : tie.Need-add-t36
-add-t36 c = search needs
+add-t35 : tie.Need-add-t35
+add-t35 c = search needs
 
-add-t39 : tie.Need-add-t39
-add-t39 c = search needs
+add-t38 : tie.Need-add-t38
+add-t38 c = search needs
 
 same-length-5 : tie.Need-same-length-5
 same-length-5 c = search needs
@@ -199,36 +181,13 @@ write-scalar-requires c κs =
     let rare = rare-leaf (now (a .tape)) (a .at) (a .end) (s .pre .1 .0) (trailed (s .pre .1 .1 .0)) (s .pre .1 .1 .1) all (c .before .before .s .given .0 .0) e (c .before .before .before .before .before .before .before .before .before .if1 .left) (c .before .before .before .before .before .before .before .before .if2 .left) (c .before .before .before .before .before .before .before .if3 .left) (c .before .before .before .before .before .before .if4 .left) (c .before .before .before .before .before .if5 .left) in
     (s .pre .0, (r, (trailed (s .pre .1 .1 .0), rare)))
 
-size-of-requires : tie.Need-size-of-requires
-size-of-requires c κs =
-    let s = c .before .before .before .before .before .before .before .before .before .before .before .before .before .before .before .before in
-    let a = s .args in
-    let e = sym (rw (c .before .before .before .before .before .s .given .1) at (c .before .before .before .before .before .before .before .scalar-at .ensures)) in
-    let r = place-within encodeScalar (now (a .tape)) (a .at) (a .end) _ (scalarOf (part (now (a .tape)) (a .at) (a .end))) (s .pre .1 .0) (trailed (s .pre .1 .1 .0)) (scalar-sound _) (ap (placeOf (a .at)) e) .1 in
-    let k = s .pre .1 .1 .0 in
-    let l = c .before .before .before .before .before .before .before .before .before .before .before .before .before .before .shared-slice-known .given in
-    omega arith
-
-add-t44 : tie.Need-add-t44
-add-t44 c =
-    let s = c .before .before .before .before .before .before .before .before .before .before .before .before .before .before .before .before .before in
-    let a = s .args in
-    let e = sym (rw (c .before .before .before .before .before .before .s .given .1) at (c .before .before .before .before .before .before .before .before .scalar-at .ensures)) in
-    let r = place-within encodeScalar (now (a .tape)) (a .at) (a .end) _ (scalarOf (part (now (a .tape)) (a .at) (a .end))) (s .pre .1 .0) (trailed (s .pre .1 .1 .0)) (scalar-sound _) (ap (placeOf (a .at)) e) .1 in
-    let k = s .pre .1 .1 .0 in
-    let l = c .before .before .before .before .before .before .before .before .before .before .before .before .before .before .before .shared-slice-known .given in
-    let n = c .size-of .ensures in
-    omega arith
-
 same-length-6 : tie.Need-same-length-6
 same-length-6 c = search needs
 
 returns-7 : tie.Need-returns-7
 returns-7 c =
-    let s = c .before .before .before .before .before .before .before .before .before .before .before .before .before .before .before .before .before in
-    let a = s .args in
-    let e = sym (rw (c .before .before .before .before .before .before .s .given .1) at (c .before .before .before .before .before .before .before .before .scalar-at .ensures)) in
-    (rw e (c .before .before .before .write-scalar .ensures), rw e (ap (λ (n : ℕ). a .at + n) (c .size-of .ensures)))
+    let e = sym (rw (c .before .before .before .before .before .s .given .1) at (c .before .before .before .before .before .before .before .scalar-at .ensures)) in
+    (rw e (c .before .before .write-scalar .ensures .0), rw e (c .before .before .write-scalar .ensures .1))
 
 pub write-leaf-spec : {M : Type 1} → statement M
 write-leaf-spec =
@@ -237,7 +196,7 @@ write-leaf-spec =
     shared-slice-read-k
     int-of-requires
     format-integer-requires
-    add-t22
+    add-t21
     same-length
     returns
     magnitude-of-requires
@@ -245,12 +204,12 @@ write-leaf-spec =
     add-format-text
     shared-slice-read-format-text
     format-text-requires
-    add-t25
+    add-t24
     same-length-2
     returns-2
     timestamp-of-requires
     format-requires
-    add-t32
+    add-t31
     same-length-3
     returns-3
     write-symbol-requires
@@ -259,8 +218,8 @@ write-leaf-spec =
     add-u32-at
     u32-at-requires
     write-string-requires
-    add-t36
-    add-t39
+    add-t35
+    add-t38
     same-length-5
     returns-5
     scalar-at-requires
@@ -268,7 +227,5 @@ write-leaf-spec =
     enum-told
     returns-6
     write-scalar-requires
-    size-of-requires
-    add-t44
     same-length-6
     returns-7)

@@ -1,9 +1,11 @@
 -- `value_writer::write_notes` meets its contract. The invariant: the annotations before `from` are written, those from there on are left. Assumes nothing.
+use mathlib.Core.Path.{sym}
 use native.Mathlib.Omega.{arith}
 use denote.Ref.{now}
 use Prim.Native.Nat.{_-_, _≤_}
 use Rattle.output.proofs.Laws.{wrote-none, wrote-then, wrote-length, wrote-bound}
 use Rattle.tape.specs.Bytes.{part}
+use Rattle.tape.proofs.CodeFacts.{part-text}
 use Rattle.writer.specs.Text.{symText, notesText}
 use Rattle.writer.specs.Steps.{notesIn}
 use Rattle.writer.proofs.Notes.{Noting, notes-done, note-bad, note-fits, note-written, notes-absent, notes-room, notes-start}
@@ -52,12 +54,21 @@ returns-2 c = absurd (note-bad (c .before .before .before .before .loop .inv .1)
 enum-known-s : tie.Need-enum-known-s Inv-loop μ-loop
 enum-known-s c = search needs
 
-write-symbol-text-requires : tie.Need-write-symbol-text-requires Inv-loop μ-loop
-write-symbol-text-requires c κs =
+add-format-symbol-at : tie.Need-add-format-symbol-at Inv-loop μ-loop
+add-format-symbol-at c =
     let l = c .before .before .before .before .before .before .loop .inv in
     let w = l .0 in
     let f = note-fits (l .1) (c .before .before .before .before .before .loop-test .taken) _ _ (rw (c .before .before .s .given .1) at (c .before .before .before .before .sym-at .ensures)) in
-    (wrote-bound (l .1 .progress .wrote), (omega arith, c .before .before .before .before .before .before .before .before .before .before .pre .1 .1 .0))
+    let g = c .before .before .before .before .before .before .before .before .before .before .pre .1 .1 .0 in
+    record { fits = omega arith }
+
+format-symbol-at-requires : tie.Need-format-symbol-at-requires Inv-loop μ-loop
+format-symbol-at-requires c κs =
+    let l = c .before .before .before .before .before .before .loop .inv in
+    let w = l .0 in
+    let f = note-fits (l .1) (c .before .before .before .before .before .loop-test .taken) _ _ (rw (c .before .before .s .given .1) at (c .before .before .before .before .sym-at .ensures)) in
+    let g = c .before .before .before .before .before .before .before .before .before .before .pre .1 .1 .0 in
+    (wrote-bound (l .1 .progress .wrote), omega arith)
 
 write-colons-requires : tie.Need-write-colons-requires Inv-loop μ-loop
 write-colons-requires c κs = search needs
@@ -81,10 +92,15 @@ loop-less c = let h = c .before .before .before .before .before .before .before 
 
 loop-again : tie.Need-loop-again Inv-loop μ-loop
 unfolding symText
-loop-again c = (
-  c .before .before .before .before .before .before .before .before .before .before .before .before .before .loop .inv .0,
-  note-written (c .before .before .before .before .before .before .before .before .before .before .before .before .before .loop .inv .1) (c .before .before .before .before .before .before .before .before .before .before .before .before .loop-test .taken) _ _ (rw (c .before .before .before .before .before .before .before .before .before .s .given .1) at (c .before .before .before .before .before .before .before .before .before .before .before .sym-at .ensures)) (wrote-then (c .before .before .before .before .before .before .write-symbol-text .ensures) (c .before .before .write-colons .ensures)),
-)
+loop-again c =
+    let a = c .before .before .before .before .before .before .before .before .before .before .before .before .before .before .before .before .before .args in
+    let l = c .before .before .before .before .before .before .before .before .before .before .before .before .before .loop .inv in
+    let w = l .0 in
+    let h = c .before .before .before .before .before .before .before .before .before .before .before .before .loop-test .taken in
+    let m = rw (c .before .before .before .before .before .before .before .before .before .s .given .1) at (c .before .before .before .before .before .before .before .before .before .before .before .sym-at .ensures) in
+    let f = note-fits (l .1) h _ _ m in
+    let t = part-text (now (a .tape)) (c .before .before .before .before .before .before .before .before .before .before .before .before .before .loop .from) (a .end) (c .before .before .before .before .before .before .before .before .before .s .given .0 .0) (omega arith) in
+    (w, note-written (l .1) h _ _ m (wrote-then (rw (sym t) at (c .before .before .before .before .before .before .format-symbol-at .ensures)) (c .before .before .write-colons .ensures)))
 
 enum-known-s-2 : tie.Need-enum-known-s-2 Inv-loop μ-loop
 enum-known-s-2 c = search needs
@@ -132,7 +148,8 @@ write-notes-spec =
     same-length
     returns-2
     enum-known-s
-    write-symbol-text-requires
+    add-format-symbol-at
+    format-symbol-at-requires
     write-colons-requires
     add-from-2
     add-from-3

@@ -34,11 +34,17 @@ enum-known-s c = search needs
 format-null-requires : tie.Need-format-null-requires
 format-null-requires c κs = search needs
 
+add-t16 : tie.Need-add-t16
+add-t16 c = search needs
+
 enum-known-s-2 : tie.Need-enum-known-s-2
 enum-known-s-2 c = search needs
 
 format-bool-requires : tie.Need-format-bool-requires
 format-bool-requires c κs = search needs
+
+add-t20 : tie.Need-add-t20
+add-t20 c = search needs
 
 enum-known-s-3 : tie.Need-enum-known-s-3
 enum-known-s-3 c = search needs
@@ -46,11 +52,17 @@ enum-known-s-3 c = search needs
 format-float-requires : tie.Need-format-float-requires
 format-float-requires c κs = search needs
 
+add-t24 : tie.Need-add-t24
+add-t24 c = search needs
+
 enum-known-s-4 : tie.Need-enum-known-s-4
 enum-known-s-4 c = search needs
 
 format-symbol-id-requires : tie.Need-format-symbol-id-requires
 format-symbol-id-requires c κs = search needs
+
+add-t28 : tie.Need-add-t28
+add-t28 c = search needs
 
 enum-known-s-5 : tie.Need-enum-known-s-5
 enum-known-s-5 c = search needs
@@ -61,40 +73,56 @@ write-clob-requires c κs =
     let e : sizeOf (s .args .s) ≡ 5 + c .before .before .s5 .given .0 .0 = ap sizeOf (c .before .before .s5 .given .1) in
     (s .pre .0, (omega arith, s .pre .1 .1 .0))
 
+add-t32 : tie.Need-add-t32
+add-t32 c =
+    let s = c .before .before .before .before .before .before .before .before .before in
+    let e : sizeOf (s .args .s) ≡ 5 + c .before .before .before .before .before .s5 .given .0 .0 = ap sizeOf (c .before .before .before .before .before .s5 .given .1) in
+    let h = s .pre .1 .0 in
+    let k = s .pre .1 .1 .0 in
+    record { fits = omega arith }
+
+add-t33 : tie.Need-add-t33
+add-t33 c =
+    let s = c .before .before .before .before .before .before .before .before .before in
+    let e : sizeOf (s .args .s) ≡ 5 + c .before .before .before .before .before .s5 .given .0 .0 = ap sizeOf (c .before .before .before .before .before .s5 .given .1) in
+    let h = s .pre .1 .0 in
+    let k = s .pre .1 .1 .0 in
+    record { fits = omega arith }
+
 same-length : tie.Need-same-length
 same-length c = search needs
 
 returns : tie.Need-returns
 unfolding scalarText
-returns c = rw (c .before .before .before .before .before .s .given .1) (c .before .before .format-null .ensures)
+returns c = let g = c .before .before .before .before .before .s .given .1 in (rw g (c .before .before .format-null .ensures), rw g)
 
 same-length-2 : tie.Need-same-length-2
 same-length-2 c = search needs
 
 returns-2 : tie.Need-returns-2
 unfolding scalarText
-returns-2 c = rw (c .before .before .before .before .before .s2 .given .1) (c .before .before .format-bool .ensures)
+returns-2 c = let g = c .before .before .before .before .before .s2 .given .1 in (rw g (c .before .before .format-bool .ensures), rw g)
 
 same-length-3 : tie.Need-same-length-3
 same-length-3 c = search needs
 
 returns-3 : tie.Need-returns-3
 unfolding scalarText
-returns-3 c = rw (c .before .before .before .before .before .s3 .given .1) (c .before .before .format-float .ensures)
+returns-3 c = let g = c .before .before .before .before .before .s3 .given .1 in (rw g (c .before .before .format-float .ensures), rw g)
 
 same-length-4 : tie.Need-same-length-4
 same-length-4 c = search needs
 
 returns-4 : tie.Need-returns-4
 unfolding scalarText symText
-returns-4 c = rw (c .before .before .before .before .before .s4 .given .1) (c .before .before .format-symbol-id .ensures)
+returns-4 c = let g = c .before .before .before .before .before .s4 .given .1 in (rw g (c .before .before .format-symbol-id .ensures), rw g)
 
 same-length-5 : tie.Need-same-length-5
 same-length-5 c = search needs
 
 returns-5 : tie.Need-returns-5
 unfolding scalarText
-returns-5 c = rw (c .before .before .before .before .before .s5 .given .1) (c .before .before .write-clob .ensures)
+returns-5 c = let g = c .before .before .before .before .before .s5 .given .1 in (rw g (c .before .before .write-clob .ensures), rw g)
 
 returns-6 : tie.Need-returns-6
 returns-6 c = let s = c .before .before .before in absurd (unreached (s .args .s) (s .pre .1 .1 .1) (c .match .keys6))
@@ -105,14 +133,20 @@ write-scalar-spec =
     (tie.spec
     enum-known-s
     format-null-requires
+    add-t16
     enum-known-s-2
     format-bool-requires
+    add-t20
     enum-known-s-3
     format-float-requires
+    add-t24
     enum-known-s-4
     format-symbol-id-requires
+    add-t28
     enum-known-s-5
     write-clob-requires
+    add-t32
+    add-t33
     same-length
     returns
     same-length-2
