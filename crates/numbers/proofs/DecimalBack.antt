@@ -19,7 +19,7 @@ use Rattle.text_rules.proofs.DigitLaws.{Digits, NoDigit, digits-append, digits-
 use Rattle.text_rules.proofs.WordsBack.{delimiter-part, delimiter-not}
 use Rattle.numbers.specs.Decimal.{intText, pointed, scientific, above, below, form, sign, decimalText}
 use Rattle.numbers.specs.Numeral.{Numeral, ReadNumeral, withSign, inI64, inI32, rangedInt, shifted, rangedDecimal, powerOf, behindD, behindPoint, behindWhole, unsigned, numeral}
-use Rattle.numbers.proofs.Signed.{held-fits, held-some, minus-minus, plus-minus, zero-minus, minus-zero}
+use Rattle.numbers.proofs.Signed.{i32-fits, i32-some, i64-some, minus-minus, plus-minus, zero-minus, minus-zero}
 use Rattle.numbers.proofs.NumeralLaws.{decimal-some, int-some, int-some-below}
 
 -- ---- what follows
@@ -59,7 +59,7 @@ starts-digits b (c ∷ s) r h p d = ne-eqb c b (λ (e : c ≡ b). never (sym (d 
 -- the written exponent z less n digits after the point is e
 decimal-made : (neg : Bool) (m n : ℕ) (z e : ℤ) (r : List ℕ) → m < 2 ^ 64 → z -ℤ pos n ≡ e → SFits w32 e → rangedDecimal neg m n z r ≡ some (Numeral.decimal neg m e, r)
 unfolding shifted
-decimal-made neg m n z e r h64 hz f = decimal-some neg m n z e r h64 (ap inI32 hz ∙ held-fits _ e (f .sfits))
+decimal-made neg m n z e r h64 hz f = decimal-some neg m n z e r h64 (ap inI32 hz ∙ i32-fits e f)
 
 -- the digits of a written exponent
 power-digits : (neg : Bool) (m n : ℕ) (minus : Bool) (k : ℕ) (r : List ℕ) (o : ReadNumeral) → k < 10 ^ 10 → NoDigit r → rangedDecimal neg m n (withSign minus k) r ≡ o
@@ -294,7 +294,7 @@ range-decimal neg m n z r = go (ltb m (2 ^ 64)) refl (inI32 (z -ℤ pos n)) refl
     go : (b : Bool) → ltb m (2 ^ 64) ≡ b → (o : Option ℤ) → inI32 (z -ℤ pos n) ≡ o → InRange (if b (then o (λ x. some (Numeral.decimal neg m x, r))) none)
     go false e o h = range-none
     go true e none h = range-none
-    go true e (some x) h = range-some (Numeral.decimal neg m x) r (ltb-true m (2 ^ 64) e, record { sfits = held-some _ (z -ℤ pos n) x h .1 })
+    go true e (some x) h = range-some (Numeral.decimal neg m x) r (ltb-true m (2 ^ 64) e, i32-some (z -ℤ pos n) x h)
 
 range-int : (neg : Bool) (m : ℕ) (r : List ℕ) → InRange (rangedInt neg m r)
 unfolding rangedInt
@@ -303,7 +303,7 @@ range-int neg m r = go (neg && eqb m 0) (inI64 (withSign neg m)) refl
     go : (b : Bool) (o : Option ℤ) → inI64 (withSign neg m) ≡ o → InRange (if b none (then o (λ z. some (Numeral.int z, r))))
     go true o h = range-none
     go false none h = range-none
-    go false (some z) h = range-some (Numeral.int z) r (record { sfits = held-some _ (withSign neg m) z h .1 })
+    go false (some z) h = range-some (Numeral.int z) r (i64-some (withSign neg m) z h)
 
 range-power : (neg : Bool) (m n : ℕ) (minus : Bool) (es r : List ℕ) → InRange (powerOf neg m n minus es r)
 unfolding powerOf

@@ -16,7 +16,7 @@ use Rattle.text_rules.specs.Texts.{starts}
 use Rattle.text_rules.proofs.DigitLaws.{number-more, number-small, whole-run}
 use Rattle.text_rules.proofs.Places.{byte-at}
 use Rattle.numbers.specs.Numeral.{Numeral, ReadNumeral, withSign, rangedInt, shifted, rangedDecimal, powerOf, behindD, behindPoint, behindWhole, unsigned}
-use Rattle.numbers.proofs.Signed.{held-fits, held-none}
+use Rattle.numbers.proofs.Signed.{i64-fits, i64-none}
 
 -- ---- a number that does not fit is no magnitude, and makes no decimal and no int
 
@@ -43,20 +43,20 @@ point-over neg m n t h = either (starts (byte "d") t) _ _ (d-over neg m n (drop 
 -- an int of this magnitude
 pub int-none : (m : ℕ) (t : List ℕ) → 2 ^ 63 ≤ m → rangedInt false m t ≡ none
 unfolding rangedInt
-int-none m t h = rw (held-none _ (pos m) h)
+int-none m t h = rw (i64-none (pos m) h)
 
 pub int-none-below : (m : ℕ) (t : List ℕ) → 2 ^ 63 < m → rangedInt true m t ≡ none
 unfolding rangedInt
 int-none-below zero t h = refl
-int-none-below (suc m) t h = let l : 2 ^ 63 ≤ m = omega arith in rw (ne-eqb (suc m) 0 (λ (e : suc m ≡ 0). omega arith), held-none _ (negsuc m) l)
+int-none-below (suc m) t h = rw (ne-eqb (suc m) 0 (λ (e : suc m ≡ 0). omega arith), i64-none (negsuc m) (omega arith))
 
 pub int-some : (m : ℕ) (t : List ℕ) → m < 2 ^ 63 → rangedInt false m t ≡ some (Numeral.int (pos m), t)
 unfolding rangedInt
-int-some m t h = rw (held-fits _ (pos m) h)
+int-some m t h = rw (i64-fits (pos m) (record { sfits = h }))
 
 pub int-some-below : (m : ℕ) (t : List ℕ) → m < 2 ^ 63 → rangedInt true (suc m) t ≡ some (Numeral.int (negsuc m), t)
 unfolding rangedInt
-int-some-below m t h = rw (ne-eqb (suc m) 0 (λ (e : suc m ≡ 0). omega arith), held-fits _ (negsuc m) h)
+int-some-below m t h = rw (ne-eqb (suc m) 0 (λ (e : suc m ≡ 0). omega arith), i64-fits (negsuc m) (record { sfits = h }))
 
 int-over : (neg : Bool) (m : ℕ) (t : List ℕ) → 2 ^ 64 ≤ m → rangedInt neg m t ≡ none
 int-over true m t h = int-none-below m t (omega arith)

@@ -8,13 +8,13 @@ use native.Mathlib.Omega.{arith}
 use lib.Dec.{ltb, leb·suc-suc}
 use lib.IntN.{ℤ, pos, negsuc, negℤ, _-ℤ_}
 use lib.Signed.{mag, ltZ}
-use mir.Syntax.{Width, w64}
+use mir.Syntax.{Width, w32, w64}
 use mir.Val.{SFits, hbits, toZ, ofZ}
 use mir.ValLaws.{toZ-pos, toZ-ofZ}
 use borrow.Author.Tests.{ltb-true, lt-ltb, le-ltb}
 use Rattle.output.specs.Logic.{if}
 use Rattle.text_rules.proofs.DigitLaws.{never}
-use Rattle.numbers.specs.Numeral.{held}
+use Rattle.numbers.specs.Numeral.{held, inI64, inI32}
 
 -- ---- the test `z < 0`: what z is, and how the machine reads it back from its bits
 
@@ -40,7 +40,7 @@ inverted k l =
     let i : 18446744073709551615 - (2 ^ 64 - suc k) ≡ k = omega arith in
     ap (toZ w64) i ∙ toZ-pos w64 k l
 
--- ---- a number from -(high + 1) to high: `mag` is n both for n and for -(n + 1)
+-- ---- a number that i64 or i32 holds: `mag` is n both for n and for -(n + 1)
 
 held-is : (high : ℕ) (z : ℤ) → held (suc high) high z ≡ if (ltb (mag z) (suc high)) (some z) none
 unfolding held
@@ -48,18 +48,36 @@ held-is high (pos n) = rw (leb·suc-suc n high)
 held-is high (negsuc n) = refl
 
 module _ (high : ℕ) (z : ℤ) where
-  pub held-fits : mag z < suc high → held (suc high) high z ≡ some z
+  held-fits : mag z < suc high → held (suc high) high z ≡ some z
   held-fits h = held-is high z ∙ rw (lt-ltb (mag z) (suc high) h)
 
-  pub held-none : suc high ≤ mag z → held (suc high) high z ≡ none
+  held-none : suc high ≤ mag z → held (suc high) high z ≡ none
   held-none h = held-is high z ∙ rw (le-ltb (mag z) (suc high) h)
 
-  pub held-some : (y : ℤ) → held (suc high) high z ≡ some y → (z ≡ y) × (mag y < suc high)
+  held-some : (y : ℤ) → held (suc high) high z ≡ some y → mag y < suc high
   held-some y h = go (ltb (mag z) (suc high)) refl (sym (held-is high z) ∙ h)
     where
-      go : (b : Bool) → ltb (mag z) (suc high) ≡ b → if b (some z) none ≡ some y → (z ≡ y) × (mag y < suc high)
-      go true e g = let q : z ≡ y = cc in (q, rw (sym q) (ltb-true (mag z) (suc high) e))
+      go : (b : Bool) → ltb (mag z) (suc high) ≡ b → if b (some z) none ≡ some y → mag y < suc high
+      go true e g = let q : z ≡ y = cc in rw (sym q) (ltb-true (mag z) (suc high) e)
       go false e g = let n : _≡_ {A = ℕ} 0 1 = cc in let bad : ⊥ = omega arith in absurd bad
+
+pub i64-fits : (z : ℤ) → SFits w64 z → inI64 z ≡ some z
+i64-fits z f = held-fits 9_223_372_036_854_775_807 z (f .sfits)
+
+pub i64-none : (z : ℤ) → 2 ^ 63 ≤ mag z → inI64 z ≡ none
+i64-none z h = held-none 9_223_372_036_854_775_807 z h
+
+pub i64-some : (z y : ℤ) → inI64 z ≡ some y → SFits w64 y
+i64-some z y h = record { sfits = held-some 9_223_372_036_854_775_807 z y h }
+
+pub i32-fits : (z : ℤ) → SFits w32 z → inI32 z ≡ some z
+i32-fits z f = held-fits 2_147_483_647 z (f .sfits)
+
+pub i32-none : (z : ℤ) → 2 ^ 31 ≤ mag z → inI32 z ≡ none
+i32-none z h = held-none 2_147_483_647 z h
+
+pub i32-some : (z y : ℤ) → inI32 z ≡ some y → SFits w32 y
+i32-some z y h = record { sfits = held-some 2_147_483_647 z y h }
 
 -- ---- differences
 

@@ -5,7 +5,7 @@ use native.Mathlib.Omega.{arith}
 use mir.Syntax.{w32}
 use mir.ValLaws.{toZ-ofZ}
 use Rattle.numbers.specs.Numeral.{shifted}
-use Rattle.numbers.proofs.Signed.{held-some}
+use Rattle.numbers.proofs.Signed.{i32-some}
 use Rattle.numbers.proofs.NumeralLaws.{decimal-some, decimal-none}
 use Rattle.text_rules.proofs.ReadingLaws.{refused}
 use borrow.Author.Needs.{needs}
@@ -25,8 +25,8 @@ returns : tie.Need-returns
 unfolding shifted
 returns c =
     let s = rw (c .before .x .given .1) at (c .before .before .before .exponent-of .ensures) in
-    let f = held-some _ _ _ (sym s) .1 in
-    λ t h. record { is = decimal-some _ _ _ _ _ _ (omega arith) (sym s ∙ ap some (sym (toZ-ofZ w32 _ (record { sfits = f })))); place = (omega arith, h) }
+    let f = i32-some _ _ (sym s) in
+    λ t h. record { is = decimal-some _ _ _ _ _ _ (omega arith) (sym s ∙ ap some (sym (toZ-ofZ w32 _ f))); place = (omega arith, h) }
 
 returns-2 : tie.Need-returns-2
 returns-2 c =

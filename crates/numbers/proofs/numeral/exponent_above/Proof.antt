@@ -5,7 +5,7 @@ use native.Mathlib.Omega.{arith}
 use lib.IntN.{pos}
 use mir.Syntax.{w32, w64}
 use mir.Val.{SFits}
-use Rattle.numbers.proofs.Signed.{read-back, held-fits, held-none}
+use Rattle.numbers.proofs.Signed.{read-back, i32-fits, i32-none}
 use borrow.Author.Needs.{needs}
 use Rattle.numbers.proofs.numeral.exponent_above.Statement.{statement}
 use Rattle.numbers.proofs.numeral.exponent_above.Tie as tie
@@ -24,10 +24,10 @@ returns c =
     let e = pos (c .before .before .before .args .e) in
     let f : SFits w64 e = record { sfits = omega (arith, c .before .before .if1 .taken) } in
     let g : SFits w32 e = record { sfits = c .before .before .if1 .taken } in
-    ap some (read-back w32 (c .narrow .result) e (c .narrow .ensures ∙ read-back w64 (c .before .plus .result) e (c .before .plus .ensures) f) g) ∙ sym (held-fits _ e (g .sfits))
+    ap some (read-back w32 (c .narrow .result) e (c .narrow .ensures ∙ read-back w64 (c .before .plus .result) e (c .before .plus .ensures) f) g) ∙ sym (i32-fits e g)
 
 returns-2 : tie.Need-returns-2
-returns-2 c = sym (held-none _ (pos (c .before .args .e)) (c .if1 .left))
+returns-2 c = sym (i32-none (pos (c .before .args .e)) (c .if1 .left))
 
 pub exponent-above-spec : {M : Type 1} → statement M
 exponent-above-spec = tie.close (tie.spec plus-requires narrow-requires returns returns-2)
