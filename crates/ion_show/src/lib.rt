@@ -1,4 +1,3 @@
-// What the program `ion` prints: lines that are put together in a buffer, sentences on standard error, and the nodes of a tape.
+// What the program `ion` prints: parts of lines, and the nodes of a tape.
 pub mod line;
-pub mod say;
 pub mod show;

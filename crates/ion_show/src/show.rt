@@ -1,6 +1,7 @@
 // The nodes of a tape, one a line: offset, blanks for the depth, kind and value. The same walk in silence finds the first node that is not as
 // it must be. A node's text, and whether it is good, is asked of the writer, on a tape of that node alone.
-ghost use Prim.Native.Nat.{_+_, _<_, _≤_};
+ghost use mathlib.Core.Path.{_≡_};
+ghost use Prim.Native.Nat.{_+_, _-_, _<_, _≤_};
 ghost use lib.ListN.{length};
 ghost use Rattle.output.specs.Wrote.{limit};
 use crate::line;
@@ -9,13 +10,13 @@ use tape::Place;
 use tape::Scanned;
 use tape::answer::Answer;
 
-// ---- places
-
-// Where a child's value starts, behind its head, and where it ends. Both are the same where there is no child.
-struct Span {
-    value: usize,
-    next: usize,
+// How many containers are open, and whether lines are printed.
+struct How {
+    level: usize,
+    aloud: bool,
 }
+
+// ---- places
 
 // A place, if it lies between two others; else the second.
 fn between(p: Place, at: usize, end: usize) -> usize
@@ -32,6 +33,13 @@ fn between(p: Place, at: usize, end: usize) -> usize
         return end;
     }
     q
+}
+
+fn is_container(kind: u8) -> bool {
+    if kind < 10 {
+        return false;
+    }
+    kind <= 12
 }
 
 // Where the container at a place ends; at the place itself where there is none.
@@ -84,18 +92,6 @@ fn value_end(tape: &[u8], at: usize, end: usize, free: bool) -> usize
     scalar_end(tape, at, end)
 }
 
-// A name and annotations stand before a value. A marker stands at top level, where there are no names, and has no annotations.
-fn span_at(tape: &[u8], at: usize, end: usize, frame: Frame, level: usize) -> Span
-    requires { ⌜ at ≤ end ⌝ }
-    requires { ⌜ end ≤ length (now tape) ⌝ }
-    ensures { λ r. ⌜ (at ≤ r .value) × (r .value ≤ r .next) × (r .next ≤ end) ⌝ }
-{
-    let name = name_end(tape, at, end, frame);
-    let value = between(tape::notes_end(tape, name, end), name, end);
-    let next = value_end(tape, value, end, is_bare_top(level, at, value));
-    Span { value, next }
-}
-
 // Where the name at a place ends, which is there if it has none; the end of all where it is not as it must be.
 fn name_end(tape: &[u8], at: usize, end: usize, frame: Frame) -> usize
     requires { ⌜ at ≤ end ⌝ }
@@ -113,38 +109,32 @@ fn is_bare_top(level: usize, at: usize, value: usize) -> bool {
     at == value
 }
 
-fn is_container(kind: u8) -> bool {
-    if kind < 10 {
-        return false;
-    }
-    kind <= 12
+// Where a child's value starts, behind its name and its annotations, and where it ends. Both are the same where there is no child.
+struct Span {
+    value: usize,
+    next: usize,
 }
 
-fn frame_of(kind: u8) -> Frame {
-    match kind {
-        10 => Frame::List,
-        11 => Frame::Sexp,
-        12 => Frame::Struct,
-        _ => Frame::Top,
-    }
+fn span_at(tape: &[u8], at: usize, end: usize, frame: Frame, level: usize) -> Span
+    requires { ⌜ at ≤ end ⌝ }
+    requires { ⌜ end ≤ length (now tape) ⌝ }
+    ensures { λ r. ⌜ (at ≤ r .value) × (r .value ≤ r .next) × (r .next ≤ end) ⌝ }
+{
+    let name = name_end(tape, at, end, frame);
+    let value = between(tape::notes_end(tape, name, end), name, end);
+    let next = value_end(tape, value, end, is_bare_top(level, at, value));
+    Span { value, next }
 }
 
 // ---- lines
 
-// What every line starts with. `level` containers are open.
+// What every line starts with.
 fn start(text: &mut [u8], offset: usize, level: usize) -> usize
     requires { ⌜ level ≤ 64 ⌝ }
     ensures { λ r. ⌜ r ≤ limit ⌝ }
 {
-    let p = line::add_column(text, 0, offset);
-    line::add_blanks(text, p, 2 + 2 * level)
-}
-
-fn add_u32(spare: &mut [u8], pos: usize, n: usize) -> usize
-    requires { ⌜ pos ≤ limit ⌝ }
-    ensures { λ r. ⌜ r ≤ limit ⌝ }
-{
-    output::put_le(spare, pos, n as u64, 4)
+    let p = line::put_column(text, 0, offset);
+    output::put_repeated(text, p, b' ', 2 + 2 * level)
 }
 
 // The node between two places as a tape of its own; that tape's length.
@@ -152,9 +142,9 @@ fn alone(tape: &[u8], from: usize, to: usize, spare: &mut [u8]) -> usize
     requires { ⌜ from ≤ to ⌝ }
     requires { ⌜ to ≤ length (now tape) ⌝ }
 {
-    let p = line::add(spare, 0, &tape[from..to]);
-    let q = add_u32(spare, p, to - from);
-    add_u32(spare, q, 1)
+    let p = output::put_bytes(spare, 0, &tape[from..to]);
+    let q = output::put_le(spare, p, (to - from) as u64, 4);
+    output::put_le(spare, q, 1, 4)
 }
 
 // Behind a position, the Lines text of a tape of one node, which ends in LF. Says whether the node is good and, aloud, the line is out.
@@ -177,54 +167,55 @@ fn leaf(
     tape: &[u8],
     from: usize,
     to: usize,
-    level: usize,
     kind: u8,
-    aloud: bool,
+    how: How,
     text: &mut [u8],
     spare: &mut [u8],
 ) -> bool
     requires { ⌜ from ≤ to ⌝ }
     requires { ⌜ to ≤ length (now tape) ⌝ }
-    requires { ⌜ level ≤ 64 ⌝ }
+    requires { ⌜ how .level ≤ 64 ⌝ }
 {
     let n = alone(tape, from, to, spare);
-    let p = start(text, from, level);
-    let q = line::add_kind(text, p, kind);
-    let r = line::add_blanks(text, q, 1);
+    let p = start(text, from, how.level);
+    let q = line::put_kind(text, p, kind);
+    let r = output::put(text, q, b' ');
     if spare.len() < n {
         return false;
     }
-    node_text(&spare[0..n], aloud, text, r)
+    node_text(&spare[0..n], how.aloud, text, r)
 }
 
 // The line before or behind the nodes of a container.
-fn bracket(offset: usize, level: usize, what: &[u8], kind: u8, aloud: bool, text: &mut [u8]) -> bool
-    requires { ⌜ level ≤ 64 ⌝ }
+fn bracket(offset: usize, what: &[u8], kind: u8, how: How, text: &mut [u8]) -> bool
+    requires { ⌜ how .level ≤ 64 ⌝ }
 {
-    if !aloud {
+    if !how.aloud {
         return true;
     }
-    let p = start(text, offset, level);
-    let q = line::add(text, p, what);
-    let r = line::add_kind(text, q, kind);
-    let s = line::add(text, r, b"\n");
+    let p = start(text, offset, how.level);
+    let q = output::put_bytes(text, p, what);
+    let r = line::put_kind(text, q, kind);
+    let s = output::put(text, r, b'\n');
     line::emit(text, s)
 }
 
 // ---- nodes. Each function answers where it stopped: behind the last node, or where the first one stands that is not as it must be.
 
-// The annotations between two places.
-fn annotations(
+// The symbols between two places: a name, or annotations.
+fn symbols(
     tape: &[u8],
     from: usize,
     to: usize,
-    level: usize,
-    aloud: bool,
+    kind: u8,
+    how: How,
     text: &mut [u8],
     spare: &mut [u8],
 ) -> usize
+    requires { ⌜ from ≤ to ⌝ }
     requires { ⌜ to ≤ length (now tape) ⌝ }
-    requires { ⌜ level ≤ 64 ⌝ }
+    requires { ⌜ how .level ≤ 64 ⌝ }
+    ensures { λ r. ⌜ (from ≤ r) × (r ≤ to) ⌝ }
 {
     let mut at = from;
     while at < to {
@@ -232,32 +223,12 @@ fn annotations(
         if next == at {
             return at;
         }
-        if !leaf(tape, at, next, level, line::ANNOTATION, aloud, text, spare) {
+        if !leaf(tape, at, next, kind, how, text, spare) {
             return at;
         }
         at = next;
     }
-    to
-}
-
-// The name between two places, if there is one.
-fn name(
-    tape: &[u8],
-    from: usize,
-    to: usize,
-    level: usize,
-    aloud: bool,
-    text: &mut [u8],
-    spare: &mut [u8],
-) -> bool
-    requires { ⌜ from ≤ to ⌝ }
-    requires { ⌜ to ≤ length (now tape) ⌝ }
-    requires { ⌜ level ≤ 64 ⌝ }
-{
-    if from == to {
-        return true;
-    }
-    leaf(tape, from, to, level, line::NAME, aloud, text, spare)
+    at
 }
 
 // The name and, behind a kind byte and their number, the annotations between two places.
@@ -266,105 +237,132 @@ fn head(
     from: usize,
     to: usize,
     frame: Frame,
-    level: usize,
-    aloud: bool,
+    how: How,
     text: &mut [u8],
     spare: &mut [u8],
 ) -> usize
     requires { ⌜ from ≤ to ⌝ }
     requires { ⌜ to ≤ length (now tape) ⌝ }
-    requires { ⌜ level ≤ 64 ⌝ }
+    requires { ⌜ how .level ≤ 64 ⌝ }
+    ensures { λ r. ⌜ (from ≤ r) × (r ≤ to) ⌝ }
 {
-    let next = name_end(tape, from, to, frame);
-    if !name(tape, from, next, level, aloud, text, spare) {
-        return from;
+    let name = name_end(tape, from, to, frame);
+    let n = symbols(tape, from, name, line::NAME, how, text, spare);
+    if n != name {
+        return n;
     }
-    if to - next < 2 {
+    if to - name < 2 {
         return to;
     }
-    annotations(tape, next + 2, to, level, aloud, text, spare)
+    symbols(tape, name + 2, to, line::ANNOTATION, how, text, spare)
 }
 
-// The value between two places. `level` containers are open around it.
+// One container more is open.
+fn deeper(how: How) -> How
+    requires { ⌜ how .level < 64 ⌝ }
+    ensures { λ r. ⌜ r .level ≡ how .level + 1 ⌝ }
+{
+    How {
+        level: how.level + 1,
+        aloud: how.aloud,
+    }
+}
+
+// The value between two places.
 fn value_between(
     tape: &[u8],
     from: usize,
     to: usize,
-    level: usize,
-    aloud: bool,
+    how: How,
     text: &mut [u8],
     spare: &mut [u8],
 ) -> usize
     requires { ⌜ from < to ⌝ }
     requires { ⌜ to ≤ length (now tape) ⌝ }
-    requires { ⌜ level ≤ 64 ⌝ }
+    requires { ⌜ how .level ≤ 64 ⌝ }
+    ensures { λ r. ⌜ (from ≤ r) × (r ≤ to) ⌝ }
 {
     let kind = tape[from];
     if !is_container(kind) {
-        if leaf(tape, from, to, level, kind, aloud, text, spare) {
+        if leaf(tape, from, to, kind, how, text, spare) {
             return to;
         }
         return from;
     }
-    if level == 64 {
+    if how.level == 64 {
         return from;
     }
     if to - from < 5 {
         return from;
     }
-    if !bracket(from, level, b"", kind, aloud, text) {
+    if !bracket(from, b"", kind, how, text) {
         return from;
     }
-    let stopped = nodes(
-        tape,
-        from + 5,
-        to,
-        frame_of(kind),
-        level + 1,
-        aloud,
-        text,
-        spare,
-    );
+    let inner = tape::check::frame_of(kind);
+    let stopped = nodes(tape, from + 5, to, inner, deeper(how), text, spare);
     if stopped != to {
         return stopped;
     }
-    if bracket(to, level, b"end of ", kind, aloud, text) {
+    if bracket(to, b"end of ", kind, how, text) {
         return to;
     }
     from
 }
 
-// The nodes of a body, in which `level` containers are open.
-pub fn nodes(
+// The nodes of a body.
+fn nodes(
     tape: &[u8],
     from: usize,
     end: usize,
     frame: Frame,
-    level: usize,
-    aloud: bool,
+    how: How,
     text: &mut [u8],
     spare: &mut [u8],
 ) -> usize
+    requires { ⌜ from ≤ end ⌝ }
     requires { ⌜ end ≤ length (now tape) ⌝ }
-    requires { ⌜ level ≤ 64 ⌝ }
+    requires { ⌜ how .level ≤ 64 ⌝ }
+    ensures { λ r. ⌜ (from ≤ r) × (r ≤ end) ⌝ }
 {
     let mut at = from;
     while at < end {
-        let s = span_at(tape, at, end, frame, level);
+        let s = span_at(tape, at, end, frame, how.level);
         let value = s.value;
         let next = s.next;
         if next == value {
             return at;
         }
-        let h = head(tape, at, value, frame, level, aloud, text, spare);
+        let h = head(tape, at, value, frame, how, text, spare);
         if h != value {
             return h;
         }
-        let v = value_between(tape, value, next, level, aloud, text, spare);
+        let v = value_between(tape, value, next, how, text, spare);
         if v != next {
             return v;
         }
         at = next;
     }
-    end
+    at
+}
+
+// Where the trailer of a tape starts, or 0.
+pub fn body_end(tape: &[u8]) -> usize
+    ensures { λ r. ⌜ r ≡ length (now (tape .entry)) - 8 ⌝ }
+{
+    if tape.len() < 8 { 0 } else { tape.len() - 8 }
+}
+
+// Where the walk over a tape's nodes stopped: at their end, or at the first that is not as it must be.
+pub fn walk(tape: &[u8], aloud: bool, text: &mut [u8], spare: &mut [u8]) -> usize
+    ensures { λ r. ⌜ r ≤ length (now (tape .entry)) - 8 ⌝ }
+{
+    nodes(
+        tape,
+        0,
+        body_end(tape),
+        Frame::Top,
+        How { level: 0, aloud },
+        text,
+        spare,
+    )
 }

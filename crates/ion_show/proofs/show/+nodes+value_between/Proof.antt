@@ -1,6 +1,6 @@
--- `ion_show::show::nodes` and `ion_show::show::value_between` are safe and end: a container is opened while fewer than 64 are, and a child
--- has at least one byte. Assumes nothing.
-use Prim.Native.Nat.{ℕ, _+_, _*_, _-_, _<_}
+-- `ion_show::show::nodes` and `ion_show::show::value_between` are safe, end, and stop between their two places: a container is opened while fewer
+-- than 64 are, and a child has at least one byte. Assumes nothing.
+use Prim.Native.Nat.{ℕ, _+_, _*_, _-_, _<_, _≤_}
 use mathlib.Core.Path.{_≡_}
 use lib.ListN.{length}
 use borrow.Author.Needs.{needs}
@@ -13,19 +13,20 @@ use Rattle.ion_show.proofs.show.value_between.Reads as value
 use Rattle.ion_show.proofs.show.value_between.Kinds as value-kinds
 use Rattle.ion_show.proofs.show.+nodes+value_between.Lts-value_between as value-lts
 use Rattle.ion_show.proofs.show.bracket.Reads as bracket
-use Rattle.ion_show.proofs.show.frame_of.Reads as frame-of
+use Rattle.ion_show.proofs.show.deeper.Reads as deeper
 use Rattle.ion_show.proofs.show.head.Reads as head
 use Rattle.ion_show.proofs.show.is_container.Reads as is-container
 use Rattle.ion_show.proofs.show.leaf.Reads as leaf
 use Rattle.ion_show.proofs.show.span_at.Reads as span-at
+use Rattle.tape.proofs.check.frame_of.Reads as frame-of
 use Rattle.ion_show.proofs.show.+nodes+value_between.{statement}
 use Rattle.ion_show.proofs.show.+nodes+value_between.Tie.{close}
 
 abbrev μ-nodes : Measures 3 nodes-kinds.ps ℕ
-μ-nodes κs a = 1 + 2 * (64 - a .1 .1 .1 .1 .0)
+μ-nodes κs a = 1 + 2 * (64 - a .1 .1 .1 .1 .0 .level)
 
 abbrev μ-value : Measures 3 value-kinds.ps ℕ
-μ-value κs a = 2 * (64 - a .1 .1 .1 .0)
+μ-value κs a = 2 * (64 - a .1 .1 .1 .0 .level)
 
 abbrev nodes-at : ℕ → In 3 nodes-kinds.ps
 nodes-at t = and 3 nodes-kinds.ps (is 3 nodes-kinds.ps μ-nodes t) nodes.Pre
@@ -43,13 +44,13 @@ abbrev nodes-callees : ℕ → nodes-lts.Claims
 nodes-callees t = (span-at.Asked, span-at.Learnt, head.Asked, head.Learnt, value-below t, value.Post)
 
 abbrev value-callees : ℕ → value-lts.Claims
-value-callees t = (is-container.Asked, is-container.Learnt, leaf.Asked, leaf.Learnt, bracket.Asked, bracket.Learnt, frame-of.Asked, frame-of.Learnt, nodes-below t, nodes.Post)
+value-callees t = (is-container.Asked, is-container.Learnt, leaf.Asked, leaf.Learnt, bracket.Asked, bracket.Learnt, frame-of.Asked, frame-of.Learnt, deeper.Asked, deeper.Learnt, nodes-below t, nodes.Post)
 
 abbrev Inv : nodes-lts.InvT-loop
-Inv tape from end frame level aloud text₀ spare₀ at₀ text spare at = (length text ≡ length text₀) × (length spare ≡ length spare₀)
+Inv tape from end frame how text₀ spare₀ at₀ text spare at = (from ≤ at) × (at ≤ end) × (length text ≡ length text₀) × (length spare ≡ length spare₀)
 
 abbrev μ-loop : nodes-lts.MeasureT-loop
-μ-loop tape from end frame level aloud text₀ spare₀ at₀ text spare at = end - at
+μ-loop tape from end frame how text₀ spare₀ at₀ text spare at = end - at
 
 module _ (t : ℕ) where
   nodes-loop-holds : nodes-lts.Need-loop-holds (nodes-callees t) (nodes-at t) nodes.Post Inv μ-loop
@@ -65,7 +66,7 @@ module _ (t : ℕ) where
   nodes-same-length-2 c = search needs
 
   nodes-returns : nodes-lts.Need-returns (nodes-callees t) (nodes-at t) nodes.Post Inv μ-loop
-  nodes-returns c = tt
+  nodes-returns c = search needs
 
   nodes-head-requires : nodes-lts.Need-head-requires (nodes-callees t) (nodes-at t) nodes.Post Inv μ-loop
   nodes-head-requires c κs = search needs
@@ -77,7 +78,7 @@ module _ (t : ℕ) where
   nodes-same-length-4 c = search needs
 
   nodes-returns-2 : nodes-lts.Need-returns-2 (nodes-callees t) (nodes-at t) nodes.Post Inv μ-loop
-  nodes-returns-2 c = tt
+  nodes-returns-2 c = search needs
 
   nodes-value-between-requires : nodes-lts.Need-value-between-requires (nodes-callees t) (nodes-at t) nodes.Post Inv μ-loop
   nodes-value-between-requires c κs = search needs
@@ -89,7 +90,7 @@ module _ (t : ℕ) where
   nodes-same-length-6 c = search needs
 
   nodes-returns-3 : nodes-lts.Need-returns-3 (nodes-callees t) (nodes-at t) nodes.Post Inv μ-loop
-  nodes-returns-3 c = tt
+  nodes-returns-3 c = search needs
 
   nodes-loop-less : nodes-lts.Need-loop-less (nodes-callees t) (nodes-at t) nodes.Post Inv μ-loop
   nodes-loop-less c = search needs
@@ -104,13 +105,13 @@ module _ (t : ℕ) where
   nodes-same-length-8 c = search needs
 
   nodes-returns-4 : nodes-lts.Need-returns-4 (nodes-callees t) (nodes-at t) nodes.Post Inv μ-loop
-  nodes-returns-4 c = tt
+  nodes-returns-4 c = search needs
 
   value-shared-slice-read-kind : value-lts.Need-shared-slice-read-kind (value-callees t) (value-at t) value.Post
   value-shared-slice-read-kind c = search needs
 
   value-is-container-requires : value-lts.Need-is-container-requires (value-callees t) (value-at t) value.Post
-  value-is-container-requires c κs = tt
+  value-is-container-requires c κs = search needs
 
   value-leaf-requires : value-lts.Need-leaf-requires (value-callees t) (value-at t) value.Post
   value-leaf-requires c κs = search needs
@@ -122,7 +123,7 @@ module _ (t : ℕ) where
   value-same-length-2 c = search needs
 
   value-returns : value-lts.Need-returns (value-callees t) (value-at t) value.Post
-  value-returns c = tt
+  value-returns c = search needs
 
   value-same-length-3 : value-lts.Need-same-length-3 (value-callees t) (value-at t) value.Post
   value-same-length-3 c = search needs
@@ -131,16 +132,16 @@ module _ (t : ℕ) where
   value-same-length-4 c = search needs
 
   value-returns-2 : value-lts.Need-returns-2 (value-callees t) (value-at t) value.Post
-  value-returns-2 c = tt
+  value-returns-2 c = search needs
 
   value-returns-3 : value-lts.Need-returns-3 (value-callees t) (value-at t) value.Post
-  value-returns-3 c = tt
+  value-returns-3 c = search needs
 
   value-sub-if4 : value-lts.Need-sub-if4 (value-callees t) (value-at t) value.Post
   value-sub-if4 c = search needs
 
   value-returns-4 : value-lts.Need-returns-4 (value-callees t) (value-at t) value.Post
-  value-returns-4 c = tt
+  value-returns-4 c = search needs
 
   value-slice-aggregate-bracket : value-lts.Need-slice-aggregate-bracket (value-callees t) (value-at t) value.Post
   value-slice-aggregate-bracket c = search needs
@@ -152,16 +153,16 @@ module _ (t : ℕ) where
   value-same-length-5 c = search needs
 
   value-returns-5 : value-lts.Need-returns-5 (value-callees t) (value-at t) value.Post
-  value-returns-5 c = tt
+  value-returns-5 c = search needs
+
+  value-frame-of-requires : value-lts.Need-frame-of-requires (value-callees t) (value-at t) value.Post
+  value-frame-of-requires c κs = search needs
 
   value-add-nodes : value-lts.Need-add-nodes (value-callees t) (value-at t) value.Post
   value-add-nodes c = search needs
 
-  value-frame-of-requires : value-lts.Need-frame-of-requires (value-callees t) (value-at t) value.Post
-  value-frame-of-requires c κs = tt
-
-  value-add-nodes-2 : value-lts.Need-add-nodes-2 (value-callees t) (value-at t) value.Post
-  value-add-nodes-2 c = search needs
+  value-deeper-requires : value-lts.Need-deeper-requires (value-callees t) (value-at t) value.Post
+  value-deeper-requires c κs = search needs
 
   value-nodes-requires : value-lts.Need-nodes-requires (value-callees t) (value-at t) value.Post
   value-nodes-requires c κs = search needs
@@ -173,13 +174,13 @@ module _ (t : ℕ) where
   value-same-length-7 c = search needs
 
   value-returns-6 : value-lts.Need-returns-6 (value-callees t) (value-at t) value.Post
-  value-returns-6 c = tt
+  value-returns-6 c = search needs
 
   value-slice-aggregate-bracket-2 : value-lts.Need-slice-aggregate-bracket-2 (value-callees t) (value-at t) value.Post
   value-slice-aggregate-bracket-2 c = search needs
 
   value-bracket-requires-2 : value-lts.Need-bracket-requires-2 (value-callees t) (value-at t) value.Post
-  value-bracket-requires-2 c κs = search needs
+  value-bracket-requires-2 c κs = c .before .before .before .before .before .before .before .before .before .before .before .before .before .before .before .before .before .before .before .before .before .before .before .before .before .before .before .pre .1 .1 .1
 
   value-same-length-8 : value-lts.Need-same-length-8 (value-callees t) (value-at t) value.Post
   value-same-length-8 c = search needs
@@ -188,7 +189,7 @@ module _ (t : ℕ) where
   value-same-length-9 c = search needs
 
   value-returns-7 : value-lts.Need-returns-7 (value-callees t) (value-at t) value.Post
-  value-returns-7 c = tt
+  value-returns-7 c = search needs
 
   value-same-length-10 : value-lts.Need-same-length-10 (value-callees t) (value-at t) value.Post
   value-same-length-10 c = search needs
@@ -197,7 +198,7 @@ module _ (t : ℕ) where
   value-same-length-11 c = search needs
 
   value-returns-8 : value-lts.Need-returns-8 (value-callees t) (value-at t) value.Post
-  value-returns-8 c = tt
+  value-returns-8 c = search needs
 
 pub +nodes+value-between-spec : {M : Type 1} → statement M
 +nodes+value-between-spec = close μ-nodes μ-value
@@ -237,9 +238,9 @@ pub +nodes+value-between-spec : {M : Type 1} → statement M
     (value-bracket-requires t)
     (value-same-length-5 t)
     (value-returns-5 t)
-    (value-add-nodes t)
     (value-frame-of-requires t)
-    (value-add-nodes-2 t)
+    (value-add-nodes t)
+    (value-deeper-requires t)
     (value-nodes-requires t)
     (value-same-length-6 t)
     (value-same-length-7 t)

@@ -1,16 +1,16 @@
--- `ion_show::show::annotations` is safe and ends. Assumes nothing.
-use Prim.Native.Nat.{_-_}
+-- `ion_show::show::symbols` is safe, ends, and stops between the two places. Assumes nothing.
+use Prim.Native.Nat.{_-_, _≤_}
 use mathlib.Core.Path.{_≡_}
 use lib.ListN.{length}
 use borrow.Author.Needs.{needs}
-use Rattle.ion_show.proofs.show.annotations.Statement.{statement}
-use Rattle.ion_show.proofs.show.annotations.Tie as tie
+use Rattle.ion_show.proofs.show.symbols.Statement.{statement}
+use Rattle.ion_show.proofs.show.symbols.Tie as tie
 
 abbrev Inv-loop : tie.InvT-loop
-Inv-loop tape from to level aloud text₀ spare₀ at₀ text spare at = (length text ≡ length text₀) × (length spare ≡ length spare₀)
+Inv-loop tape from to kind how text₀ spare₀ at₀ text spare at = (from ≤ at) × (at ≤ to) × (length text ≡ length text₀) × (length spare ≡ length spare₀)
 
 abbrev μ-loop : tie.MeasureT-loop
-μ-loop tape from to level aloud text₀ spare₀ at₀ text spare at = to - at
+μ-loop tape from to kind how text₀ spare₀ at₀ text spare at = to - at
 
 loop-holds : tie.Need-loop-holds Inv-loop μ-loop
 loop-holds c = search needs
@@ -54,8 +54,8 @@ same-length-6 c = search needs
 returns-3 : tie.Need-returns-3 Inv-loop μ-loop
 returns-3 c = search needs
 
-pub annotations-spec : {M : Type 1} → statement M
-annotations-spec =
+pub symbols-spec : {M : Type 1} → statement M
+symbols-spec =
     tie.close
     (tie.spec
     Inv-loop
