@@ -1,7 +1,6 @@
 // The input: a file by its name, or standard input by the name `-`.
 ghost use Prim.Native.Nat.{_≤_};
 ghost use lib.ListN.{length};
-use ion_show::say;
 use libc::STDIN_FILENO;
 
 // How many bytes of the input the buffer has, and whether these are all. Where they are not, it was said why.
@@ -15,10 +14,10 @@ fn is_at_end(fd: i32, name: &[u8], room: usize) -> bool {
     let mut more = [0u8; 1];
     let got = libc::read(fd, &mut more);
     if got < 0 {
-        say::cannot_read(name);
+        crate::cannot_read(name);
     }
     if got > 0 {
-        say::too_long(room);
+        crate::too_long(room);
     }
     got == 0
 }
@@ -31,7 +30,7 @@ fn fill(fd: i32, name: &[u8], buf: &mut [u8]) -> Input
     while count < buf.len() {
         let got = libc::read(fd, &mut buf[count..]);
         if got < 0 {
-            say::cannot_read(name);
+            crate::cannot_read(name);
             return Input {
                 count,
                 whole: false,
@@ -51,12 +50,12 @@ fn fill(fd: i32, name: &[u8], buf: &mut [u8]) -> Input
 pub fn read(name: &[u8], buf: &mut [u8]) -> Input
     ensures { λ r. ⌜ r .count ≤ length (now (buf .exit)) ⌝ }
 {
-    if check::same(name, b"-") {
+    if text_rules::words::same_word(name, b"-") {
         return fill(STDIN_FILENO, b"standard input", buf);
     }
     let fd = os::open_read(name);
     if fd < 0 {
-        say::cannot_read(name);
+        crate::cannot_read(name);
         return Input {
             count: 0,
             whole: false,

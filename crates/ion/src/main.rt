@@ -1,15 +1,349 @@
 // One program for the command line: `ion WORD [FILE]`. The word says what to do with a tape or a text, which comes from the file or from
 // standard input. What it gives goes to standard output, and a sentence for each refusal to standard error. The kit has no exit status: the
 // script `ion` of the repository makes it from these sentences.
-mod commands;
 mod input;
-mod split;
 mod words;
 
 ghost use mathlib.Core.Path.{_≡_};
+ghost use Prim.Native.Nat.{_+_, _<_, _≤_};
 ghost use lib.ListN.{length};
-use ion_show::say;
+use ion_show::line;
+use ion_show::show;
+use libc::STDERR_FILENO;
+use line_reader::Called;
+use tape::answer::Answer;
 use words::Word;
+
+// ---- sentences on standard error. The script `ion` tells the exit status by how they start
+
+fn say(s: &[u8]) {
+    io::write_all(STDERR_FILENO, s);
+}
+
+fn say_number(s: &[u8], n: u64) {
+    say(s);
+    io::print_decimal(STDERR_FILENO, n);
+}
+
+// What errno says of a file or of standard input.
+fn cannot_read(name: &[u8]) {
+    say(b"ion: cannot read ");
+    os::fail(name);
+}
+
+fn too_long(room: usize) {
+    say_number(b"ion: the input is longer than ", room as u64);
+    say(b" bytes, which is all there is room for\n");
+}
+
+fn tape_reason(number: u8) {
+    match number {
+        1 => say(
+            b"the tape has under 8 or over 1,048,576 bytes, or its trailer does not tell its length\n",
+        ),
+        2 => say(
+            b"a node is outside the layout of tapes, or the number of top-level nodes is wrong\n",
+        ),
+        3 => say(b"a container is opened while 64 are open\n"),
+        4 => say(b"a float is finite and not zero\n"),
+        _ => say(
+            b"compact, lines and pretty take no annotations; tree takes one value, no marker and no identifier but $0\n",
+        ),
+    }
+}
+
+fn text_reason(number: u8) {
+    match number {
+        6 => say(b"the text is longer than 4,200,000 bytes\n"),
+        7 => say(b"there is no such layout\n"),
+        8 => say(b"the text is outside the grammar (split shows it line by line)\n"),
+        9 => say(b"the tape is longer than 1,048,576 bytes\n"),
+        _ => say(b"the offset is past the text\n"),
+    }
+}
+
+fn because(number: u8) {
+    say(b": ");
+    if number < 6 {
+        tape_reason(number);
+    } else {
+        text_reason(number);
+    }
+}
+
+// A refusal of document 01's table.
+fn refusal(number: u8) {
+    say_number(b"ion: refusal ", number as u64);
+    because(number);
+}
+
+// A refusal whose cause stands at an offset.
+fn refusal_at(number: u8, offset: usize) {
+    say_number(b"ion: refusal ", number as u64);
+    say_number(b" at offset ", offset as u64);
+    because(number);
+}
+
+// How many lines of a text were refused.
+fn refused_lines(refused: usize, lines: usize) {
+    say_number(b"ion: refused lines: ", refused as u64);
+    say_number(b" of ", lines as u64);
+    say(b"\n");
+}
+
+// What the words do.
+fn help(fd: i32) {
+    let whole = io::write_all(
+        fd,
+        b"use: ion WORD [FILE]
+From a tape, of at most 1,048,576 bytes:
+  compact  its Ion text, values parted by blanks
+  lines    its Ion text, one value a line
+  pretty   its Ion text, indented
+  tree     the text of its one value, annotations included
+  check    whether it is a good tape
+  show     its nodes, one a line: offset, kind and value
+From an Ion text, of at most 4,200,000 bytes:
+  read     its tape
+  split    its lines: number, offset, length, and what each is
+No FILE, or -: standard input. What is refused is said on standard error.
+",
+    );
+    if !whole {
+        os::fail(b"ion: cannot write to standard output");
+    }
+}
+
+// A sentence on how the program was called, and what the words do.
+fn wrong_use(why: &[u8]) {
+    say(b"ion: wrong use: ");
+    say(why);
+    say(b"\n");
+    help(libc::STDERR_FILENO);
+}
+
+// ---- tapes
+
+// A refusal of a tape; 2, 3 and 4 with the offset of what is wrong, which is the trailer's where all nodes are good.
+fn refuse(number: u8, tape: &[u8], text: &mut [u8], spare: &mut [u8]) {
+    if number < 2 {
+        refusal(number);
+        return;
+    }
+    if 4 < number {
+        refusal(number);
+        return;
+    }
+    refusal_at(number, show::walk(tape, false, text, spare));
+}
+
+// A text in a layout, or the tree text.
+fn write(word: Word, tape: &[u8], text: &mut [u8]) -> Answer {
+    match word {
+        Word::Compact => writer::writer::write_stream(0, tape, text),
+        Word::Lines => writer::writer::write_stream(1, tape, text),
+        Word::Pretty => writer::writer::write_stream(2, tape, text),
+        _ => tree::write_tree(tape, text),
+    }
+}
+
+// A text to standard output, or why there is none.
+fn give_text(word: Word, tape: &[u8], text: &mut [u8], spare: &mut [u8]) {
+    let a = write(word, tape, text);
+    let Answer::Count(n) = a else {
+        refuse(tape::answer::number(a), tape, text, spare);
+        return;
+    };
+    line::emit(text, n);
+}
+
+fn praise(length: usize, count: usize, text: &mut [u8]) {
+    let p = output::put_bytes(text, 0, b"good tape: bytes ");
+    let q = text_rules::digits::put_digits(text, p, length as u64);
+    let r = output::put_bytes(text, q, b", top-level nodes ");
+    let s = text_rules::digits::put_digits(text, r, count as u64);
+    let e = output::put(text, s, b'\n');
+    line::emit(text, e);
+}
+
+// Whether a tape is good; before that, where `aloud` asks for them, its nodes up to the first that is not.
+fn check(tape: &[u8], aloud: bool, text: &mut [u8], spare: &mut [u8]) {
+    let c = tape::check::check_tape(tape);
+    if c.fault == 1 {
+        refusal(1);
+        return;
+    }
+    let stopped = show::walk(tape, aloud, text, spare);
+    if c.fault != 0 {
+        refuse(c.fault, tape, text, spare);
+        return;
+    }
+    if stopped == show::body_end(tape) {
+        praise(tape.len(), c.count, text);
+    }
+}
+
+fn with_tape(word: Word, tape: &[u8], text: &mut [u8], spare: &mut [u8]) {
+    match word {
+        Word::Check => check(tape, false, text, spare),
+        Word::Show => check(tape, true, text, spare),
+        _ => give_text(word, tape, text, spare),
+    }
+}
+
+// ---- texts
+
+fn give_tape(text: &[u8], tape: &mut [u8]) {
+    let a = reader::read_text(text, tape);
+    let Answer::Count(n) = a else {
+        refusal(tape::answer::number(a));
+        return;
+    };
+    line::emit(tape, n);
+}
+
+// ---- a text line by line: what each line is, or which refusal it got, so that a damaged list can be looked at
+
+// Behind a position, the tree text of a tape, or the line itself where it has none. Says whether it is out.
+fn value_out(tape: &[u8], own: &[u8], spare: &mut [u8], pos: usize) -> bool {
+    if spare.len() < pos {
+        return false;
+    }
+    let a = tree::write_tree(tape, &mut spare[pos..]);
+    let Answer::Count(n) = a else {
+        if line::emit(spare, pos) {
+            return line::emit(own, own.len());
+        }
+        return false;
+    };
+    if line::emit(spare, output::ahead(pos, n)) {
+        return line::emit(b"\n", 1);
+    }
+    false
+}
+
+// A line that is a value, whose tape was read: its kind and its text.
+fn value_line(own: &[u8], tape: &[u8], number: usize, offset: usize, spare: &mut [u8]) -> bool {
+    if tape.len() == 0 {
+        return false;
+    }
+    let p = line::put_place(spare, number, offset, own.len());
+    let q = line::put_kind(spare, p, tape[0]);
+    let r = output::put(spare, q, b' ');
+    value_out(tape, own, spare, r)
+}
+
+// A line that was refused, and its bytes.
+fn refused_line(own: &[u8], refusal: u8, number: usize, offset: usize, spare: &mut [u8]) -> bool {
+    let p = line::put_place(spare, number, offset, own.len());
+    let q = output::put_bytes(spare, p, b"refusal ");
+    let r = text_rules::digits::put_digits(spare, q, refusal as u64);
+    let s = output::put(spare, r, b' ');
+    let t = line::put_clipped(spare, s, own);
+    let e = output::put(spare, t, b'\n');
+    line::emit(spare, e)
+}
+
+fn is_too_long(a: Answer) -> bool {
+    match a {
+        Answer::TapeTooLong => true,
+        _ => false,
+    }
+}
+
+// The answer of the line at an offset. A refusal zeroes the buffer, so the line is read into no room first, which 8 does not depend on; only
+// the tape of a value needs the buffer.
+fn call(text: &[u8], at: usize, tape: &mut [u8]) -> Called {
+    let c = line_reader::call_at(text, at, &mut tape[0..0]);
+    let a = c.answer;
+    if is_too_long(a) {
+        return line_reader::call_at(text, at, tape);
+    }
+    c
+}
+
+// What a line is.
+fn line_out(
+    own: &[u8],
+    a: Answer,
+    number: usize,
+    offset: usize,
+    tape: &[u8],
+    spare: &mut [u8],
+) -> bool {
+    let Answer::Count(n) = a else {
+        return refused_line(own, tape::answer::number(a), number, offset, spare);
+    };
+    if tape.len() < n {
+        return false;
+    }
+    value_line(own, &tape[0..n], number, offset, spare)
+}
+
+// The next offset: a call goes on by at least one byte and stays in the text.
+fn later(next: usize, at: usize, end: usize) -> usize
+    requires { ⌜ at < end ⌝ }
+    ensures { λ r. ⌜ (at < r) × (r ≤ end) ⌝ }
+{
+    if next <= at {
+        return end;
+    }
+    if end < next {
+        return end;
+    }
+    next
+}
+
+// One more, where a line was refused.
+fn counting(refused: usize, a: Answer) -> usize
+    requires { ⌜ refused < 18446744073709551615 ⌝ }
+    ensures { λ r. ⌜ r ≤ refused + 1 ⌝ }
+{
+    match a {
+        Answer::Count(_) => refused,
+        _ => refused + 1,
+    }
+}
+
+fn end_mark(number: usize, offset: usize, spare: &mut [u8]) {
+    let p = line::put_place(spare, number, offset, 0);
+    let e = output::put_bytes(spare, p, b"end mark\n");
+    line::emit(spare, e);
+}
+
+// The lines of a text and the end mark, and on standard error how many were refused.
+fn split(text: &[u8], tape: &mut [u8], spare: &mut [u8]) {
+    if !line::emit(b"   line  offset  length\n", 24) {
+        return;
+    }
+    let mut at: usize = 0;
+    let mut number: usize = 0;
+    let mut refused: usize = 0;
+    while at < text.len() {
+        let c = call(text, at, tape);
+        let next = later(c.at, at, text.len());
+        let a = c.answer;
+        if !line_out(&text[at..next], a, number + 1, at, tape, spare) {
+            return;
+        }
+        refused = counting(refused, a);
+        number += 1;
+        at = next;
+    }
+    end_mark(number + 1, at, spare);
+    if 0 < refused {
+        refused_lines(refused, number);
+    }
+}
+
+fn with_text(word: Word, text: &[u8], tape: &mut [u8], spare: &mut [u8]) {
+    match word {
+        Word::Read => give_tape(text, tape),
+        _ => split(text, tape, spare),
+    }
+}
+
+// ---- the command line
 
 // Room for a text. The line of a node that fills a tape fits too: at most four bytes for each of its own.
 fn text_buffer() -> [u8; 4200000]
@@ -29,7 +363,7 @@ fn on_tape(word: Word, name: &[u8], text: &mut [u8], tape: &mut [u8], spare: &mu
     let i = input::read(name, tape);
     let n = i.count;
     if i.whole {
-        commands::with_tape(word, &tape[0..n], text, spare);
+        with_tape(word, &tape[0..n], text, spare);
     }
 }
 
@@ -37,28 +371,35 @@ fn on_text(word: Word, name: &[u8], text: &mut [u8], tape: &mut [u8], spare: &mu
     let i = input::read(name, text);
     let n = i.count;
     if i.whole {
-        commands::with_text(word, &text[0..n], tape, spare);
+        with_text(word, &text[0..n], tape, spare);
     }
 }
 
 // Does what the word says, with the input of a name.
 fn obey(word: Word, name: &[u8], text: &mut [u8], tape: &mut [u8], spare: &mut [u8]) {
     match word {
-        Word::Unknown => words::wrong_use(b"no such word"),
-        Word::Help => words::help(libc::STDOUT_FILENO),
+        Word::Unknown => wrong_use(b"no such word"),
+        Word::Help => help(libc::STDOUT_FILENO),
         Word::Read => on_text(word, name, text, tape, spare),
         Word::Split => on_text(word, name, text, tape, spare),
         _ => on_tape(word, name, text, tape, spare),
     }
 }
 
+// The word that the program was started with.
+fn first() -> Word {
+    let mut s = [0u8; 16];
+    let n = os::arg(1, &mut s);
+    words::word_of(&s[..n])
+}
+
 fn run(text: &mut [u8], tape: &mut [u8], spare: &mut [u8]) {
     let count = os::arg_count();
     if 3 < count {
-        words::wrong_use(b"more than a word and a file");
+        wrong_use(b"more than a word and a file");
         return;
     }
-    let word = words::first();
+    let word = first();
     if count < 3 {
         obey(word, b"-", text, tape, spare);
         return;
@@ -66,7 +407,7 @@ fn run(text: &mut [u8], tape: &mut [u8], spare: &mut [u8]) {
     let mut name = io::buffer();
     let n = os::arg(2, &mut name);
     if os::errno() != 0 {
-        say::cannot_read(b"the file");
+        cannot_read(b"the file");
         return;
     }
     obey(word, &name[..n], text, tape, spare);

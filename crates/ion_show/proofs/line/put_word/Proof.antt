@@ -1,10 +1,9 @@
 -- `ion_show::line::put_word` meets its contract. The invariant: the word that is asked for is the one so many words behind the place. Assumes nothing.
 use Prim.Native.Nat.{ℕ, suc, _-_, _≤_}
 use mathlib.Core.Path.{_≡_, refl, ap, _∙_}
-use mathlib.Core.List.{[]}
 use native.Mathlib.Omega.{arith}
 use denote.Ref.{now}
-use lib.ListN.{length, take, drop}
+use lib.ListN.{length, drop}
 use Rattle.output.proofs.Laws.{wrote-none}
 use Rattle.ion_show.specs.Lines.{nth}
 use Rattle.ion_show.proofs.NthLaws.{nth-here, nth-next, nth-past}

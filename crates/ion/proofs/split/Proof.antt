@@ -1,10 +1,10 @@
--- `ion::split::split` is safe and ends: a line has at least one byte. Assumes nothing.
+-- `ion::split` is safe and ends: a line has at least one byte. Assumes nothing.
 use Prim.Native.Nat.{_-_, _≤_}
 use mathlib.Core.Path.{_≡_}
 use lib.ListN.{length}
 use borrow.Author.Needs.{needs}
-use Rattle.ion.proofs.split.split.Statement.{statement}
-use Rattle.ion.proofs.split.split.Tie as tie
+use Rattle.ion.proofs.split.Statement.{statement}
+use Rattle.ion.proofs.split.Tie as tie
 
 abbrev Inv-loop : tie.InvT-loop
 Inv-loop text tape₀ spare₀ at₀ number₀ refused₀ tape spare at number refused = (number ≤ at) × (refused ≤ number) × (at ≤ length text) × (length tape ≡ length tape₀) × (length spare ≡ length spare₀)
