@@ -1,35 +1,26 @@
--- `texts::numbers_shown::extremes` is safe and ends. Assumes nothing.
+-- `texts::sums` is safe and ends. Assumes nothing.
 use Prim.Native.Nat.{_-_, _≤_}
 use borrow.Author.Needs.{needs}
-use Rattle.texts.proofs.numbers_shown.extremes.Statement.{statement}
-use Rattle.texts.proofs.numbers_shown.extremes.Tie as tie
+use Rattle.texts.proofs.sums.Statement.{statement}
+use Rattle.texts.proofs.sums.Tie as tie
 
 abbrev Inv-loop : tie.InvT-loop
-Inv-loop ms i₀ i = i ≤ 4
+Inv-loop m i₀ i = i ≤ 61
 
 abbrev μ-loop : tie.MeasureT-loop
-μ-loop ms i₀ i = 4 - i
+μ-loop m i₀ i = 61 - i
 
 loop-holds : tie.Need-loop-holds Inv-loop μ-loop
 loop-holds c = search needs
 
-mul-m : tie.Need-mul-m Inv-loop μ-loop
-mul-m c = search needs
-
-array-read-m : tie.Need-array-read-m Inv-loop μ-loop
-array-read-m c = search needs
+exponent-requires : tie.Need-exponent-requires Inv-loop μ-loop
+exponent-requires c κs = search needs
 
 decimal-requires : tie.Need-decimal-requires Inv-loop μ-loop
 decimal-requires c κs = search needs
 
 decimal-requires-2 : tie.Need-decimal-requires-2 Inv-loop μ-loop
 decimal-requires-2 c κs = search needs
-
-decimal-requires-3 : tie.Need-decimal-requires-3 Inv-loop μ-loop
-decimal-requires-3 c κs = search needs
-
-decimal-requires-4 : tie.Need-decimal-requires-4 Inv-loop μ-loop
-decimal-requires-4 c κs = search needs
 
 add-i : tie.Need-add-i Inv-loop μ-loop
 add-i c = search needs
@@ -43,19 +34,16 @@ loop-again c = search needs
 returns : tie.Need-returns Inv-loop μ-loop
 returns c = search needs
 
-pub extremes-spec : {M : Type 1} → statement M
-extremes-spec =
+pub sums-spec : {M : Type 1} → statement M
+sums-spec =
     tie.close
     (tie.spec
     Inv-loop
     μ-loop
     loop-holds
-    mul-m
-    array-read-m
+    exponent-requires
     decimal-requires
     decimal-requires-2
-    decimal-requires-3
-    decimal-requires-4
     add-i
     loop-less
     loop-again

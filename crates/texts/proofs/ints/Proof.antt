@@ -1,8 +1,8 @@
--- `texts::numbers_shown::ints` is safe and ends. Assumes nothing.
+-- `texts::ints` is safe and ends. Assumes nothing.
 use Prim.Native.Nat.{_-_, _≤_}
 use borrow.Author.Needs.{needs}
-use Rattle.texts.proofs.numbers_shown.ints.Statement.{statement}
-use Rattle.texts.proofs.numbers_shown.ints.Tie as tie
+use Rattle.texts.proofs.ints.Statement.{statement}
+use Rattle.texts.proofs.ints.Tie as tie
 
 abbrev Inv-loop : tie.InvT-loop
 Inv-loop zs i₀ i = i ≤ 12

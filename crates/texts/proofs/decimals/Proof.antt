@@ -1,8 +1,8 @@
--- `texts::numbers_shown::decimals` is safe and ends. Assumes nothing.
+-- `texts::decimals` is safe and ends. Assumes nothing.
 use Prim.Native.Nat.{_-_, _≤_}
 use borrow.Author.Needs.{needs}
-use Rattle.texts.proofs.numbers_shown.decimals.Statement.{statement}
-use Rattle.texts.proofs.numbers_shown.decimals.Tie as tie
+use Rattle.texts.proofs.decimals.Statement.{statement}
+use Rattle.texts.proofs.decimals.Tie as tie
 
 abbrev Inv-loop : tie.InvT-loop
 Inv-loop ms i₀ i = i ≤ 20

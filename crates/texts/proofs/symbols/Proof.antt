@@ -1,8 +1,8 @@
--- `texts::texts_shown::symbols` is safe and ends. Assumes nothing.
+-- `texts::symbols` is safe and ends. Assumes nothing.
 use Prim.Native.Nat.{_-_, _≤_}
 use borrow.Author.Needs.{needs}
-use Rattle.texts.proofs.texts_shown.symbols.Statement.{statement}
-use Rattle.texts.proofs.texts_shown.symbols.Tie as tie
+use Rattle.texts.proofs.symbols.Statement.{statement}
+use Rattle.texts.proofs.symbols.Tie as tie
 
 abbrev Inv-loop : tie.InvT-loop
 Inv-loop b₀ b = b ≤ 128

@@ -1,8 +1,8 @@
--- `texts::texts_shown::strings` is safe and ends. Assumes nothing.
+-- `texts::strings` is safe and ends. Assumes nothing.
 use Prim.Native.Nat.{_-_, _≤_}
 use borrow.Author.Needs.{needs}
-use Rattle.texts.proofs.texts_shown.strings.Statement.{statement}
-use Rattle.texts.proofs.texts_shown.strings.Tie as tie
+use Rattle.texts.proofs.strings.Statement.{statement}
+use Rattle.texts.proofs.strings.Tie as tie
 
 abbrev Inv-loop : tie.InvT-loop
 Inv-loop b₀ t4 t5 b = b ≤ 128

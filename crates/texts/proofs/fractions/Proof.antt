@@ -1,8 +1,8 @@
--- `texts::times_shown::fractions` is safe and ends. Assumes nothing.
+-- `texts::fractions` is safe and ends. Assumes nothing.
 use Prim.Native.Nat.{_-_, _≤_}
 use borrow.Author.Needs.{needs}
-use Rattle.texts.proofs.times_shown.fractions.Statement.{statement}
-use Rattle.texts.proofs.times_shown.fractions.Tie as tie
+use Rattle.texts.proofs.fractions.Statement.{statement}
+use Rattle.texts.proofs.fractions.Tie as tie
 
 abbrev Inv-loop : tie.InvT-loop
 Inv-loop top₀ digits₀ top digits = (digits ≤ 10) × (1 ≤ top) × (top ≤ 4000000000)

@@ -1,10 +1,10 @@
--- `texts::texts_shown::clobs` is safe and ends. Assumes nothing.
+-- `texts::clobs` is safe and ends. Assumes nothing.
 use mathlib.Core.Path.{_≡_}
 use Prim.Native.Nat.{_-_, _≤_}
 use lib.ListN.{length}
 use borrow.Author.Needs.{needs}
-use Rattle.texts.proofs.texts_shown.clobs.Statement.{statement}
-use Rattle.texts.proofs.texts_shown.clobs.Tie as tie
+use Rattle.texts.proofs.clobs.Statement.{statement}
+use Rattle.texts.proofs.clobs.Tie as tie
 
 abbrev Inv-loop : tie.InvT-loop
 Inv-loop all₀ i₀ t5 all i = (i ≤ 256) × (length all ≡ 256)

@@ -1,8 +1,8 @@
--- `texts::texts_shown::words` is safe and ends. Assumes nothing.
+-- `texts::words` is safe and ends. Assumes nothing.
 use Prim.Native.Nat.{_-_, _≤_}
 use borrow.Author.Needs.{needs}
-use Rattle.texts.proofs.texts_shown.words.Statement.{statement}
-use Rattle.texts.proofs.texts_shown.words.Tie as tie
+use Rattle.texts.proofs.words.Statement.{statement}
+use Rattle.texts.proofs.words.Tie as tie
 
 abbrev Inv-loop : tie.InvT-loop
 Inv-loop t₀ t = t ≤ 13

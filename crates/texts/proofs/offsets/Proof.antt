@@ -1,8 +1,8 @@
--- `texts::times_shown::offsets` is safe and ends. Assumes nothing.
+-- `texts::offsets` is safe and ends. Assumes nothing.
 use Prim.Native.Nat.{_-_, _≤_}
 use borrow.Author.Needs.{needs}
-use Rattle.texts.proofs.times_shown.offsets.Statement.{statement}
-use Rattle.texts.proofs.times_shown.offsets.Tie as tie
+use Rattle.texts.proofs.offsets.Statement.{statement}
+use Rattle.texts.proofs.offsets.Tie as tie
 
 abbrev Inv-loop : tie.InvT-loop
 Inv-loop offsets i₀ i = i ≤ 11
