@@ -27,13 +27,13 @@ use Rattle.tape.specs.Answer.{counted, ended}
 use Rattle.tape.specs.declared.Frame.the-variants.{Top}
 use Rattle.line_reader.specs.Cut.{grow, linesOf}
 use Rattle.line_reader.specs.Book.{success, endMark, lineTape, room, byBook, play}
-use Rattle.line_reader.specs.Damage.{Written, damaged}
+use Rattle.line_reader.specs.Damage.{Written, damaged, threeLines}
 use Rattle.line_reader.specs.Calls.{calls}
 use Rattle.writer.specs.Outcome.{refusal}
 use Rattle.writer.specs.Text.{symText, scalarText, nameText, separator, text, texts, streamText}
 use Rattle.text_rules.proofs.DigitLaws.{never}
 use Rattle.tape.proofs.Accepted.{tape-accepted, tape-nodes}
-use Rattle.line_reader.proofs.DamagedLines.{threeLines, two-bytes, one-byte}
+use Rattle.line_reader.proofs.DamagedLines.{two-bytes, one-byte}
 use Rattle.claims.specs.Demand3.{writtenAs}
 use Rattle.claims.specs.Examples.{intTape, xTape, x3Tape, call, tapeOver}
 use Rattle.claims.proofs.TokensRead.{bytes-none, bytes-more}

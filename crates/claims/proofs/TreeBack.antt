@@ -26,7 +26,6 @@ use Rattle.writer.specs.Text.{scalarText, nameText, notesText, opening, closing
 use Rattle.tree.specs.Text.{lead, element, elements, treeText}
 use Rattle.tree.specs.Outcome.{unsuited, refusal, written}
 use Rattle.tree.specs.Outcome as tree
-use Rattle.tree.proofs.Texts.{lead-compact}
 use Rattle.tape.proofs.FineBack.{tape-fine}
 use Rattle.tape.proofs.Accepted.{tape-accepted, tape-nodes}
 use Rattle.claims.specs.Writing.{WritesText}

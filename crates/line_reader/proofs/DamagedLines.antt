@@ -6,21 +6,17 @@ use mathlib.Core.List.{List, [], _∷_}
 use Rattle.output.specs.Logic.{ascii}
 use Rattle.line_reader.specs.Cut.{grow, linesOf, lfs, toFirst, fromLast}
 use Rattle.line_reader.specs.Book.{success, byBook}
-use Rattle.line_reader.specs.Damage.{Written, asWritten, before, between, behindRun, damaged}
+use Rattle.line_reader.specs.Damage.{asWritten, before, between, behindRun, damaged, threeLines}
 
 module _ (a b c : List ℕ) where
-  -- the lines, with any tapes
-  abbrev pub threeLines : List Written
-  threeLines = record { line = ascii "1\n"; tape = a } ∷ record { line = ascii "2\n"; tape = b } ∷ record { line = ascii "3\n"; tape = c } ∷ []
-
-  pub two-bytes : damaged threeLines (ascii "1\n") (ascii "2\n") (ascii "x") (ascii "3\n") ≡ success (ascii "1\n") a ∷ byBook (ascii "x3\n") ∷ []
+  pub two-bytes : damaged (threeLines a b c) (ascii "1\n") (ascii "2\n") (ascii "x") (ascii "3\n") ≡ success (ascii "1\n") a ∷ byBook (ascii "x3\n") ∷ []
   unfolding damaged before between behindRun asWritten linesOf grow lfs toFirst fromLast
   two-bytes = refl
 
-  pub one-byte : damaged threeLines (ascii "1\n") (ascii "2") (ascii "x") (ascii "\n3\n") ≡ success (ascii "1\n") a ∷ byBook (ascii "x\n") ∷ success (ascii "3\n") c ∷ []
+  pub one-byte : damaged (threeLines a b c) (ascii "1\n") (ascii "2") (ascii "x") (ascii "\n3\n") ≡ success (ascii "1\n") a ∷ byBook (ascii "x\n") ∷ success (ascii "3\n") c ∷ []
   unfolding damaged before between behindRun asWritten linesOf grow lfs toFirst fromLast
   one-byte = refl
 
-  pub inside-a-line : damaged threeLines (ascii "1") (ascii "\n2") (ascii "x") (ascii "\n3\n") ≡ byBook (ascii "1x\n") ∷ success (ascii "3\n") c ∷ []
+  pub inside-a-line : damaged (threeLines a b c) (ascii "1") (ascii "\n2") (ascii "x") (ascii "\n3\n") ≡ byBook (ascii "1x\n") ∷ success (ascii "3\n") c ∷ []
   unfolding damaged before between behindRun asWritten linesOf grow lfs toFirst fromLast
   inside-a-line = refl

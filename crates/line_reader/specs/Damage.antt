@@ -1,8 +1,9 @@
 -- DEMAND 3: what the calls answer on a written text of which one run of bytes is replaced. Assumes nothing: these are definitions. The grammar
 -- alone is cited, and not the writer: that the Lines text of a tape is written in this sense is a theorem (claims).
 use Prim.Native.Nat.{ℕ, suc}
-use mathlib.Core.List.{List, _++_, map, flatten}
+use mathlib.Core.List.{List, [], _∷_, _++_, map, flatten}
 use lib.ListN.{take, drop}
+use Rattle.output.specs.Logic.{ascii}
 use Rattle.line_reader.specs.Cut.{linesOf, lfs, toFirst, fromLast}
 use Rattle.line_reader.specs.Book.{Turn, success, byBook}
 
@@ -35,3 +36,7 @@ behindRun ws head run = drop (suc (lfs (head ++ run))) ws
 -- behind as written
 unfoldable pub damaged : List Written → List ℕ → List ℕ → List ℕ → List ℕ → List Turn
 damaged ws head run new tail = map asWritten (before ws head) ++ map byBook (between head new tail) ++ map asWritten (behindRun ws head run)
+
+-- the text of 01's two examples, 1 LF 2 LF 3 LF, with any tapes
+abbrev pub threeLines : List ℕ → List ℕ → List ℕ → List Written
+threeLines a b c = record { line = ascii "1\n"; tape = a } ∷ record { line = ascii "2\n"; tape = b } ∷ record { line = ascii "3\n"; tape = c } ∷ []

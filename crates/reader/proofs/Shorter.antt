@@ -1,7 +1,6 @@
 -- How much of a text is left behind a number: each takes a byte at least. Assumes nothing.
 use Prim.Native.Nat.{ℕ, zero, suc, _+_, _-_, _*_, _<_}
 use lib.IntN.{ℤ, pos}
-use mir.Syntax.{w64}
 use mathlib.Core.Path.{_≡_, refl}
 use mathlib.Core.Bool.{Bool, true, false, _&&_}
 use mathlib.Core.List.{List, [], _∷_}
@@ -12,7 +11,7 @@ use Rattle.output.specs.Logic.{if, byte}
 use Rattle.text_rules.specs.Digits.{isDigit, run, behindDigits, number, whole}
 use Rattle.text_rules.specs.Texts.{starts}
 use Rattle.tokens.proofs.Shorter.{Left, unread, fewer, left-more, left-all, left-if, left-then, left-after, behind-byte}
-use Rattle.numbers.specs.Numeral.{numeral, withSign, held, rangedInt, shifted, rangedDecimal, powerOf, behindD, behindPoint, behindWhole, unsigned}
+use Rattle.numbers.specs.Numeral.{numeral, withSign, inI64, rangedInt, shifted, rangedDecimal, powerOf, behindD, behindPoint, behindWhole, unsigned}
 use Rattle.numbers.specs.Timestamp.{wellFormed}
 use Rattle.numbers.specs.TimestampRead.{joined, fixed, startsDigit, clock, checked, minutes, offsetOf, fractionOf, secondOf, timeOf, dayOf, behindMonth, behindYear, timestamp}
 use Rattle.numbers.specs.declared.timestamp.Timestamp.{Timestamp}
@@ -103,7 +102,7 @@ timestamp-left t =
 
 int-left : (neg : Bool) (m : ℕ) (r : List ℕ) → Left (suc (length r)) (rangedInt neg m r)
 unfolding rangedInt
-int-left neg m r = left-if (neg && eqb m 0) (λ _. unread) (λ _. left-after (held w64 (withSign neg m)) _ (λ z _. left-all _ r))
+int-left neg m r = left-if (neg && eqb m 0) (λ _. unread) (λ _. left-after (inI64 (withSign neg m)) _ (λ z _. left-all _ r))
 
 decimal-left : (neg : Bool) (m n : ℕ) (e : ℤ) (r : List ℕ) → Left (suc (length r)) (rangedDecimal neg m n e r)
 unfolding rangedDecimal

@@ -1,5 +1,8 @@
 // Reading, compared with the list: each text gives its own tape or is refused, and each line of a Lines text gives the tape of its node.
 ghost use Rattle.listing.specs.Seen.{Keeps};
+ghost use mathlib.Core.List.{_++_};
+ghost use lib.ListN.{length};
+ghost use Rattle.output.specs.Wrote.{Wrote, leBytes};
 use listing::compare;
 use listing::report;
 use tape::answer::Answer;
@@ -57,49 +60,13 @@ enum Next {
     Nothing,
 }
 
-// The offset behind the node that a call laid, or another tape than was due.
-enum Node {
-    Behind(usize),
-    Other,
-}
-
-// A line's tape: the node's bytes, then a trailer with their number and 1, then the buffer as it was.
-fn is_node(out: &[u8], node: &[u8]) -> bool {
-    let n = node.len();
-    if out.len() < n {
-        return false;
-    }
-    if out.len() - n < 8 {
-        return false;
-    }
-    if !compare::holds(&out[0..n], node, 0) {
-        return false;
-    }
-    if tape::u32_at(out, n) != n as u64 {
-        return false;
-    }
-    if tape::u32_at(out, n + 4) != 1 {
-        return false;
-    }
-    compare::holds(&out[n + 8..], b"", 165)
-}
-
-// The nodes go on at an offset with the node of the tape of `n` bytes that a call laid: the offset behind it.
-fn node_at(out: &[u8], n: usize, nodes: &[u8], at: usize) -> Node {
-    if n < 8 {
-        return Node::Other;
-    }
-    if nodes.len() < at {
-        return Node::Other;
-    }
-    let size = n - 8;
-    if nodes.len() - at < size {
-        return Node::Other;
-    }
-    if !is_node(out, &nodes[at..at + size]) {
-        return Node::Other;
-    }
-    Node::Behind(at + size)
+// The tape of one node: the node's bytes, then a trailer with their number and 1.
+fn node_tape(node: &[u8], made: &mut [u8]) -> usize
+    ensures { λ r. ⌜ Wrote (now (made .entry)) (now (made .exit)) 0 r (now (node .entry) ++ leBytes 4 (length (now (node .entry))) ++ leBytes 4 1) ⌝ }
+{
+    let p = output::put_bytes(made, 0, node);
+    let q = output::put_le(made, p, node.len() as u64, 4);
+    output::put_le(made, q, 1, 4)
 }
 
 fn line_differs(a: Answer, at: usize, nodes: &[u8], out: &[u8], seen: &mut [usize; 8]) -> Next
@@ -107,6 +74,19 @@ fn line_differs(a: Answer, at: usize, nodes: &[u8], out: &[u8], seen: &mut [usiz
 {
     report::line_differs(at, nodes, a, out, seen);
     Next::Nothing
+}
+
+// A line's tape is the node's, and behind it the buffer is as it was.
+fn judge_node(a: Answer, node: &[u8], out: &[u8], seen: &mut [usize; 8])
+    ensures { λ _. ⌜ Keeps (now (seen .entry)) (now (seen .exit)) ⌝ }
+{
+    let mut made = [0u8; 16392];
+    let n = node_tape(node, &mut made);
+    if 16392 < n {
+        report::malformed(seen);
+        return;
+    }
+    compare::judge(b'1', a, 0, &made[0..n], 165, out, seen);
 }
 
 // What a call made of the line at an offset, and where it went on.
@@ -123,10 +103,18 @@ fn judge(
 {
     match a {
         Answer::Count(n) => {
-            let Node::Behind(behind) = node_at(out, n, nodes, done) else {
+            if n < 8 {
                 return line_differs(a, next, nodes, out, seen);
-            };
-            Next::Line(next, behind)
+            }
+            if nodes.len() < done {
+                return line_differs(a, next, nodes, out, seen);
+            }
+            let size = n - 8;
+            if nodes.len() - done < size {
+                return line_differs(a, next, nodes, out, seen);
+            }
+            judge_node(a, &nodes[done..done + size], out, seen);
+            Next::Line(next, done + size)
         }
         Answer::End => {
             if next != text.len() {

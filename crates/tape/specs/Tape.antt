@@ -142,11 +142,11 @@ openOf k l = if (leb (5 + lengthOf l) (length l)) (body k (lengthOf l)) absent
 
 -- free: a marker may stand here
 unfoldable pub valueOf : Bool → List ℕ → Value
-valueOf freeAt l =
+valueOf free l =
     if (eqb (kind l) 10) (openOf ListF l)
     (if (eqb (kind l) 11) (openOf Sexp l)
     (if (eqb (kind l) 12) (openOf Struct l)
-    (if (eqb (kind l) 14) (if freeAt (leaf marker 1) absent)
+    (if (eqb (kind l) 14) (if free (leaf marker 1) absent)
     (reading (scalarOf l) absent (λ s n. leaf (scalar s) n)))))
 
 -- ---- children: a head and a value

@@ -13,7 +13,7 @@ use Rattle.output.specs.Logic.{if, byte}
 use Rattle.text_rules.specs.Texts.{starts}
 use Rattle.text_rules.specs.Utf8.{leadOf, isCont, ok2, ok3, ok4, charOf, charAt, after, valid}
 use Rattle.text_rules.specs.Escapes.{letterOf, hasLetter, textEscape, textBody, letter}
-use Rattle.tokens.specs.Quoted.{quote, letterEscape, escape, isRaw, raw, character, quoted, string}
+use Rattle.tokens.specs.Quoted.{Mark, symbolMark, stringMark, quote, letterEscape, escape, isRaw, raw, character, quoted, string}
 use Rattle.text_rules.specs.Text.{stringText}
 use Rattle.text_rules.proofs.Table.{same}
 use Rattle.text_rules.proofs.Utf8Chars.{and-left, and-second, and-third}
@@ -42,20 +42,16 @@ all-piece {step} {q} {v} {t} {u} {x} {r} h e l g = record { told = go }
 
 -- ---- the two marks
 
-pub data Mark : ℕ → Type 0 where
-  single : Mark (byte "'")
-  double : Mark (byte "\"")
-
 mark-low : {q : ℕ} → Mark q → q < 0x80
-mark-low single = omega arith
-mark-low double = omega arith
+mark-low symbolMark = omega arith
+mark-low stringMark = omega arith
 
 -- ---- a character below hex 80: one test over all of them
 
 quote-ascii : {q : ℕ} → Mark q → (t : List ℕ) (c : ℕ) → c < 0x80 → quote q (textEscape c ++ t) ≡ none
 unfolding quote textEscape hasLetter letterOf
-quote-ascii single t = same (λ c. quote (byte "'") (textEscape c ++ t)) (λ c. none) 0x80 refl
-quote-ascii double t = same (λ c. quote (byte "\"") (textEscape c ++ t)) (λ c. none) 0x80 refl
+quote-ascii symbolMark t = same (λ c. quote (byte "'") (textEscape c ++ t)) (λ c. none) 0x80 refl
+quote-ascii stringMark t = same (λ c. quote (byte "\"") (textEscape c ++ t)) (λ c. none) 0x80 refl
 
 read-ascii : (t : List ℕ) (c : ℕ) → c < 0x80 → character (textEscape c ++ t) ≡ some (c ∷ [], t)
 unfolding character starts escape letterEscape letter raw isRaw charOf leadOf textEscape hasLetter letterOf
@@ -220,4 +216,4 @@ quoted-back {q} m s r e =
 
 pub string-back : (s r : List ℕ) → valid s ≡ true → string (stringText s ++ r) ≡ some (s, r)
 unfolding string stringText starts
-string-back s r e = ap (λ (t : List ℕ). quoted (byte "\"") t) (append-assoc (textBody s) (byte "\"" ∷ []) r) ∙ quoted-back double s r e
+string-back s r e = ap (λ (t : List ℕ). quoted (byte "\"") t) (append-assoc (textBody s) (byte "\"" ∷ []) r) ∙ quoted-back stringMark s r e

@@ -16,6 +16,7 @@ use Rattle.text_rules.specs.Utf8.{valid}
 use Rattle.text_rules.specs.Escapes.{textBody}
 use Rattle.text_rules.specs.Text.{marked, symbolText, symbolIdText}
 use Rattle.text_rules.specs.Text.{Sym}
+use Rattle.tokens.specs.Quoted.{symbolMark}
 use Rattle.tokens.specs.Token.{wordSymbol, bareSymbol, quotedSymbol, symbol}
 use Rattle.text_rules.specs.WordSteps.{isBare}
 use Rattle.text_rules.specs.declared.words.Kind.{Kind}
@@ -23,7 +24,7 @@ use Rattle.text_rules.specs.declared.words.Kind.the-variants.{Number, Text}
 use Rattle.text_rules.proofs.DigitLaws.{never, Digits, digits-digits, digits-some, digit-range, past-digits, number-digits, whole-digits}
 use Rattle.text_rules.proofs.WordsLaws.{kind-bare, dollar-number}
 use Rattle.text_rules.proofs.SymbolsText.{bare-is, symbol-bare, symbol-marked}
-use Rattle.tokens.proofs.QuotedBack.{quoted-back, single}
+use Rattle.tokens.proofs.QuotedBack.{quoted-back}
 use Rattle.text_rules.proofs.WordsBack.{identifier-word, Stops, stops, word-back, behind-back, behind-digits, identifier-parts, start-part, unlike}
 
 -- ---- what a bare word is read as
@@ -85,7 +86,7 @@ symbol-id-back n r h e =
 
 marked-back : (s r : List ℕ) → valid s ≡ true → symbol (marked (byte "'") s ++ r) ≡ some (Sym.text s, r)
 unfolding symbol starts quotedSymbol
-marked-back s r h = rw (append-assoc (textBody s) (byte "'" ∷ []) r, quoted-back single s r h)
+marked-back s r h = rw (append-assoc (textBody s) (byte "'" ∷ []) r, quoted-back symbolMark s r h)
 
 pub symbol-back : (s r : List ℕ) → valid s ≡ true → ended r ≡ true → symbol (symbolText s ++ r) ≡ some (Sym.text s, r)
 symbol-back s r h e = go (isBare s) refl

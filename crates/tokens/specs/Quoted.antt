@@ -15,6 +15,11 @@ unfoldable pub quote : ℕ → List ℕ → Option (List ℕ)
 quote q [] = none
 quote q (c ∷ t) = if (eqb c q) (some t) none
 
+-- the marks of quoted text: of symbols, and of strings
+pub data Mark : ℕ → Type 0 where
+  symbolMark : Mark (byte "'")
+  stringMark : Mark (byte "\"")
+
 -- `\x`, `\u`, `\U` with w hex digits naming a scalar value: its UTF-8
 unfoldable pub scalarEscape : ℕ → List ℕ → Option (List ℕ × List ℕ)
 scalarEscape w t = then (hex w 0 t) (λ v. if (isScalar (v .0)) (some (utf8 (v .0), v .1)) none)

@@ -13,15 +13,7 @@ use Rattle.writer.specs.Text.{nameText, notesText, opening, closing, separator,
 use Rattle.writer.specs.Steps.{front, ending, isNil, item, items}
 use Rattle.tree.specs.Text.{lead, element, elements, treeText}
 
--- the separators are those of Compact
-pub lead-compact : (k : Frame) → lead true k ≡ separator 0 k
-unfolding lead separator
-lead-compact Top = refl
-lead-compact ListF = refl
-lead-compact Sexp = refl
-lead-compact Struct = refl
-
--- and in a container those of the walk's layout 3
+-- in a container the separators are those of the walk's layout 3
 separator-lead : (k : Frame) → Inner k → separator 3 k ≡ lead true k
 unfolding lead separator
 separator-lead Top i = absurd i
