@@ -10,8 +10,9 @@ use tape::Place;
 use tape::Scanned;
 use tape::answer::Answer;
 
-// How many containers are open, and whether lines are printed.
+// Where nodes stand side by side: in what, and in how many containers; and whether lines are printed.
 struct How {
+    frame: Frame,
     level: usize,
     aloud: bool,
 }
@@ -43,45 +44,42 @@ fn is_container(kind: u8) -> bool {
 }
 
 // Where the container at a place ends; at the place itself where there is none.
-fn container_end(tape: &[u8], at: usize, end: usize) -> usize
-    requires { ⌜ at ≤ end ⌝ }
-    requires { ⌜ end ≤ length (now tape) ⌝ }
-    ensures { λ r. ⌜ (at ≤ r) × (r ≤ end) ⌝ }
+fn container_end(body: &[u8], at: usize) -> usize
+    requires { ⌜ at ≤ length (now body) ⌝ }
+    ensures { λ r. ⌜ (at ≤ r) × (r ≤ length (now (body .entry))) ⌝ }
 {
-    if end - at < 5 {
+    if body.len() - at < 5 {
         return at;
     }
-    let n = tape::u32_at(tape, at + 1) as usize;
-    if end - at - 5 < n {
+    let n = tape::u32_at(body, at + 1) as usize;
+    if body.len() - at - 5 < n {
         return at;
     }
     at + 5 + n
 }
 
 // The same for a scalar.
-fn scalar_end(tape: &[u8], at: usize, end: usize) -> usize
-    requires { ⌜ at ≤ end ⌝ }
-    requires { ⌜ end ≤ length (now tape) ⌝ }
-    ensures { λ r. ⌜ (at ≤ r) × (r ≤ end) ⌝ }
+fn scalar_end(body: &[u8], at: usize) -> usize
+    requires { ⌜ at ≤ length (now body) ⌝ }
+    ensures { λ r. ⌜ (at ≤ r) × (r ≤ length (now (body .entry))) ⌝ }
 {
-    let Scanned::Is(s) = tape::scalar_at(tape, at, end) else {
+    let Scanned::Is(s) = tape::scalar_at(body, at, body.len()) else {
         return at;
     };
     at + tape::size_of(s)
 }
 
-// Where the value at a place ends; at the place itself where none starts. `free`: a marker may stand there.
-fn value_end(tape: &[u8], at: usize, end: usize, free: bool) -> usize
-    requires { ⌜ at ≤ end ⌝ }
-    requires { ⌜ end ≤ length (now tape) ⌝ }
-    ensures { λ r. ⌜ (at ≤ r) × (r ≤ end) ⌝ }
+// The same for any value. `free`: a marker may stand there.
+fn value_end(body: &[u8], at: usize, free: bool) -> usize
+    requires { ⌜ at ≤ length (now body) ⌝ }
+    ensures { λ r. ⌜ (at ≤ r) × (r ≤ length (now (body .entry))) ⌝ }
 {
-    if at == end {
+    if at == body.len() {
         return at;
     }
-    let kind = tape[at];
+    let kind = body[at];
     if is_container(kind) {
-        return container_end(tape, at, end);
+        return container_end(body, at);
     }
     if kind == 14 {
         if free {
@@ -89,16 +87,15 @@ fn value_end(tape: &[u8], at: usize, end: usize, free: bool) -> usize
         }
         return at;
     }
-    scalar_end(tape, at, end)
+    scalar_end(body, at)
 }
 
 // Where the name at a place ends, which is there if it has none; the end of all where it is not as it must be.
-fn name_end(tape: &[u8], at: usize, end: usize, frame: Frame) -> usize
-    requires { ⌜ at ≤ end ⌝ }
-    requires { ⌜ end ≤ length (now tape) ⌝ }
-    ensures { λ r. ⌜ (at ≤ r) × (r ≤ end) ⌝ }
+fn name_end(body: &[u8], at: usize, frame: Frame) -> usize
+    requires { ⌜ at ≤ length (now body) ⌝ }
+    ensures { λ r. ⌜ (at ≤ r) × (r ≤ length (now (body .entry))) ⌝ }
 {
-    between(tape::name_end(tape, at, end, frame), at, end)
+    between(tape::name_end(body, at, body.len(), frame), at, body.len())
 }
 
 // Whether a child stands at top level, with nothing before its value.
@@ -115,18 +112,17 @@ struct Span {
     next: usize,
 }
 
-fn span_at(tape: &[u8], at: usize, end: usize, frame: Frame, level: usize) -> Span
-    requires { ⌜ at ≤ end ⌝ }
-    requires { ⌜ end ≤ length (now tape) ⌝ }
-    ensures { λ r. ⌜ (at ≤ r .value) × (r .value ≤ r .next) × (r .next ≤ end) ⌝ }
+fn span_at(body: &[u8], at: usize, frame: Frame, level: usize) -> Span
+    requires { ⌜ at ≤ length (now body) ⌝ }
+    ensures { λ r. ⌜ (at ≤ r .value) × (r .value ≤ r .next) × (r .next ≤ length (now (body .entry))) ⌝ }
 {
-    let name = name_end(tape, at, end, frame);
-    let value = between(tape::notes_end(tape, name, end), name, end);
-    let next = value_end(tape, value, end, is_bare_top(level, at, value));
+    let name = name_end(body, at, frame);
+    let value = between(tape::notes_end(body, name, body.len()), name, body.len());
+    let next = value_end(body, value, is_bare_top(level, at, value));
     Span { value, next }
 }
 
-// ---- lines
+// ---- lines. Nodes are given by their bytes and their offset in the tape
 
 // What every line starts with.
 fn start(text: &mut [u8], offset: usize, level: usize) -> usize
@@ -137,13 +133,10 @@ fn start(text: &mut [u8], offset: usize, level: usize) -> usize
     output::put_repeated(text, p, b' ', 2 + 2 * level)
 }
 
-// The node between two places as a tape of its own; that tape's length.
-fn alone(tape: &[u8], from: usize, to: usize, spare: &mut [u8]) -> usize
-    requires { ⌜ from ≤ to ⌝ }
-    requires { ⌜ to ≤ length (now tape) ⌝ }
-{
-    let p = output::put_bytes(spare, 0, &tape[from..to]);
-    let q = output::put_le(spare, p, (to - from) as u64, 4);
+// A node as a tape of its own; that tape's length.
+fn alone(node: &[u8], spare: &mut [u8]) -> usize {
+    let p = output::put_bytes(spare, 0, node);
+    let q = output::put_le(spare, p, node.len() as u64, 4);
     output::put_le(spare, q, 1, 4)
 }
 
@@ -162,22 +155,12 @@ fn node_text(tape: &[u8], aloud: bool, text: &mut [u8], pos: usize) -> bool {
     true
 }
 
-// The line of a node without a body, between two places.
-fn leaf(
-    tape: &[u8],
-    from: usize,
-    to: usize,
-    kind: u8,
-    how: How,
-    text: &mut [u8],
-    spare: &mut [u8],
-) -> bool
-    requires { ⌜ from ≤ to ⌝ }
-    requires { ⌜ to ≤ length (now tape) ⌝ }
+// The line of a node without a body.
+fn leaf(node: &[u8], offset: usize, kind: u8, how: How, text: &mut [u8], spare: &mut [u8]) -> bool
     requires { ⌜ how .level ≤ 64 ⌝ }
 {
-    let n = alone(tape, from, to, spare);
-    let p = start(text, from, how.level);
+    let n = alone(node, spare);
+    let p = start(text, offset, how.level);
     let q = line::put_kind(text, p, kind);
     let r = output::put(text, q, b' ');
     if spare.len() < n {
@@ -200,149 +183,124 @@ fn bracket(offset: usize, what: &[u8], kind: u8, how: How, text: &mut [u8]) -> b
     line::emit(text, s)
 }
 
-// ---- nodes. Each function answers where it stopped: behind the last node, or where the first one stands that is not as it must be.
+// ---- nodes. Each function answers the offset where it stopped: behind the last node, or of the first one that is not as it must be
 
-// The symbols between two places: a name, or annotations.
-fn symbols(
-    tape: &[u8],
-    from: usize,
-    to: usize,
-    kind: u8,
-    how: How,
-    text: &mut [u8],
-    spare: &mut [u8],
-) -> usize
-    requires { ⌜ from ≤ to ⌝ }
-    requires { ⌜ to ≤ length (now tape) ⌝ }
+// Symbols side by side: a name, or annotations.
+fn syms(part: &[u8], offset: usize, kind: u8, how: How, text: &mut [u8], spare: &mut [u8]) -> usize
+    requires { ⌜ offset + length (now part) ≤ limit ⌝ }
     requires { ⌜ how .level ≤ 64 ⌝ }
-    ensures { λ r. ⌜ (from ≤ r) × (r ≤ to) ⌝ }
+    ensures { λ r. ⌜ (offset ≤ r) × (r ≤ offset + length (now (part .entry))) ⌝ }
 {
-    let mut at = from;
-    while at < to {
-        let next = name_end(tape, at, to, Frame::Struct);
+    let mut at: usize = 0;
+    while at < part.len() {
+        let next = name_end(part, at, Frame::Struct);
         if next == at {
-            return at;
+            return offset + at;
         }
-        if !leaf(tape, at, next, kind, how, text, spare) {
-            return at;
+        if !leaf(&part[at..next], offset + at, kind, how, text, spare) {
+            return offset + at;
         }
         at = next;
     }
-    at
+    offset + at
 }
 
-// The name and, behind a kind byte and their number, the annotations between two places.
-fn head(
-    tape: &[u8],
-    from: usize,
-    to: usize,
-    frame: Frame,
-    how: How,
-    text: &mut [u8],
-    spare: &mut [u8],
-) -> usize
-    requires { ⌜ from ≤ to ⌝ }
-    requires { ⌜ to ≤ length (now tape) ⌝ }
+// What stands before a value: the name and, behind a kind byte and their number, the annotations.
+fn head(part: &[u8], offset: usize, how: How, text: &mut [u8], spare: &mut [u8]) -> usize
+    requires { ⌜ offset + length (now part) ≤ limit ⌝ }
     requires { ⌜ how .level ≤ 64 ⌝ }
-    ensures { λ r. ⌜ (from ≤ r) × (r ≤ to) ⌝ }
+    ensures { λ r. ⌜ (offset ≤ r) × (r ≤ offset + length (now (part .entry))) ⌝ }
 {
-    let name = name_end(tape, from, to, frame);
-    let n = symbols(tape, from, name, line::NAME, how, text, spare);
-    if n != name {
+    let frame = how.frame;
+    let name = name_end(part, 0, frame);
+    let n = syms(&part[0..name], offset, line::NAME, how, text, spare);
+    if n != offset + name {
         return n;
     }
-    if to - name < 2 {
-        return to;
+    if part.len() - name < 2 {
+        return offset + part.len();
     }
-    symbols(tape, name + 2, to, line::ANNOTATION, how, text, spare)
+    syms(
+        &part[name + 2..],
+        offset + name + 2,
+        line::ANNOTATION,
+        how,
+        text,
+        spare,
+    )
 }
 
-// One container more is open.
-fn deeper(how: How) -> How
+// In the container of a kind.
+fn inside(kind: u8, how: How) -> How
     requires { ⌜ how .level < 64 ⌝ }
     ensures { λ r. ⌜ r .level ≡ how .level + 1 ⌝ }
 {
+    let frame = tape::check::frame_of(kind);
     How {
+        frame,
         level: how.level + 1,
         aloud: how.aloud,
     }
 }
 
-// The value between two places.
-fn value_between(
-    tape: &[u8],
-    from: usize,
-    to: usize,
-    how: How,
-    text: &mut [u8],
-    spare: &mut [u8],
-) -> usize
-    requires { ⌜ from < to ⌝ }
-    requires { ⌜ to ≤ length (now tape) ⌝ }
+fn value(node: &[u8], offset: usize, how: How, text: &mut [u8], spare: &mut [u8]) -> usize
+    requires { ⌜ 0 < length (now node) ⌝ }
+    requires { ⌜ offset + length (now node) ≤ limit ⌝ }
     requires { ⌜ how .level ≤ 64 ⌝ }
-    ensures { λ r. ⌜ (from ≤ r) × (r ≤ to) ⌝ }
+    ensures { λ r. ⌜ (offset ≤ r) × (r ≤ offset + length (now (node .entry))) ⌝ }
 {
-    let kind = tape[from];
+    let end = offset + node.len();
+    let kind = node[0];
     if !is_container(kind) {
-        if leaf(tape, from, to, kind, how, text, spare) {
-            return to;
+        if leaf(node, offset, kind, how, text, spare) {
+            return end;
         }
-        return from;
+        return offset;
     }
     if how.level == 64 {
-        return from;
+        return offset;
     }
-    if to - from < 5 {
-        return from;
+    if node.len() < 5 {
+        return offset;
     }
-    if !bracket(from, b"", kind, how, text) {
-        return from;
+    if !bracket(offset, b"", kind, how, text) {
+        return offset;
     }
-    let inner = tape::check::frame_of(kind);
-    let stopped = nodes(tape, from + 5, to, inner, deeper(how), text, spare);
-    if stopped != to {
+    let stopped = nodes(&node[5..], offset + 5, inside(kind, how), text, spare);
+    if stopped != end {
         return stopped;
     }
-    if bracket(to, b"end of ", kind, how, text) {
-        return to;
+    if bracket(end, b"end of ", kind, how, text) {
+        return end;
     }
-    from
+    offset
 }
 
-// The nodes of a body.
-fn nodes(
-    tape: &[u8],
-    from: usize,
-    end: usize,
-    frame: Frame,
-    how: How,
-    text: &mut [u8],
-    spare: &mut [u8],
-) -> usize
-    requires { ⌜ from ≤ end ⌝ }
-    requires { ⌜ end ≤ length (now tape) ⌝ }
+fn nodes(body: &[u8], offset: usize, how: How, text: &mut [u8], spare: &mut [u8]) -> usize
+    requires { ⌜ offset + length (now body) ≤ limit ⌝ }
     requires { ⌜ how .level ≤ 64 ⌝ }
-    ensures { λ r. ⌜ (from ≤ r) × (r ≤ end) ⌝ }
+    ensures { λ r. ⌜ (offset ≤ r) × (r ≤ offset + length (now (body .entry))) ⌝ }
 {
-    let mut at = from;
-    while at < end {
-        let s = span_at(tape, at, end, frame, how.level);
-        let value = s.value;
+    let frame = how.frame;
+    let mut at: usize = 0;
+    while at < body.len() {
+        let s = span_at(body, at, frame, how.level);
+        let from = s.value;
         let next = s.next;
-        if next == value {
-            return at;
+        if next == from {
+            return offset + at;
         }
-        let h = head(tape, at, value, frame, how, text, spare);
-        if h != value {
+        let h = head(&body[at..from], offset + at, how, text, spare);
+        if h != offset + from {
             return h;
         }
-        let v = value_between(tape, value, next, how, text, spare);
-        if v != next {
+        let v = value(&body[from..next], offset + from, how, text, spare);
+        if v != offset + next {
             return v;
         }
         at = next;
     }
-    at
+    offset + at
 }
 
 // Where the trailer of a tape starts, or 0.
@@ -352,17 +310,15 @@ pub fn body_end(tape: &[u8]) -> usize
     if tape.len() < 8 { 0 } else { tape.len() - 8 }
 }
 
-// Where the walk over a tape's nodes stopped: at their end, or at the first that is not as it must be.
+// The offset where the walk over a tape's nodes stopped: their end, or the first that is not as it must be.
 pub fn walk(tape: &[u8], aloud: bool, text: &mut [u8], spare: &mut [u8]) -> usize
     ensures { λ r. ⌜ r ≤ length (now (tape .entry)) - 8 ⌝ }
 {
-    nodes(
-        tape,
-        0,
-        body_end(tape),
-        Frame::Top,
-        How { level: 0, aloud },
-        text,
-        spare,
-    )
+    let end = body_end(tape);
+    let how = How {
+        frame: Frame::Top,
+        level: 0,
+        aloud,
+    };
+    nodes(&tape[0..end], 0, how, text, spare)
 }

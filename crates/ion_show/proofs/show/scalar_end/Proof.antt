@@ -4,6 +4,7 @@ use mathlib.Core.List.{List}
 use mathlib.Core.Option.{some}
 use Prim.Native.Nat.{ℕ, _+_, _≤_}
 use lib.ListN.{length}
+use native.Mathlib.Nat.{le-refl}
 use native.Mathlib.Omega.{arith}
 use denote.Ref.{now}
 use Rattle.tape.specs.Bytes.{part}
@@ -16,8 +17,8 @@ use borrow.Author.Needs.{needs}
 use Rattle.ion_show.proofs.show.scalar_end.Statement.{statement}
 use Rattle.ion_show.proofs.show.scalar_end.Tie as tie
 
-fits : (t : List ℕ) (at end : ℕ) {s : Scalar} {n : ℕ} → at ≤ end → end ≤ length t → some (s, n) ≡ scalarOf (part t at end) → at + n ≤ end
-fits t at end h i e = place-within encodeScalar t at end _ (scalarOf (part t at end)) h i (scalar-sound _) (ap (placeOf at) (sym e)) .1
+fits : (t : List ℕ) (at : ℕ) {s : Scalar} {n : ℕ} → at ≤ length t → some (s, n) ≡ scalarOf (part t at (length t)) → at + n ≤ length t
+fits t at h e = place-within encodeScalar t at (length t) _ (scalarOf (part t at (length t))) h (le-refl _) (scalar-sound _) (ap (placeOf at) (sym e)) .1
 
 scalar-at-requires : tie.Need-scalar-at-requires
 scalar-at-requires c κs = search needs
@@ -35,7 +36,7 @@ size-of-requires : tie.Need-size-of-requires
 size-of-requires c κs =
     let e = rw (c .before .s .given .1) at (c .before .before .before .scalar-at .ensures) in
     let s = c .before .before .before .before .before in
-    let h = fits (now (s .args .tape)) (s .args .at) (s .args .end) (s .pre .0) (s .pre .1) e in
+    let h = fits (now (s .args .body)) (s .args .at) (s .pre) e in
     let l = c .before .before .before .before .shared-slice-known .given in
     omega arith
 
@@ -43,7 +44,7 @@ add-result : tie.Need-add-result
 add-result c =
     let e = rw (c .before .before .s .given .1) at (c .before .before .before .before .scalar-at .ensures) in
     let s = c .before .before .before .before .before .before in
-    let h = fits (now (s .args .tape)) (s .args .at) (s .args .end) (s .pre .0) (s .pre .1) e in
+    let h = fits (now (s .args .body)) (s .args .at) (s .pre) e in
     let l = c .before .before .before .before .before .shared-slice-known .given in
     let n = c .size-of .ensures in
     omega arith
@@ -52,7 +53,7 @@ returns-2 : tie.Need-returns-2
 returns-2 c =
     let e = rw (c .before .before .s .given .1) at (c .before .before .before .before .scalar-at .ensures) in
     let s = c .before .before .before .before .before .before in
-    let h = fits (now (s .args .tape)) (s .args .at) (s .args .end) (s .pre .0) (s .pre .1) e in
+    let h = fits (now (s .args .body)) (s .args .at) (s .pre) e in
     let n = c .size-of .ensures in
     (omega arith, omega arith)
 
