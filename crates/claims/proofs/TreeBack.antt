@@ -54,7 +54,7 @@ between k (more h n ns) = lead true k
 elements-true : (k : Frame) (ns : Nodes) → elements true k ns ≡ between k ns ++ elements false k ns
 unfolding element lead
 elements-true k nil = refl
-elements-true k (more h n ns) = rw (lead-compact k) (simp append-assoc)
+elements-true k (more h n ns) = simp append-assoc
 
 elements-more : (k : Frame) (h : Head) (n : Node) (ns : Nodes) (t : List ℕ)
     → elements false k (more h n ns) ++ t ≡ nameText (h .0) ++ (notesText (h .1) ++ (element n ++ (between k ns ++ (elements false k ns ++ t))))
