@@ -39,26 +39,26 @@ fn too_long(room: usize) {
 fn tape_reason(number: u8) {
     match number {
         1 => say(
-            b"the tape has under 8 or over 1,048,576 bytes, or its trailer does not tell its length\n",
+            b"the tape has under 8 or over 1,048,576 bytes, or its trailer does not tell its length",
         ),
         2 => say(
-            b"a node is outside the layout of tapes, or the number of top-level nodes is wrong\n",
+            b"a node is outside the layout of tapes, or the number of top-level nodes is wrong",
         ),
-        3 => say(b"a container is opened while 64 are open\n"),
-        4 => say(b"a float is finite and not zero\n"),
+        3 => say(b"a container is opened while 64 are open"),
+        4 => say(b"a float is finite and not zero"),
         _ => say(
-            b"compact, lines and pretty take no annotations; tree takes one value, no marker and no identifier but $0\n",
+            b"compact, lines and pretty take no annotations; tree takes one value, no marker and no identifier but $0",
         ),
     }
 }
 
 fn text_reason(number: u8) {
     match number {
-        6 => say(b"the text is longer than 4,200,000 bytes\n"),
-        7 => say(b"there is no such layout\n"),
-        8 => say(b"the text is outside the grammar (split shows it line by line)\n"),
-        9 => say(b"the tape is longer than 1,048,576 bytes\n"),
-        _ => say(b"the offset is past the text\n"),
+        6 => say(b"the text is longer than 4,200,000 bytes"),
+        7 => say(b"there is no such layout"),
+        8 => say(b"the text is outside the grammar (split shows it line by line)"),
+        9 => say(b"the tape is longer than 1,048,576 bytes"),
+        _ => say(b"the offset is past the text"),
     }
 }
 
@@ -69,9 +69,10 @@ fn because(number: u8) {
     } else {
         text_reason(number);
     }
+    say(b" (docs/FORMAT.md)\n");
 }
 
-// A refusal of document 01's table.
+// A refusal of the table.
 fn refusal(number: u8) {
     say_number(b"ion: refusal ", number as u64);
     because(number);
@@ -107,6 +108,7 @@ From an Ion text, of at most 4,200,000 bytes:
   read     its tape
   split    its lines: number, offset, length, and what each is
 No FILE, or -: standard input. What is refused is said on standard error.
+docs/FORMAT.md says what tapes and texts are, and when each refusal comes.
 ",
     );
     if !whole {
