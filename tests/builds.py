@@ -12,6 +12,7 @@ def archive():
     """libion_c.a in the folder LECHUQTA_LIB_DIR if that is set, else the one that `rt staticlib ion_c` makes."""
     if 'LECHUQTA_LIB_DIR' in os.environ:
         return os.path.join(os.environ['LECHUQTA_LIB_DIR'], 'libion_c.a')
+    print('proving and building the library (rt staticlib ion_c), some minutes the first time', file=sys.stderr, flush=True)
     subprocess.run(['rt', 'staticlib', 'ion_c'], cwd=ROOT, check=True, stdout=subprocess.DEVNULL)
     return os.path.join(TARGET, 'staticlib/libion_c.a')
 
