@@ -32,45 +32,12 @@ fn say_number(n: u64) {
     io::print_decimal(STDOUT_FILENO, n);
 }
 
-fn digit(d: u8) -> u8 {
-    if d < 10 {
-        return b'0' + d;
-    }
-    if d < 16 {
-        return b'a' + (d - 10);
-    }
-    b'?'
-}
-
-// Every byte as two hex digits, then LF.
-fn hex(bytes: &[u8]) {
-    let mut i: usize = 0;
-    while i < bytes.len() {
-        let b = bytes[i];
-        let pair = [digit(b / 16), digit(b % 16)];
-        io::write_all(STDOUT_FILENO, &pair);
-        i += 1;
-    }
-    io::write_all(STDOUT_FILENO, b"\n");
-}
-
-// The tape in hex, the refusal or `end`.
+// The tape in hex, the refusal or `end`, on a line.
 fn say(a: Answer, out: &[u8]) {
-    match a {
-        Answer::Count(n) => {
-            if n <= out.len() {
-                hex(&out[0..n]);
-            }
-        }
-        Answer::End => {
-            io::write_all(STDOUT_FILENO, b"end\n");
-        }
-        _ => {
-            io::write_all(STDOUT_FILENO, b"refused ");
-            say_number(wide(tape::answer::number(a)));
-            io::write_all(STDOUT_FILENO, b"\n");
-        }
-    }
+    let mut line = [0u8; 1024];
+    let p = program_io::put_answer(&mut line, 0, a, out);
+    let e = output::put(&mut line, p, b'\n');
+    program_io::print(&line, e);
 }
 
 // Minus a refusal, modulo the prime.
@@ -393,33 +360,26 @@ fn write_and_damage(tape: &[u8], first: bool) -> bool {
     }
 }
 
-// Damages the text of the frame at the input's start and answers the frame's length, or 0 where it is malformed.
-fn frame(input: &[u8], first: bool) -> usize {
-    if input.len() < 4 {
-        return 0;
+// Whether a frame is one whose text can be damaged.
+fn frame(frame: &[u8], first: bool) -> bool {
+    if frame.len() < 4 {
+        return false;
     }
-    let length = tape::u32_at(input, 0) as usize;
-    if input.len() - 4 < length {
-        return 0;
-    }
-    if !write_and_damage(&input[4..4 + length], first) {
-        return 0;
-    }
-    4 + length
+    write_and_damage(&frame[4..], first)
 }
 
 // Whether all of the input is frames. Stops before the first that is malformed.
 fn all(input: &[u8]) -> bool {
     let mut at: usize = 0;
     while at < input.len() {
-        let n = frame(&input[at..input.len()], at == 0);
-        if n == 0 {
+        let end = program_io::frame_end(input, at, 4);
+        if end == at {
             return false;
         }
-        if input.len() - at < n {
+        if !frame(&input[at..end], at == 0) {
             return false;
         }
-        at += n;
+        at = end;
     }
     true
 }

@@ -1,4 +1,4 @@
--- `damage::all` is safe and ends: each frame takes at least one byte. Assumes nothing.
+-- `damage::all` is safe and ends. Assumes nothing.
 use Prim.Native.Nat.{_-_, _≤_}
 use lib.ListN.{length}
 use borrow.Author.Needs.{needs}
@@ -14,6 +14,12 @@ abbrev μ-loop : tie.MeasureT-loop
 loop-holds : tie.Need-loop-holds Inv-loop μ-loop
 loop-holds c = search needs
 
+frame-end-requires : tie.Need-frame-end-requires Inv-loop μ-loop
+frame-end-requires c κs = search needs
+
+returns : tie.Need-returns Inv-loop μ-loop
+returns c = search needs
+
 sub-frame : tie.Need-sub-frame Inv-loop μ-loop
 sub-frame c = search needs
 
@@ -26,17 +32,8 @@ part-frame-end c = search needs
 frame-requires : tie.Need-frame-requires Inv-loop μ-loop
 frame-requires c κs = search needs
 
-returns : tie.Need-returns Inv-loop μ-loop
-returns c = search needs
-
-sub-if2 : tie.Need-sub-if2 Inv-loop μ-loop
-sub-if2 c = search needs
-
 returns-2 : tie.Need-returns-2 Inv-loop μ-loop
 returns-2 c = search needs
-
-add-at : tie.Need-add-at Inv-loop μ-loop
-add-at c = search needs
 
 loop-less : tie.Need-loop-less Inv-loop μ-loop
 loop-less c = search needs
@@ -54,14 +51,13 @@ all-spec =
     Inv-loop
     μ-loop
     loop-holds
+    frame-end-requires
+    returns
     sub-frame
     part-frame-start
     part-frame-end
     frame-requires
-    returns
-    sub-if2
     returns-2
-    add-at
     loop-less
     loop-again
     returns-3)
