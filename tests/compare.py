@@ -1,7 +1,7 @@
-"""Compares our streaming and tree texts with the Rust's over random accepted tapes, in full and cut short by the room. Reads each text
-back, which must give the tape itself, and the lines of Lines texts one by one, which must give each value's tape, or what the line book
+"""Compares our streaming and tree texts with the Rust's over random accepted tapes, in full and cut short by the room, and the lengths that
+ion_length and ion_tree_length tell of them. Reads each text back, which must give the tape itself, and the lines of Lines texts one by one, which must give each value's tape, or what the line book
 gives where they are damaged (tests/grammar.py). Compares answer and buffer on damaged tapes with tests/model.py. The driver checks what
-it does not send: all of the buffer that a call must leave alone or zero.
+it does not send: all of the buffer that a call must leave alone or zero, and behind each call of a writer the length of its text.
 
     ION_RUST_FILES=folder tests/oracle/build
     python3 tests/compare.py [TAPES [SEED]]
@@ -58,7 +58,7 @@ def run(frames):
         for frame, alone in zip(frames, said):
             code = subprocess.run([driver], input=alone, stdout=subprocess.PIPE).returncode
             if code:
-                raise differs(*frame, 'a buffer as docs/FORMAT.md has it', 'status %d of the driver (tests/driver.c)' % code)
+                raise differs(*frame, 'a buffer, or a length, as docs/FORMAT.md has it', 'status %d of the driver (tests/driver.c)' % code)
         raise Difference('status %d of the driver, which no frame gives by itself' % ran.returncode)
     return ran.stdout
 
@@ -97,11 +97,20 @@ def lines(frames):
 
 
 def special():
-    """Every byte in strings, symbols and clobs; every decimal sum from -30 to 30; depth 64."""
+    """Every byte in strings, symbols and clobs; texts of many lengths with one byte that is otherwise, at the places where words of eight bytes
+    start and end; every decimal sum from -30 to 30; depth 64."""
     for b in range(128):
         yield [('str', bytes([b]))], [('sym', bytes([b]))]
     for b in range(256):
         yield ([('clob', bytes([b]))],)
+    for n in (1, 5, 7, 8, 9, 15, 16, 17, 24, 31, 32, 33, 40, 65):
+        for at in sorted({0, 7, 8, n // 2, n - 1} & set(range(n))):
+            for b in b'xZ_$7 \n"\'\\':
+                for first in b'a$':
+                    text = bytearray(b'%cbcdefgh' % first * 9)[:n]
+                    text[at] = b
+                    text = bytes(text)
+                    yield [('sym', text)], [('str', text)], [('struct', [(('sym', text), ('str', text))])]
     for length in range(1, 21):
         for total in range(-30, 31):
             m = int('9876543210' * 2) // 10**(20 - length) if length < 20 else 2**64 - 1

@@ -4,7 +4,8 @@
 
 writes crates/damage/stdin (frames: u32 length, tape) and crates/damage/stdout. The texts are those of tests/model.py, the answers those of
 the book over tests/grammar.py; nothing expected here was ever asked of the program. The program reads each text call by call and by lists of
-calls over one session, whose last call must be the same: on no text may the two differ. In no layout may a tape not read back as itself.
+calls over one session, whose last call must be the same: on no text may the two differ. In no layout may a tape not read back as itself, nor may a text, or the tree text of its first value,
+be another in the room that was measured, or anything but cut by 6 in a byte less.
 """
 import collections
 import os
@@ -115,6 +116,7 @@ def output():
     yield from examples()
     for values in TAPES:
         yield b'written and read back, differs in layouts: %d\n' % sum(differs_back(layout, values) for layout in range(3))
+        yield b'measured and written, differs in texts: 0\n'
         text = model.stream(1, tape(values))
         assert len(text) < 120, text
         yield text

@@ -1,8 +1,9 @@
 /* Answers frames through libion_c.a. A frame is a byte (0..15: ion_write in that layout, 16: ion_read, 17: ion_read_line from offset 0
    until the end mark, 18: ion_write_tree), u32 room, u32 length and bytes. The answer is i64; behind a count come that many bytes, behind -6 all of the
    room's; behind each answer of a line, u64 offset first. The driver itself checks the rest of the buffer, which is 0xA5 before the first
-   call, and ends with 2 to 8 where something is wrong: guard bytes beside the room, bytes past the count, a refusal's buffer (untouched by
-   the writers but for -6, all zero by the readers), the input, and for lines what the end mark and an offset past the text leave. */
+   call, and ends with 2 to 9 where something is wrong: guard bytes beside the room, bytes past the count, a refusal's buffer (untouched by
+   the writers but for -6, all zero by the readers), the input, for lines what the end mark and an offset past the text leave, and for the
+   writers the length by ion_length or ion_tree_length: the count, a number past the room behind -6, or the same refusal. */
 #include "../bindings/c/ion.h"
 
 #include <stdio.h>
@@ -32,6 +33,13 @@ static int64_t call(uint8_t mode, const uint8_t *in, size_t length, uint8_t *roo
     if (mode == READ) return ion_read(in, length, room, n);
     if (mode == TREE) return ion_write_tree(in, length, room, n);
     return ion_write(mode, in, length, room, n);
+}
+
+/* 0 if the text's length, asked for by itself, goes with a writer's answer r in n bytes of room. */
+static int length_of(uint8_t mode, const uint8_t *in, size_t length, int64_t r, size_t n) {
+    if (mode == READ || mode == LINES) return 0;
+    int64_t due = mode == TREE ? ion_tree_length(in, length) : ion_length(mode, in, length);
+    return (r == -6 ? due > (int64_t)n : due == r) ? 0 : 9;
 }
 
 /* Every line of a text, each call given what the last one left; 0 if all is as it must be. */
@@ -72,6 +80,7 @@ int main(void) {
         if (memcmp(in, was, length)) return 7;
         if (mode != LINES) wrong = rest(mode, r, out + GUARD, room);
         if (wrong) return wrong;
+        if ((wrong = length_of(mode, in, length, r, room))) return wrong;
         size_t shown = r >= 0 ? (size_t)r : r == -6 ? room : 0;
         if (mode != LINES) {
             fwrite(&r, 8, 1, stdout);

@@ -21,7 +21,7 @@ def write(crate, lines, sums):
     said = '\n'.join(lines) + '\n'
     with open(os.path.join(folder, 'stdin'), 'w', encoding='ascii') as f:
         f.write(said)
-    total = '%d tapes, %d texts, %d refusals; %d writes, %d reads; 0 differences' % tuple(
+    total = '%d tapes, %d texts, %d refusals; %d writes and lengths, %d reads; 0 differences' % tuple(
         sums[n] for n in ('tapes', 'texts', 'refusals', 'writes', 'reads'))
     with open(os.path.join(folder, 'stdout'), 'w') as f:
         f.write(total + '\n')

@@ -70,6 +70,14 @@ def nested(depth, inner):
     return inner
 
 
+def siblings(depth):
+    """Lists, each in the one before and with a value behind it."""
+    inner = ('int', 1)
+    for _ in range(depth):
+        inner = ('list', [inner, ('int', 1)])
+    return inner
+
+
 def samples():
     r = random.Random(1)
     yield 'two', [('list', [('int', 1), ('int', 2)])]
@@ -87,6 +95,7 @@ def samples():
     yield 'clob', [('clob', bytes(range(256)) * 64)]
     yield 'textclob', [('clob', b'plain ASCII text, all of it raw; ' * 500)]
     yield 'deep', [('list', [nested(63, ('int', 1)) for _ in range(50)])]
+    yield 'siblings', [('list', [siblings(63) for _ in range(50)])]
 
 
 def write(folder):

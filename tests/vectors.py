@@ -426,7 +426,7 @@ def held(t, y, text):
 
 
 def refusal_line(y, t, number, sums):
-    sums.update(refusals=1, writes=2)
+    sums.update(refusals=1, writes=3)
     cover['refusals met'][number] += 1
     if y in OVER:
         without = asked('1', t)
@@ -438,7 +438,7 @@ def text_lines(y, t, text, rooms, sums):
     """The text's line, and where asked for those of its short rooms."""
     assert max(len(t), len(text)) <= LONGEST
     held(t, y, text)
-    sums.update(texts=1, writes=5 if text else 2, reads=3)
+    sums.update(texts=1, writes=6 if text else 3, reads=3)
     cover['texts met'][y] += 1
     if y == '1':
         sums.update(reads=1 + struct.unpack('<I', t[-4:])[0])

@@ -147,15 +147,18 @@ int main(void) {
     size_t length = counted("ion_write_tree", ion_write_tree(one.bytes, one.length, text, sizeof text));
     print_text(length);
     read_back(&one, length);
-    int64_t answer = ion_write(ION_LINES, one.bytes, one.length, text, sizeof text);
+    int64_t answer = ion_length(ION_LINES, one.bytes, one.length);
     if (answer != ION_UNSUITED) {
-        fprintf(stderr, "ion_write: answered %lld for an annotated value\n", (long long)answer);
+        fprintf(stderr, "ion_length: answered %lld for an annotated value\n", (long long)answer);
         return 1;
     }
     printf("-- the same list in Lines: refused 5, since streaming has no annotations\n\n");
 
-    /* The Lines text again. A relay loses a block of 64 bytes, all of them within the second line, and puts ? in their place. */
-    length = counted("ion_write", ion_write(ION_LINES, three.bytes, three.length, text, sizeof text));
+    /* The Lines text again, in exactly as many bytes as it has, which are known before it is written. A relay loses a block of 64 bytes, all of
+       them within the second line, and puts ? in their place. */
+    length = counted("ion_length", ion_length(ION_LINES, three.bytes, three.length));
+    if (length > sizeof text) return 1;
+    counted("ion_write", ion_write(ION_LINES, three.bytes, three.length, text, length));
     memset(text + 120, '?', 64);
     printf("-- the Lines text, damaged\n");
     print_text(length);

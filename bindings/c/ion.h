@@ -4,8 +4,8 @@
    A tape is the binary form of a list of values: nodes, then u32 body length and u32 number of top-level nodes, all little-endian.
    docs/FORMAT.md has the nodes byte by byte, the texts, and the grammar of what is read.
 
-   Every call answers the count of bytes that it finished at the start of `out`, or one of the refusals below. Where more than one refusal
-   would do, the first in the list at the function comes. `out` has any length; bytes behind it are never touched, nor is the tape or text.
+   Every call answers a count, of the bytes that it finished at the start of `out`, or for ion_length and ion_tree_length of those that a text will
+   have; or one of the refusals below. Where more than one refusal would do, the first in the list at the function comes. `out` has any length; bytes behind it are never touched, nor is the tape or text.
 
    What a caller owes:
    - Each pointer and its length name memory that is there during the call. With length 0 the pointer is not followed, so it may be null.
@@ -30,7 +30,7 @@ enum {
     ION_PRETTY = 2   /* a line feed; children on lines of their own, indented by two blanks a level */
 };
 
-/* The end mark of ion_read_line. ion_write answers 0 too, for a tape of no values. */
+/* The end mark of ion_read_line. ion_write and ion_length answer 0 too, for a tape of no values. */
 enum { ION_END = 0 };
 
 /* Refusals, as they are answered: minus the number in the table of docs/FORMAT.md, "Refusals". */
@@ -69,6 +69,12 @@ enum { ION_TAPE_MAX = 1048576 };
    Behind every other refusal: untouched. */
 int64_t ion_write(uint32_t layout, const uint8_t *tape, size_t tape_length, uint8_t *out, size_t out_length);
 
+/* The length of the text that ion_write writes of the tape in a layout, for reserving `out` before; this call writes nothing. With `out` of that many
+   bytes ion_write succeeds, and with one byte less it answers ION_TEXT_TOO_LONG.
+
+   Answers as ion_write, but never ION_TEXT_TOO_LONG. In ION_COMPACT and ION_LINES the count is at most nine times tape_length. */
+int64_t ion_length(uint32_t layout, const uint8_t *tape, size_t tape_length);
+
 /* Writes the tree text of a tape of one value, annotations included.
 
    Answers, the first that holds:
@@ -80,6 +86,10 @@ int64_t ion_write(uint32_t layout, const uint8_t *tape, size_t tape_length, uint
 
    `out` is left as by ion_write. */
 int64_t ion_write_tree(const uint8_t *tape, size_t tape_length, uint8_t *out, size_t out_length);
+
+/* The length of the text that ion_write_tree writes of the tape, as ion_length is of ion_write's. Answers as ion_write_tree, but never
+   ION_TEXT_TOO_LONG. */
+int64_t ion_tree_length(const uint8_t *tape, size_t tape_length);
 
 /* Reads a text of any number of values as their tape.
 

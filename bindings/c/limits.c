@@ -82,6 +82,24 @@ static void writers(void) {
     check("tree: no value", ion_write_tree(BYTES(EMPTY), out, ROOM), ION_UNSUITED, ROOM, "", 0, KEPT);
 }
 
+/* The lengths of texts; a null pointer with length 0 is as no tape. */
+static void lengths(void) {
+    check("length: no value", ion_length(ION_LINES, BYTES(EMPTY)), 0, 0, "", 0, KEPT);
+    check("length: no tape", ion_length(ION_LINES, NULL, 0), ION_MISFIT, 0, "", 0, KEPT);
+    check("length: Compact", ion_length(ION_COMPACT, BYTES(LIST)), 9, 0, "", 0, KEPT);
+    check("length: Lines", ion_length(ION_LINES, BYTES(LIST)), 9, 0, "", 0, KEPT);
+    check("length: Pretty", ion_length(ION_PRETTY, BYTES(LIST)), 12, 0, "", 0, KEPT);
+    check("length: layout 3, no tape", ion_length(3, NULL, 0), ION_NO_LAYOUT, 0, "", 0, KEPT);
+    check("length: broken node", ion_length(ION_LINES, BYTES(BROKEN)), ION_BAD_NODE, 0, "", 0, KEPT);
+    check("length: wrong count", ion_length(ION_LINES, BYTES(MISCOUNTED)), ION_BAD_NODE, 0, "", 0, KEPT);
+    check("length: 1.0", ion_length(ION_LINES, BYTES(FLOAT)), ION_FINITE_FLOAT, 0, "", 0, KEPT);
+    check("length: annotated", ion_length(ION_LINES, BYTES(NOTED)), ION_UNSUITED, 0, "", 0, KEPT);
+    check("tree length: annotated", ion_tree_length(BYTES(NOTED)), 7, 0, "", 0, KEPT);
+    check("tree length: [true]", ion_tree_length(BYTES(LIST)), 6, 0, "", 0, KEPT);
+    check("tree length: no tape", ion_tree_length(NULL, 0), ION_MISFIT, 0, "", 0, KEPT);
+    check("tree length: no value", ion_tree_length(BYTES(EMPTY)), ION_UNSUITED, 0, "", 0, KEPT);
+}
+
 /* Lists within each other, and tapes of the greatest length and one more. */
 static void depth_and_length(void) {
     for (size_t depth = 64; depth <= 65; depth++) {
@@ -96,6 +114,7 @@ static void depth_and_length(void) {
         tape[body] = (uint8_t)body;
         tape[body + 1] = (uint8_t)(body >> 8);
         tape[body + 4] = 1;
+        check("depth, length", ion_tree_length(tape, body + 8), depth == 64 ? 128 : ION_TOO_DEEP, 0, "", 0, KEPT);
         check("depth", ion_write_tree(tape, body + 8, text, sizeof text), depth == 64 ? 128 : ION_TOO_DEEP, 0, "", 0, KEPT);
         memset(text, '[', depth);
         memset(text + depth, ']', depth);
@@ -114,6 +133,7 @@ static void depth_and_length(void) {
             tape[body + 4 + (size_t)i] = i == 0;
         }
         int fits = length == ION_TAPE_MAX;
+        check("long tape, length", ion_length(ION_LINES, tape, length), fits ? (int64_t)text_length : ION_MISFIT, 0, "", 0, KEPT);
         check("long tape", ion_write(ION_LINES, tape, length, text, text_length), fits ? (int64_t)text_length : ION_MISFIT, 0, "", 0, KEPT);
         memset(text, 'c', text_length);
         memcpy(text, "{{\"", 3);
@@ -163,18 +183,23 @@ static void line_reader(void) {
     check("no text, the end mark", ion_read_line(NULL, 0, &at, NULL, 0), ION_END, 0, "", 0, KEPT);
 }
 
-/* The calls at the greatest depth. */
+/* The calls at the greatest depth: 64 lists, each with a value behind the list in it, so that no walk ends with a body inside. */
 static void deepest(void) {
-    static uint8_t text[2 * 64 + 1], tape[5 * 64 + 8], room[1 << 15];
+    static uint8_t text[256], tape[14 * 64 + 8], room[1 << 14];
+    uint8_t *p = text;
     uint64_t at = 0;
-    memset(text, '[', 64);
-    memset(text + 64, ']', 64);
-    text[128] = '\n';
+    memset(p, '[', 64);
+    p += 64;
+    memcpy(p, "0]", 2);
+    for (p += 2; p < text + 255; p += 3) memcpy(p, ",0]", 3);
+    *p = '\n';
     if (ion_read(text, sizeof text, tape, sizeof tape) != sizeof tape) exit(2);
     if (ion_read_line(text, sizeof text, &at, room, sizeof room) != sizeof tape) exit(2);
-    for (uint32_t layout = ION_COMPACT; layout <= ION_PRETTY; layout++)
-        if (ion_write(layout, tape, sizeof tape, room, sizeof room) < 128) exit(2);
-    if (ion_write_tree(tape, sizeof tape, room, sizeof room) != 128) exit(2);
+    for (uint32_t layout = ION_COMPACT; layout <= ION_PRETTY; layout++) {
+        int64_t n = ion_write(layout, tape, sizeof tape, room, sizeof room);
+        if (n < 318 || n != ion_length(layout, tape, sizeof tape)) exit(2);
+    }
+    if (ion_write_tree(tape, sizeof tape, room, sizeof room) != 318 || ion_tree_length(tape, sizeof tape) != 318) exit(2);
 }
 
 /* They run on a stack of their own, which is filled before, so that what they took of it can be told. */
@@ -204,6 +229,7 @@ static void stack(void) {
 int main(void) {
     refill();
     writers();
+    lengths();
     depth_and_length();
     readers();
     line_reader();

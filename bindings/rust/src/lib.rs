@@ -2,8 +2,9 @@
 //!
 //! A *tape* is the binary form of a list of values; the repository's `docs/FORMAT.md` has it byte by byte, with the texts and the grammar.
 //! [`write()`] and [`write_tree`] turn a tape into text, [`read`] turns a text into its tape, and [`read_line`] does so line by line, going on
-//! behind a damaged line. Each works in a lent buffer of any length and answers the count of bytes that it finished there, or a [`Refusal`]. No
-//! input makes a call panic. [`to_text`], [`to_tree_text`], [`to_tape`] and [`lines`] are the same with a buffer of their own.
+//! behind a damaged line. Each works in a lent buffer of any length and answers the count of bytes that it finished there, or a [`Refusal`].
+//! No input makes a call panic. [`to_text`], [`to_tree_text`], [`to_tape`] and [`lines`] are the same with a buffer of their own. [`length`] and
+//! [`tree_length`] tell how long a text will be, before it is written.
 //!
 //! ```
 //! use lechuqta::{lines, to_tape, to_text, to_tree_text, Layout, Refusal};
@@ -79,6 +80,28 @@ pub fn write(layout: Layout, tape: &[u8], out: &mut [u8]) -> Result<usize, Refus
     answered(raw::write(layout as u32, tape, out))
 }
 
+/// The length of a tape's streaming text in a layout, in place of the text: with a buffer of that many bytes [`write()`] succeeds, and with one byte
+/// less it refuses the text as too long.
+///
+/// Refusals are those of [`write()`], but never [`TextTooLong`](Refusal::TextTooLong). In [`Layout::Compact`] and [`Layout::Lines`] the length is at
+/// most nine times the tape's.
+///
+/// ```
+/// use lechuqta::{length, to_tape, write, Layout, Refusal};
+///
+/// let tape = to_tape(b"{peak: 61.25}")?;
+/// let reserved = length(Layout::Lines, &tape)?;
+/// assert_eq!(reserved, 16);
+/// let mut packet = vec![0; reserved];
+/// assert_eq!(write(Layout::Lines, &tape, &mut packet), Ok(reserved));
+/// assert_eq!(packet, b"{peak: 61.25, }\n");
+/// assert_eq!(write(Layout::Lines, &tape, &mut packet[1..]), Err(Refusal::TextTooLong));
+/// # Ok::<(), Refusal>(())
+/// ```
+pub fn length(layout: Layout, tape: &[u8]) -> Result<usize, Refusal> {
+    answered(raw::length(layout as u32, tape))
+}
+
 /// Writes the tree text of a tape of one value, annotations included, and answers the text's length.
 ///
 /// Refusals and `out` are those of [`write()`], but for [`Unsuited`](Refusal::Unsuited): not one value, a version marker, or a symbol
@@ -93,6 +116,19 @@ pub fn write(layout: Layout, tape: &[u8], out: &mut [u8]) -> Result<usize, Refus
 /// ```
 pub fn write_tree(tape: &[u8], out: &mut [u8]) -> Result<usize, Refusal> {
     answered(raw::write_tree(tape, out))
+}
+
+/// The length of the tree text of a tape of one value, in place of the text, as [`length`] is that of a streaming text.
+///
+/// Refusals are those of [`write_tree`], but never [`TextTooLong`](Refusal::TextTooLong).
+///
+/// ```
+/// let tape = lechuqta::to_tape(b"pass::[ 1,2 ]")?;
+/// assert_eq!(lechuqta::tree_length(&tape), Ok(b"pass::[1, 2]".len()));
+/// # Ok::<(), lechuqta::Refusal>(())
+/// ```
+pub fn tree_length(tape: &[u8]) -> Result<usize, Refusal> {
+    answered(raw::tree_length(tape))
 }
 
 /// Reads a text of any number of values, lays their tape at the start of `out` and answers the tape's length.
@@ -135,28 +171,20 @@ pub fn read_line(text: &[u8], at: &mut usize, out: &mut [u8]) -> Result<Option<u
     count.map(|n| (n > 0).then_some(n))
 }
 
-/// What a call gives in a buffer that is long enough: the buffer is doubled, until it has `most` bytes, as long as it is refused as too `short`.
-fn grown(first: usize, most: usize, short: Refusal, mut call: impl FnMut(&mut [u8]) -> Result<usize, Refusal>) -> Result<Vec<u8>, Refusal> {
-    let mut out = vec![0; first.min(most)];
+/// The tape that a call gives in a buffer that is long enough: the buffer is doubled, until it has [`MAX_TAPE`] bytes, as long as it is too short.
+fn tape_of(input: usize, mut call: impl FnMut(&mut [u8]) -> Result<usize, Refusal>) -> Result<Vec<u8>, Refusal> {
+    // A first guess: most tapes need less, some need more.
+    let mut out = vec![0; (2 * input + 64).min(MAX_TAPE)];
     loop {
         match call(&mut out) {
             Ok(count) => {
                 out.truncate(count);
                 return Ok(out);
             }
-            Err(refusal) if refusal == short && out.len() < most => out = vec![0; 2 * out.len()],
+            Err(Refusal::TapeTooLong) if out.len() < MAX_TAPE => out = vec![0; (2 * out.len()).min(MAX_TAPE)],
             Err(refusal) => return Err(refusal),
         }
     }
-}
-
-/// A first length for a buffer: most texts and tapes need less, some need more.
-fn guess(input: usize) -> usize {
-    2 * input + 64
-}
-
-fn text_of(tape: &[u8], call: impl FnMut(&mut [u8]) -> Result<usize, Refusal>) -> Result<Vec<u8>, Refusal> {
-    grown(guess(tape.len().min(MAX_TAPE)), usize::MAX, Refusal::TextTooLong, call)
 }
 
 /// The streaming text of a tape in a layout. As [`write()`], never [`TextTooLong`](Refusal::TextTooLong).
@@ -168,7 +196,9 @@ fn text_of(tape: &[u8], call: impl FnMut(&mut [u8]) -> Result<usize, Refusal>) -
 /// # Ok::<(), lechuqta::Refusal>(())
 /// ```
 pub fn to_text(layout: Layout, tape: &[u8]) -> Result<Vec<u8>, Refusal> {
-    text_of(tape, |out| write(layout, tape, out))
+    let mut out = vec![0; length(layout, tape)?];
+    write(layout, tape, &mut out)?;
+    Ok(out)
 }
 
 /// The tree text of a tape of one value. As [`write_tree`], never [`TextTooLong`](Refusal::TextTooLong).
@@ -179,7 +209,9 @@ pub fn to_text(layout: Layout, tape: &[u8]) -> Result<Vec<u8>, Refusal> {
 /// # Ok::<(), lechuqta::Refusal>(())
 /// ```
 pub fn to_tree_text(tape: &[u8]) -> Result<Vec<u8>, Refusal> {
-    text_of(tape, |out| write_tree(tape, out))
+    let mut out = vec![0; tree_length(tape)?];
+    write_tree(tape, &mut out)?;
+    Ok(out)
 }
 
 /// The tape of a text. As [`read`]; [`TapeTooLong`](Refusal::TapeTooLong) only for a tape over [`MAX_TAPE`] bytes.
@@ -190,7 +222,7 @@ pub fn to_tree_text(tape: &[u8]) -> Result<Vec<u8>, Refusal> {
 /// assert_eq!(to_tape(b"{ a: 1 "), Err(Refusal::OutsideGrammar));
 /// ```
 pub fn to_tape(text: &[u8]) -> Result<Vec<u8>, Refusal> {
-    grown(guess(text.len()), MAX_TAPE, Refusal::TapeTooLong, |out| read(text, out))
+    tape_of(text.len(), |out| read(text, out))
 }
 
 /// A line of a text, as [`Lines`] gives it.
@@ -236,7 +268,7 @@ impl Iterator for Lines<'_> {
         let (text, from) = (self.text, self.at);
         // The line's length is only a guess at the buffer's; where the line ends is the library's answer.
         let line = text[from..].split_inclusive(|byte| *byte == b'\n').next()?;
-        let tape = grown(guess(line.len()), MAX_TAPE, Refusal::TapeTooLong, |out| {
+        let tape = tape_of(line.len(), |out| {
             self.at = from;
             Ok(read_line(text, &mut self.at, out)?.unwrap_or(0))
         });

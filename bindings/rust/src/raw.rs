@@ -1,4 +1,4 @@
-//! The four functions of `libion_c.a` over slices: the one place with unsafe code.
+//! The functions of `libion_c.a` over slices: the one place with unsafe code.
 //!
 //! What the library asks of a caller (`bindings/c/ion.h`) is what slices have. A slice's bytes are there during the call, and its length is
 //! true. `out` and `at` are `&mut`, so they share no byte with anything, and nobody else writes the rest meanwhile. The library keeps no
@@ -7,7 +7,9 @@
 
 extern "C" {
     fn ion_write(layout: u32, tape: *const u8, tape_length: usize, out: *mut u8, out_length: usize) -> i64;
+    fn ion_length(layout: u32, tape: *const u8, tape_length: usize) -> i64;
     fn ion_write_tree(tape: *const u8, tape_length: usize, out: *mut u8, out_length: usize) -> i64;
+    fn ion_tree_length(tape: *const u8, tape_length: usize) -> i64;
     fn ion_read(text: *const u8, text_length: usize, out: *mut u8, out_length: usize) -> i64;
     fn ion_read_line(text: *const u8, text_length: usize, at: *mut u64, out: *mut u8, out_length: usize) -> i64;
 }
@@ -17,9 +19,19 @@ pub fn write(layout: u32, tape: &[u8], out: &mut [u8]) -> i64 {
     unsafe { ion_write(layout, tape.as_ptr(), tape.len(), out.as_mut_ptr(), out.len()) }
 }
 
+pub fn length(layout: u32, tape: &[u8]) -> i64 {
+    // SAFETY: the slice is whole, as said above; any layout may be asked for.
+    unsafe { ion_length(layout, tape.as_ptr(), tape.len()) }
+}
+
 pub fn write_tree(tape: &[u8], out: &mut [u8]) -> i64 {
     // SAFETY: both slices are whole and apart, as said above.
     unsafe { ion_write_tree(tape.as_ptr(), tape.len(), out.as_mut_ptr(), out.len()) }
+}
+
+pub fn tree_length(tape: &[u8]) -> i64 {
+    // SAFETY: the slice is whole, as said above.
+    unsafe { ion_tree_length(tape.as_ptr(), tape.len()) }
 }
 
 pub fn read(text: &[u8], out: &mut [u8]) -> i64 {

@@ -14,3 +14,5 @@ pub mod Marked
 pub mod Demand3
 pub mod DamagedExamples
 pub mod Enough
+pub mod Lengths
+pub mod Reserve

@@ -3,3 +3,5 @@ pub mod Demand3
 pub mod Writing
 pub mod Examples
 pub mod InRange
+pub mod Reserved
+pub mod Lengths

@@ -1,10 +1,17 @@
-// The claims: theorems over the definitions below, and the round trip as running code. docs/CLAIMS.md is their index.
+// The claims: theorems over the definitions below, and, as running code, the round trip and the length before the writing. docs/CLAIMS.md is their
+// index.
 use tape::answer::Answer;
 ghost use mathlib.Core.Path.{_≡_};
 ghost use lib.ListN.{length};
 ghost use Rattle.tape.specs.Answer.{outcome};
+ghost use Rattle.tape.specs.Tape.{nodesOf};
+ghost use Rattle.writer.specs.Text.{streamText};
 ghost use Rattle.writer.specs.Outcome.{streamed, leaves};
+ghost use Rattle.measure.specs.Outcome.{textLength};
+ghost use Rattle.tree.specs.Text.{treeText};
+ghost use Rattle.tree.specs.Outcome.{treeLength};
 ghost use Rattle.claims.specs.Back.{backAnswer, backLeaves};
+ghost use Rattle.claims.specs.Reserved.{roomFor, reservedAnswer, reservedLeaves};
 
 // Writes a tape's text in a layout and reads it back: what stands in `out` is the tape itself.
 pub fn write_and_read(layout: u32, tape: &[u8], text: &mut [u8], out: &mut [u8]) -> Answer
@@ -17,4 +24,49 @@ pub fn write_and_read(layout: u32, tape: &[u8], text: &mut [u8], out: &mut [u8])
         return a;
     };
     reader::read_text(&text[..n], out)
+}
+
+// How many bytes a text of k bytes gets: as many, or one less.
+fn room_for(k: usize, less: bool) -> usize
+    ensures { λ r. ⌜ r ≡ roomFor less k ⌝ }
+{
+    if less {
+        if k == 0 {
+            return 0;
+        }
+        return k - 1;
+    }
+    k
+}
+
+// Measures a tape's text in a layout and writes it in exactly as many bytes of `out`; or in one byte less, where `less` asks for it.
+pub fn measure_and_write(layout: u32, tape: &[u8], less: bool, out: &mut [u8]) -> Answer
+    ensures answer { λ r. ⌜ outcome r ≡ reservedAnswer less (textLength layout (now (tape .entry))) (length (now (out .entry))) ⌝ }
+    ensures buffer { λ _. ⌜ now (out .exit) ≡ reservedLeaves less (textLength layout (now (tape .entry))) (streamText layout (nodesOf (now (tape .entry)))) (now (out .entry)) ⌝ }
+{
+    let a = measure::text_length(layout, tape);
+    let Answer::Count(k) = a else {
+        return a;
+    };
+    if out.len() < k {
+        return Answer::TextTooLong;
+    }
+    let n = room_for(k, less);
+    writer::writer::write_stream(layout, tape, &mut out[..n])
+}
+
+// The same with the tree text.
+pub fn measure_and_write_tree(tape: &[u8], less: bool, out: &mut [u8]) -> Answer
+    ensures answer { λ r. ⌜ outcome r ≡ reservedAnswer less (treeLength (now (tape .entry))) (length (now (out .entry))) ⌝ }
+    ensures buffer { λ _. ⌜ now (out .exit) ≡ reservedLeaves less (treeLength (now (tape .entry))) (treeText (nodesOf (now (tape .entry)))) (now (out .entry)) ⌝ }
+{
+    let a = tree::tree_length(tape);
+    let Answer::Count(k) = a else {
+        return a;
+    };
+    if out.len() < k {
+        return Answer::TextTooLong;
+    }
+    let n = room_for(k, less);
+    tree::write_tree(tape, &mut out[..n])
 }

@@ -1,5 +1,6 @@
 // Damages the Lines texts of tapes in many ways and reads each damaged text twice, from its start through the end mark: call by call, and by a
-// list of n calls over one session for each n. Prints, for each tape, in how many layouts it does not read back as itself, its text, and a line for
+// list of n calls over one session for each n. Prints, for each tape, in how many layouts it does not read back as itself, in how many its text is not
+// written in exactly the bytes that were measured before, or not cut by 6 in one byte less, its text, and a line for
 // each kind of damage: how many texts it makes, a digest of every answer, offset and whole buffer, and on how many texts the lists differ from it.
 // Before that come document 01's two examples, on the first tape, answer by answer. A tape stands in a frame: u32 length, and its bytes. The
 // tapes and what they must give come from tests/damage.py.
@@ -333,12 +334,107 @@ fn say_back(tape: &[u8]) {
     io::write_all(STDOUT_FILENO, b"\n");
 }
 
+// Whether the buffer is the text with what stands behind it, but `#` at a place, which may lie past its end.
+fn is_but(out: &[u8], text: &[u8], place: usize) -> bool {
+    if out.len() != text.len() {
+        return false;
+    }
+    let mut i: usize = 0;
+    while i < out.len() {
+        let due = if i == place { b'#' } else { text[i] };
+        if out[i] != due {
+            return false;
+        }
+        i += 1;
+    }
+    true
+}
+
+// 0 where the answer b and its buffer, of exactly the bytes that were measured, are the answer a and its buffer, which is long enough; and c, with one byte
+// less, is 6 with a byte less of the text, or the same refusal as a. Else 1.
+fn differs_by(a: Answer, text: &[u8], b: Answer, exact: &[u8], c: Answer, short: &[u8]) -> u64 {
+    if signed(b) != signed(a) {
+        return 1;
+    }
+    if !is_but(exact, text, text.len()) {
+        return 1;
+    }
+    match a {
+        Answer::Count(n) => {
+            if n == 0 {
+                return 1;
+            }
+            if tape::answer::number(c) != 6 {
+                return 1;
+            }
+            if is_but(short, text, n - 1) { 0 } else { 1 }
+        }
+        _ => {
+            if signed(c) != signed(a) {
+                return 1;
+            }
+            if is_but(short, text, text.len()) {
+                0
+            } else {
+                1
+            }
+        }
+    }
+}
+
+fn differs_measured(layout: u32, tape: &[u8]) -> u64 {
+    let mut text = [b'#'; 512];
+    let mut exact = [b'#'; 512];
+    let mut short = [b'#'; 512];
+    let a = writer::writer::write_stream(layout, tape, &mut text);
+    let b = claims::measure_and_write(layout, tape, false, &mut exact);
+    let c = claims::measure_and_write(layout, tape, true, &mut short);
+    differs_by(a, &text, b, &exact, c, &short)
+}
+
+fn differs_measured_tree(tape: &[u8]) -> u64 {
+    let mut text = [b'#'; 512];
+    let mut exact = [b'#'; 512];
+    let mut short = [b'#'; 512];
+    let a = tree::write_tree(tape, &mut text);
+    let b = claims::measure_and_write_tree(tape, false, &mut exact);
+    let c = claims::measure_and_write_tree(tape, true, &mut short);
+    differs_by(a, &text, b, &exact, c, &short)
+}
+
+// The same of the tree text of the first line's value.
+fn differs_first(text: &[u8]) -> u64 {
+    let mut tape = [0u8; 512];
+    let c = line_reader::call_at(text, 0, &mut tape);
+    let a = c.answer;
+    match a {
+        Answer::Count(n) => {
+            if 512 < n {
+                return 1;
+            }
+            differs_measured_tree(&tape[0..n])
+        }
+        _ => 1,
+    }
+}
+
+fn say_measured(tape: &[u8], text: &[u8]) {
+    let compact = differs_measured(0, tape);
+    let lines = differs_measured(1, tape);
+    let pretty = differs_measured(2, tape);
+    let tree = differs_first(text);
+    io::write_all(STDOUT_FILENO, b"measured and written, differs in texts: ");
+    say_number((compact % 2) + (lines % 2) + (pretty % 2) + (tree % 2));
+    io::write_all(STDOUT_FILENO, b"\n");
+}
+
 fn damage(tape: &[u8], text: &[u8], first: bool) {
     if first {
         show_damaged(text, 2, 4);
         show_damaged(text, 2, 3);
     }
     say_back(tape);
+    say_measured(tape, text);
     io::write_all(STDOUT_FILENO, text);
     change_each(text);
     cut_each(text);

@@ -1,4 +1,4 @@
-// One program for the command line: `ion WORD [FILE]`. The word says what to do with a tape or a text, which comes from the file or from
+// One program for the command line: `ion WORD [FILE]`, or `ion length WORD [FILE]`. The word says what to do with a tape or a text, which comes from the file or from
 // standard input. What it gives goes to standard output, and a sentence for each refusal to standard error. The kit has no exit status: the
 // script `ion` of the repository makes it from these sentences.
 mod input;
@@ -96,12 +96,13 @@ fn refused_lines(refused: usize, lines: usize) {
 fn help(fd: i32) {
     let whole = io::write_all(
         fd,
-        b"use: ion WORD [FILE]
+        b"use: ion WORD [FILE], or ion length compact|lines|pretty|tree [FILE]
 From a tape, of at most 1,048,576 bytes:
   compact  its Ion text, values parted by blanks
   lines    its Ion text, one value a line
   pretty   its Ion text, indented
   tree     the text of its one value, annotations included
+  length   how many bytes one of these four texts has; a second word names it
   check    whether it is a good tape
   show     its nodes, one a line: offset, kind and value
 From an Ion text, of at most 4,200,000 bytes:
@@ -157,6 +158,28 @@ fn give_text(word: Word, tape: &[u8], text: &mut [u8], spare: &mut [u8]) {
         return;
     };
     line::emit(text, n);
+}
+
+// The length of a text in a layout, or of the tree text.
+fn length(word: Word, tape: &[u8]) -> Answer {
+    match word {
+        Word::Compact => measure::text_length(0, tape),
+        Word::Lines => measure::text_length(1, tape),
+        Word::Pretty => measure::text_length(2, tape),
+        _ => tree::tree_length(tape),
+    }
+}
+
+// The length of a text to standard output, or why there is none.
+fn give_length(word: Word, tape: &[u8], text: &mut [u8], spare: &mut [u8]) {
+    let a = length(word, tape);
+    let Answer::Count(n) = a else {
+        refuse(tape::answer::number(a), tape, text, spare);
+        return;
+    };
+    let p = text_rules::digits::put_digits(text, 0, n as u64);
+    let e = output::put(text, p, b'\n');
+    line::emit(text, e);
 }
 
 fn praise(length: usize, count: usize, text: &mut [u8]) {
@@ -377,9 +400,36 @@ fn on_text(word: Word, name: &[u8], text: &mut [u8], tape: &mut [u8], spare: &mu
     }
 }
 
-// Does what the word says, with the input of a name.
-fn obey(word: Word, name: &[u8], text: &mut [u8], tape: &mut [u8], spare: &mut [u8]) {
+// The length of the text that the word behind `length` names.
+fn on_length(word: Word, name: &[u8], text: &mut [u8], tape: &mut [u8], spare: &mut [u8]) {
+    let i = input::read(name, tape);
+    let n = i.count;
+    if i.whole {
+        give_length(word, &tape[0..n], text, spare);
+    }
+}
+
+fn obey_length(word: Word, name: &[u8], text: &mut [u8], tape: &mut [u8], spare: &mut [u8]) {
     match word {
+        Word::Compact => on_length(word, name, text, tape, spare),
+        Word::Lines => on_length(word, name, text, tape, spare),
+        Word::Pretty => on_length(word, name, text, tape, spare),
+        Word::Tree => on_length(word, name, text, tape, spare),
+        _ => wrong_use(b"length takes compact, lines, pretty or tree"),
+    }
+}
+
+// Does what the word says, with the input of a name; where it is `length`, of the text that `text_word` names.
+fn obey(
+    word: Word,
+    text_word: Word,
+    name: &[u8],
+    text: &mut [u8],
+    tape: &mut [u8],
+    spare: &mut [u8],
+) {
+    match word {
+        Word::Length => obey_length(text_word, name, text, tape, spare),
         Word::Unknown => wrong_use(b"no such word"),
         Word::Help => help(libc::STDOUT_FILENO),
         Word::Read => on_text(word, name, text, tape, spare),
@@ -388,31 +438,43 @@ fn obey(word: Word, name: &[u8], text: &mut [u8], tape: &mut [u8], spare: &mut [
     }
 }
 
-// The word that the program was started with.
-fn first() -> Word {
+// A word that the program was started with, by its number.
+fn word_at(i: usize) -> Word {
     let mut s = [0u8; 16];
-    let n = os::arg(1, &mut s);
+    let n = os::arg(i, &mut s);
     words::word_of(&s[..n])
+}
+
+// The number of the word that is the file's name: `length` has a word of its own before it.
+fn name_at(word: Word) -> usize
+    ensures { λ r. ⌜ r ≤ 3 ⌝ }
+{
+    match word {
+        Word::Length => 3,
+        _ => 2,
+    }
 }
 
 fn run(text: &mut [u8], tape: &mut [u8], spare: &mut [u8]) {
     let count = os::arg_count();
-    if 3 < count {
+    let word = word_at(1);
+    let last = name_at(word);
+    if last + 1 < count {
         wrong_use(b"more than a word and a file");
         return;
     }
-    let word = first();
-    if count < 3 {
-        obey(word, b"-", text, tape, spare);
+    let text_word = word_at(2);
+    if count <= last {
+        obey(word, text_word, b"-", text, tape, spare);
         return;
     }
     let mut name = io::buffer();
-    let n = os::arg(2, &mut name);
+    let n = os::arg(last, &mut name);
     if os::errno() != 0 {
         cannot_read(b"the file");
         return;
     }
-    obey(word, &name[..n], text, tape, spare);
+    obey(word, text_word, &name[..n], text, tape, spare);
 }
 
 fn main() {

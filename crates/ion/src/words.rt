@@ -8,6 +8,7 @@ pub enum Word {
     Lines,
     Pretty,
     Tree,
+    Length,
     Check,
     Show,
     Read,
@@ -30,6 +31,9 @@ pub fn word_of(s: &[u8]) -> Word
     }
     if same_word(s, b"tree") {
         return Word::Tree;
+    }
+    if same_word(s, b"length") {
+        return Word::Length;
     }
     if same_word(s, b"check") {
         return Word::Check;

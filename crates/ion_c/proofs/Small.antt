@@ -9,15 +9,19 @@ use lib.Dec.{leb, ltb, eqb}
 use lib.ListN.{length, drop}
 use borrow.Author.Tests.{leb-true}
 use Rattle.output.specs.Logic.{if, on}
-use Rattle.tape.specs.Answer.{counted, refused}
+use Rattle.tape.specs.Answer.{Outcome, counted, refused}
+use Rattle.tape.specs.Fine.{Bytes}
 use Rattle.tape.specs.Tree.{Nodes, tape}
 use Rattle.reader.specs.Grammar.{meaning}
 use Rattle.reader.specs.Outcome.{fits, tapeAnswer, answer}
 use Rattle.writer.specs.Text.{streamText}
 use Rattle.writer.specs.Outcome.{refusal, measured, answered, streamed}
+use Rattle.measure.specs.Outcome.{textLength}
+use Rattle.measure.proofs.Verdicts.{length-small}
 use Rattle.tree.specs.Text.{treeText}
 use Rattle.tree.specs.Outcome.{written}
 use Rattle.tree.specs.Outcome as tree
+use Rattle.tree.proofs.Verdicts as told
 use Rattle.tape.specs.Tape.{nodesOf}
 use Rattle.line_reader.specs.Cut.{toFirst}
 use Rattle.line_reader.specs.Book.{success, failure, endMark, lineTape, room, byBook}
@@ -32,17 +36,30 @@ measured-small s n h = go (leb (length s) n) refl
     go true e = omega (arith, leb-true (length s) n e)
     go false e = tt
 
-answered-small : (k : ℕ) (s : List ℕ) (n : ℕ) → n < 2 ^ 63 → Small (answered k (measured s n))
-answered-small zero s n h = measured-small s n h
-answered-small (suc k) s n h = tt
+-- a refusal is small, so the rest matters only without one
+answered-small : (k : ℕ) (o : Outcome) → (k ≡ 0 → Small o) → Small (answered k o)
+answered-small zero o h = h refl
+answered-small (suc k) o h = tt
 
 pub streamed-small : (y : ℕ) (t : List ℕ) (n : ℕ) → n < 2 ^ 63 → Small (streamed y t n)
 unfolding streamed
-streamed-small y t n h = answered-small (refusal y t) (streamText y (nodesOf t)) n h
+streamed-small y t n h = answered-small (refusal y t) (measured (streamText y (nodesOf t)) n) (λ _. measured-small (streamText y (nodesOf t)) n h)
 
 pub written-small : (t : List ℕ) (n : ℕ) → n < 2 ^ 63 → Small (written t n)
 unfolding written
-written-small t n h = answered-small (tree.refusal t) (treeText (nodesOf t)) n h
+written-small t n h = answered-small (tree.refusal t) (measured (treeText (nodesOf t)) n) (λ _. measured-small (treeText (nodesOf t)) n h)
+
+-- ---- lengths
+
+pub text-length-small : (y : ℕ) (t : List ℕ) → Bytes t → Small (textLength y t)
+unfolding textLength
+text-length-small y t b = answered-small (refusal y t) (counted (length (streamText y (nodesOf t)))) (length-small y t b)
+
+pub tree-length-small : (t : List ℕ) → Bytes t → Small (tree.treeLength t)
+unfolding tree.treeLength
+tree-length-small t b = answered-small (tree.refusal t) (counted (length (treeText (nodesOf t)))) (told.length-small t b)
+
+-- ---- reading
 
 tape-small : (t : List ℕ) (n : ℕ) → Small (tapeAnswer t n)
 unfolding tapeAnswer fits

@@ -1,9 +1,10 @@
-// The same calls for C and Rust: numbers and byte slices. A `&[u8]` passes as a pointer and a length. A call answers the count of finished
-// bytes, or minus the number of a refusal of document 01's table.
+// The same calls for C and Rust: numbers and byte slices. A `&[u8]` passes as a pointer and a length. A call answers a count of
+// bytes, finished or measured, or minus the number of a refusal of document 01's table.
 ghost use mathlib.Core.Path.{_≡_};
 ghost use lib.ListN.{length};
 ghost use Rattle.tape.specs.Answer.{outcome};
 ghost use Rattle.writer.specs.Outcome.{streamed, leaves};
+ghost use Rattle.measure.specs.Outcome.{textLength};
 ghost use Rattle.tree.specs.Outcome as tree;
 ghost use Rattle.reader.specs.Outcome as read;
 ghost use Rattle.line_reader.specs.Calls.{step};
@@ -48,6 +49,24 @@ pub extern "C" fn ion_write_tree(tape: &[u8], out: &mut [u8]) -> i64
     ensures buffer { λ _. ⌜ now (out .exit) ≡ tree.leaves (now (tape .entry)) (now (out .entry)) ⌝ }
 {
     let a = tree::write_tree(tape, out);
+    code_of(a)
+}
+
+// The length of a tape's text in a layout, in place of the text.
+#[no_mangle]
+pub extern "C" fn ion_length(layout: u32, tape: &[u8]) -> i64
+    ensures { λ r. ⌜ r ≡ code (textLength layout (now (tape .entry))) ⌝ }
+{
+    let a = measure::text_length(layout, tape);
+    code_of(a)
+}
+
+// The length of a tape's tree text.
+#[no_mangle]
+pub extern "C" fn ion_tree_length(tape: &[u8]) -> i64
+    ensures { λ r. ⌜ r ≡ code (tree.treeLength (now (tape .entry))) ⌝ }
+{
+    let a = tree::tree_length(tape);
     code_of(a)
 }
 

@@ -9,7 +9,7 @@ ghost use Rattle.lanes.specs.Lanes.{rep, Lane, every, unmarkedBy, letter
 pub mod digit_words;
 
 // Hex 80 in each of the n lowest bytes. The compiler makes a table of the arms, which has all eight where the last is not the default.
-fn high_bits(n: usize) -> u64
+pub fn high_bits(n: usize) -> u64
     requires { ⌜ (1 ≤ n) × (n ≤ 8) ⌝ }
     ensures { λ r. ⌜ r ≡ rep n 0x80 ⌝ }
 {

@@ -160,7 +160,7 @@ pub fn sum(seen: &[usize; 8]) -> bool
     say_count(seen[TAPES], b" tapes, ");
     say_count(seen[TEXTS], b" texts, ");
     say_count(seen[REFUSALS], b" refusals; ");
-    say_count(seen[WRITES], b" writes, ");
+    say_count(seen[WRITES], b" writes and lengths, ");
     say_count(seen[READS], b" reads; ");
     say_count(seen[DIFFERENCES], b" differences\n");
     seen[DIFFERENCES] == 0

@@ -80,7 +80,7 @@ pub fn u32_at(tape: &[u8], at: usize) -> u64
 }
 
 // Eight bytes, the lowest first.
-fn u64_at(tape: &[u8], at: usize) -> u64
+pub fn u64_at(tape: &[u8], at: usize) -> u64
     requires { ⌜ at + 8 ≤ length (now tape) ⌝ }
     ensures { λ r. ⌜ r ≡ leNumber 8 (drop at (now (tape .entry))) ⌝ }
 {
@@ -191,7 +191,7 @@ fn int_at(tape: &[u8], at: usize, end: usize) -> Scanned
 }
 
 // The float of 64 bits: the one NaN, no other NaN, or the value.
-fn float_of(b: u64) -> Scanned
+pub fn float_of(b: u64) -> Scanned
     ensures { λ r. ⌜ ((l : List ℕ) → scanned r l ≡ floatAs b) ⌝ }
 {
     if b == 0x7FF8_0000_0000_0000 {

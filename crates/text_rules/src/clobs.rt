@@ -85,7 +85,7 @@ fn clob_suspect(b: u8) -> u8
 }
 
 // 0 only where every byte is raw. There is no way out of the loop, so that the compiler makes it a vector loop.
-fn any_clob_suspect(s: &[u8]) -> u8
+pub fn any_clob_suspect(s: &[u8]) -> u8
     ensures { λ r. ⌜ (r ≡ 0 → clobBody (now (s .entry)) ≡ now (s .entry)) ⌝ }
 {
     let mut n = 0;

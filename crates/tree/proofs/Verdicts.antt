@@ -1,4 +1,4 @@
--- The refusals of a tape, and what the tree writer answers and leaves. Assumes nothing.
+-- The refusals of a tape, what the tree writer answers and leaves, and what it says of a text's length. Assumes nothing.
 use Prim.Native.Nat.{ℕ, suc, _+_, _-_, _<_, _≤_}
 use mathlib.Core.Path.{_≡_, refl, sym, ap, subst, _∙_}
 use mathlib.Core.List.{List, [], _∷_}
@@ -12,7 +12,7 @@ use lib.ListN.{length, getD, take, drop}
 use lib.Seq.{length-take-le, getD-take}
 use borrow.Author.Tests.{eq-eqb, ne-eqb, eqb-true, eqb-false}
 use Rattle.output.specs.Logic.{if}
-use Rattle.output.specs.Wrote.{Wrote}
+use Rattle.output.specs.Wrote.{limit, Wrote}
 use Rattle.text_rules.specs.Text.{Sym}
 use Rattle.tape.specs.Bytes.{part, first}
 use Rattle.tape.specs.Tree.{Head, Nodes, marker, nil, more, size}
@@ -24,14 +24,18 @@ use Rattle.tape.specs.Answer.{counted, refused}
 use Rattle.tape.specs.declared.Frame.{Frame}
 use Rattle.tape.specs.declared.Frame.the-variants.{Top}
 use Rattle.tape.proofs.Reading.{value-all}
-use Rattle.tape.proofs.Walking.{walk-end}
+use Rattle.tape.proofs.Walking.{first-zero, verdict-told, walk-end}
 use Rattle.tape.proofs.CodeReading.{value-marker, notes-none}
 use Rattle.tape.proofs.CodeFacts.{first-inner}
 use Rattle.tape.proofs.FineBack.{tape-fine}
 use Rattle.writer.specs.Steps.{items}
 use Rattle.writer.proofs.Verdicts.{answered-refused, left-kept, wrote-laid, wrote-counted, wrote-clipped, nodes-walked}
+use Rattle.measure.specs.Sums.{contents, separators, lasts}
+use Rattle.measure.proofs.TextSums.{tree-sums}
+use Rattle.measure.proofs.Bound.{tape-most}
+use Rattle.measure.proofs.Verdicts.{Summed}
 use Rattle.tree.specs.Text.{treeText}
-use Rattle.tree.specs.Outcome.{isMarker, unsuited, refusal, written, leaves}
+use Rattle.tree.specs.Outcome.{isMarker, unsuited, refusal, written, leaves, treeLength}
 use Rattle.tree.proofs.Texts.{items-tree}
 
 -- ---- the first node is the marker exactly where the first byte is 14
@@ -200,3 +204,44 @@ module _ (t b b′ : List ℕ) (r : ℕ) (m : Bytes t) (v : verdict t ≡ 0) (o 
   pub clipped-by : length b < r → refused 6 ≡ written t (length b)
   unfolding written
   clipped-by h = rw e (wrote-clipped whole h)
+
+-- ---- lengths
+
+pub length-refused : (t : List ℕ) (f : ℕ) → (f ≡ 0 → ⊥) → refusal t ≡ f → refused f ≡ treeLength t
+unfolding treeLength
+length-refused t f nz e = rw e (answered-refused f nz _)
+
+-- the text has its contents, and its separators but those behind the last child of a body
+text-long : (t : List ℕ) → Bytes t → verdict t ≡ 0 → size (nodesOf t) ≡ 1 → length (treeText (nodesOf t)) + lasts Top (nodesOf t) ≡ contents (nodesOf t) + separators Top (nodesOf t)
+text-long t m v o =
+    let w = ap (λ (l : List ℕ). length l) (items-tree 64 (nodesOf t) (tape-fine t m v) o) in
+    let n = tree-sums (nodesOf t) in
+    omega arith
+
+pub length-counted : (t a : List ℕ) → Bytes t → verdict t ≡ 0 → size (bodyOf t .0) ≡ 1 → refusal t ≡ 0 → Summed t a → counted (getD a 0 0 + (getD a 1 0 - getD a 2 0)) ≡ treeLength t
+unfolding treeLength nodesOf
+length-counted t a m v o e s =
+    let n = text-long t m v o in
+    let c = s .contents in
+    let g = s .separators in
+    let b = s .lasts in
+    let f = s .fewer in
+    let l : getD a 0 0 + (getD a 1 0 - getD a 2 0) ≡ length (treeText (nodesOf t)) = omega arith in
+    rw e (ap counted l)
+
+-- a suited tape has one node
+suited : (ns : Nodes) → if {A = ℕ} (unsuited ns) 5 0 ≡ 0 → size ns ≡ 1
+unfolding unsuited size
+suited nil e = absurd (omega arith)
+suited (more h n nil) e = refl
+suited (more h n (more g m ns)) e = absurd (omega arith)
+
+-- a text that is told is not too long
+pub length-small : (t : List ℕ) → Bytes t → refusal t ≡ 0 → length (treeText (nodesOf t)) < limit
+unfolding refusal
+length-small t m e =
+    let z = first-zero (verdict t) (if (unsuited (nodesOf t)) 5 0) e in
+    let n = text-long t m (z .0) (suited (nodesOf t) (z .1)) in
+    let p = tape-most t m (z .0) in
+    let most = verdict-told t (z .0) .most in
+    omega arith

@@ -1,6 +1,7 @@
--- What `write_tree` answers and what it leaves in the buffer, for every tape and buffer. Assumes nothing: these are definitions.
+-- What `write_tree` and `tree_length` answer, and what `write_tree` leaves in the buffer, for every tape and buffer. Assumes nothing: these are definitions.
 use Prim.Native.Nat.{ℕ}
 use mathlib.Core.List.{List}
+use lib.ListN.{length}
 use mathlib.Core.Bool.{Bool, true, false, _||_}
 use Rattle.output.specs.Logic.{if}
 use Rattle.tape.specs.Bytes.{first}
@@ -8,7 +9,7 @@ use Rattle.tape.specs.Tree.{Node, Nodes, scalar, nest, marker, nil, more}
 use Rattle.tape.specs.Tape.{nodesOf}
 use Rattle.tape.specs.Verdict.{verdict}
 use Rattle.tape.specs.Refusal.{numbereds}
-use Rattle.tape.specs.Answer.{Outcome}
+use Rattle.tape.specs.Answer.{Outcome, counted}
 use Rattle.writer.specs.Outcome.{laid, measured, answered, left}
 use Rattle.tree.specs.Text.{treeText}
 
@@ -34,3 +35,7 @@ written t n = answered (refusal t) (measured (treeText (nodesOf t)) n)
 -- the whole buffer after the call: untouched where a refusal comes before measuring, else the text laid at its start
 unfoldable pub leaves : List ℕ → List ℕ → List ℕ
 leaves t b = left (refusal t) (laid (treeText (nodesOf t)) b) b
+
+-- "the exact number of bytes the text will have"; "a tape that the writer would turn down gives the number the writer gives, except that 6 cannot occur"
+unfoldable pub treeLength : List ℕ → Outcome
+treeLength t = answered (refusal t) (counted (length (treeText (nodesOf t))))

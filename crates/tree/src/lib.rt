@@ -2,7 +2,7 @@
 ghost use mathlib.Core.Path.{_≡_};
 ghost use lib.ListN.{length};
 ghost use Rattle.tape.specs.Answer.{outcome};
-ghost use Rattle.tree.specs.Outcome.{written, leaves};
+ghost use Rattle.tree.specs.Outcome.{written, leaves, treeLength};
 use tape::Frame;
 use tape::answer::Answer;
 use writer::value_writer;
@@ -33,4 +33,28 @@ pub fn write_tree(tape: &[u8], out: &mut [u8]) -> Answer
         return Answer::TextTooLong;
     }
     Answer::Count(n)
+}
+
+// The number of bytes that `write_tree` writes of a tape, in a buffer that is long enough; or its refusal, which is never 6.
+pub fn tree_length(tape: &[u8]) -> Answer
+    ensures { λ r. ⌜ outcome r ≡ treeLength (now (tape .entry)) ⌝ }
+{
+    let c = tape::check::check_tape(tape);
+    if c.fault != 0 {
+        return tape::answer::refusal_of(c.fault);
+    }
+    if c.count != 1 {
+        return Answer::Unsuited;
+    }
+    if c.numbered {
+        return Answer::Unsuited;
+    }
+    // the one node is the marker
+    if tape[0] == 14 {
+        return Answer::Unsuited;
+    }
+    let end = tape.len() - 8;
+    let mut sums = [0usize; 4];
+    measure::walk::sum_nodes(tape, 0, end, Frame::Top, 65, &mut sums);
+    Answer::Count(sums[0] + (sums[1] - sums[2]))
 }

@@ -4,22 +4,30 @@ use crate::check::*;
 use crate::tapes::*;
 use lechuqta::*;
 
-type Writer = fn(&[u8], &mut [u8]) -> Result<usize, Refusal>;
+/// A writer, and the length of its text.
+type Writer = (fn(&[u8], &mut [u8]) -> Result<usize, Refusal>, fn(&[u8]) -> Result<usize, Refusal>);
 
-const STREAMS: [Writer; 3] = [|t, out| write(Layout::Compact, t, out), |t, out| write(Layout::Lines, t, out), |t, out| write(Layout::Pretty, t, out)];
+const STREAMS: [Writer; 3] = [
+    (|t, out| write(Layout::Compact, t, out), |t| length(Layout::Compact, t)),
+    (|t, out| write(Layout::Lines, t, out), |t| length(Layout::Lines, t)),
+    (|t, out| write(Layout::Pretty, t, out), |t| length(Layout::Pretty, t)),
+];
 
-/// These writers refuse the tape, in buffers of any length, and touch no byte.
+const TREE: [Writer; 1] = [(write_tree, tree_length)];
+
+/// These writers refuse the tape, in buffers of any length, and touch no byte; and so do the lengths of their texts.
 fn refused(writers: &[Writer], tape: &[u8], refusal: Refusal) {
-    for writer in writers {
+    for (writer, length) in writers {
         for room in [0, 1, 300] {
             check(tape, room, writer, Err(refusal), Left::Untouched);
         }
+        assert_eq!(length(tape), Err(refusal));
     }
 }
 
 fn refused_by_all(tape: &[u8], refusal: Refusal) {
     refused(&STREAMS, tape, refusal);
-    refused(&[write_tree], tape, refusal);
+    refused(&TREE, tape, refusal);
 }
 
 fn broken(node: &[u8]) -> Vec<u8> {
@@ -127,20 +135,22 @@ fn r5_unsuited() {
         vec![annotated(&[symbol("a"), id(4)], int(1))],
     ];
     for nodes in tree {
-        refused(&[write_tree], &tape(nodes), Refusal::Unsuited);
+        refused(&TREE, &tape(nodes), Refusal::Unsuited);
     }
 }
 
 #[test]
 fn r6_text_too_long() {
     let t = tape(&[list(&[string("\u{e9}\n"), clob(b"\xff")]), decimal(true, 116, -9), timestamp(0, [2026, 0, 0, 0, 0, 0], UNKNOWN, 0, 0)]);
-    for (layout, stream) in Layout::ALL.into_iter().zip(STREAMS) {
+    for (layout, (stream, length)) in Layout::ALL.into_iter().zip(STREAMS) {
         let text = to_text(layout, &t).unwrap();
         // Every length of the buffer, escapes and characters cut in two among them.
         for room in 0..text.len() {
             check(&t, room, stream, Err(Refusal::TextTooLong), Left::Begins(&text[..room]));
         }
         check(&t, text.len(), stream, Ok(text.len()), Left::Begins(&text));
+        // The length never is too long.
+        assert_eq!(length(&t), Ok(text.len()));
     }
 }
 
@@ -149,6 +159,7 @@ fn r7_no_layout() {
     // `Layout` cannot ask for it; the library answers it to whoever does.
     extern "C" {
         fn ion_write(layout: u32, tape: *const u8, tape_length: usize, out: *mut u8, out_length: usize) -> i64;
+        fn ion_length(layout: u32, tape: *const u8, tape_length: usize) -> i64;
     }
     for layout in [3, 4, 256, u32::MAX] {
         for tape in [vec![], tape(&[int(1)]), tape(&[float(1.0)])] {
@@ -156,6 +167,8 @@ fn r7_no_layout() {
             let call = |t: &[u8], out: &mut [u8]| unsafe { ion_write(layout, t.as_ptr(), t.len(), out.as_mut_ptr(), out.len()) };
             check(&tape, 40, call, -i64::from(Refusal::NoLayout.number()), Left::Untouched);
             check(&tape, 0, call, -7, Left::Untouched);
+            // SAFETY: the slice is whole.
+            assert_eq!(unsafe { ion_length(layout, tape.as_ptr(), tape.len()) }, -7);
         }
     }
 }

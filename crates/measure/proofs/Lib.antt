@@ -1,0 +1,9 @@
+pub mod MarkLaws
+pub mod EscapeLengths
+pub mod NumberLengths
+pub mod SymbolLengths
+pub mod PartLaws
+pub mod SumSteps
+pub mod TextSums
+pub mod Bound
+pub mod Verdicts

@@ -1,0 +1,118 @@
+-- What text_length answers. Assumes nothing.
+use Prim.Native.Nat.{ℕ, _+_, _-_, _≤_, _<_}
+use mathlib.Core.Path.{_≡_, refl, ap, _∙_}
+use mathlib.Core.List.{List}
+use mathlib.Core.Bool.{Bool, true, false}
+use native.Mathlib.Omega.{arith}
+use lib.Dec.{eqb, ltb}
+use lib.ListN.{length, getD, replicate}
+use borrow.Author.Tests.{eq-eqb, ne-eqb}
+use Rattle.output.specs.Logic.{if}
+use Rattle.output.specs.Wrote.{limit}
+use Rattle.tape.specs.Bytes.{part, first}
+use Rattle.tape.specs.Tree.{Nodes}
+use Rattle.tape.specs.Tape.{walk, bodyOf, nodesOf}
+use Rattle.tape.specs.Fine.{Bytes}
+use Rattle.tape.specs.Verdict.{verdict}
+use Rattle.tape.specs.Refusal.{noteds}
+use Rattle.tape.specs.Answer.{counted, refused}
+use Rattle.tape.specs.declared.Frame.the-variants.{Top}
+use Rattle.tape.proofs.Walking.{first-zero, verdict-told}
+use Rattle.writer.specs.Text.{streamText}
+use Rattle.writer.specs.Outcome.{refusal}
+use Rattle.writer.proofs.Verdicts.{answered-refused, nodes-walked}
+use Rattle.measure.specs.Sums.{contents, separators, lasts, indents, summed}
+use Rattle.measure.specs.Steps.{plus, SumsFit}
+use Rattle.measure.specs.Outcome.{textLength}
+use Rattle.measure.proofs.TextSums.{stream-sums, lasts-most}
+use Rattle.measure.proofs.Bound.{tape-most, tape-indents}
+
+-- ---- the sums of a tape, from nothing on
+
+-- what the walk is asked for
+abbrev pub sumsFrom : List ℕ → List ℕ
+sumsFrom t = plus (replicate 4 0) (summed Top 0 (walk 65 Top (part t 0 (length t - 8)) .0))
+
+-- the four sums of the tape t, and room for their own sum
+pub record Summed (t a : List ℕ) : Type 0 where
+  pub contents : getD a 0 0 ≡ contents (nodesOf t)
+  pub separators : getD a 1 0 ≡ separators Top (nodesOf t)
+  pub lasts : getD a 2 0 ≡ lasts Top (nodesOf t)
+  pub indents : getD a 3 0 ≡ indents 0 (nodesOf t)
+  pub room : getD a 0 0 + getD a 1 0 + getD a 3 0 < limit
+  pub fewer : getD a 2 0 ≤ getD a 1 0
+
+module _ (t : List ℕ) (b : Bytes t) (v : verdict t ≡ 0) where
+  pub sums-told : (a : List ℕ) → a ≡ sumsFrom t → Summed t a
+  unfolding plus summed
+  sums-told a e =
+      let s : a ≡ plus (replicate 4 0) (summed Top 0 (nodesOf t)) = e ∙ ap (λ (ns : Nodes). plus (replicate 4 0) (summed Top 0 ns)) (nodes-walked t) in
+      let c = ap (λ (l : List ℕ). getD l 0 0) s in
+      let g = ap (λ (l : List ℕ). getD l 1 0) s in
+      let l = ap (λ (l : List ℕ). getD l 2 0) s in
+      let i = ap (λ (l : List ℕ). getD l 3 0) s in
+      let most = verdict-told t v .most in
+      let p = tape-most t b v in
+      let q = tape-indents t b v in
+      let r = lasts-most Top (nodesOf t) in
+      record { contents = omega arith; separators = omega arith; lasts = omega arith; indents = omega arith; room = omega arith; fewer = omega arith }
+
+  -- they fit
+  pub sums-small : SumsFit (sumsFrom t)
+  sums-small =
+      let s = sums-told (sumsFrom t) refl in
+      let r = s .room in
+      let f = s .fewer in
+      record { contents = omega arith; separators = omega arith; lasts = omega arith; indents = omega arith }
+
+-- ---- answers
+
+pub refused-by : (y : ℕ) (t : List ℕ) (f : ℕ) → (f ≡ 0 → ⊥) → refusal y t ≡ f → refused f ≡ textLength y t
+unfolding textLength
+refused-by y t f nz e = rw e (answered-refused f nz _)
+
+module _ (y : ℕ) (t a : List ℕ) (e : refusal y t ≡ 0) (z : noteds (bodyOf t .0) ≡ false) (s : Summed t a) where
+  pub counted-plain : (y ≡ 2 → ⊥) → counted (getD a 0 0 + getD a 1 0) ≡ textLength y t
+  unfolding textLength nodesOf
+  counted-plain q =
+      let p : length (streamText y (nodesOf t)) ≡ contents (nodesOf t) + separators Top (nodesOf t) + 0 = rw (ne-eqb _ _ q) at (stream-sums y (nodesOf t) z) in
+      let c = s .contents in
+      let g = s .separators in
+      let l : getD a 0 0 + getD a 1 0 ≡ length (streamText y (nodesOf t)) = omega arith in
+      rw e (ap counted l)
+
+  pub counted-pretty : y ≡ 2 → counted (getD a 0 0 + getD a 1 0 + getD a 3 0) ≡ textLength y t
+  unfolding textLength nodesOf
+  counted-pretty q =
+      let p : length (streamText y (nodesOf t)) ≡ contents (nodesOf t) + separators Top (nodesOf t) + indents 0 (nodesOf t) = rw (eq-eqb _ _ q) at (stream-sums y (nodesOf t) z) in
+      let c = s .contents in
+      let g = s .separators in
+      let i = s .indents in
+      let l : getD a 0 0 + getD a 1 0 + getD a 3 0 ≡ length (streamText y (nodesOf t)) = omega arith in
+      rw e (ap counted l)
+
+-- ---- how long a text that is told is at most, in every layout
+
+-- nothing is wrong with a tape that is not refused
+unrefused : (y : ℕ) (t : List ℕ) → refusal y t ≡ 0 → (verdict t ≡ 0) × (noteds (nodesOf t) ≡ false)
+unfolding refusal
+unrefused y t e = go (ltb 2 y) (noteds (nodesOf t)) e
+  where
+    go : (a b : Bool) → if a 7 (first (verdict t) (if b 5 0)) ≡ 0 → (verdict t ≡ 0) × (b ≡ false)
+    go true b e = absurd (omega arith)
+    go false true e = let z = first-zero (verdict t) 5 e .1 in absurd (omega arith)
+    go false false e = (first-zero (verdict t) 0 e .0, refl)
+
+pub length-small : (y : ℕ) (t : List ℕ) → Bytes t → refusal y t ≡ 0 → length (streamText y (nodesOf t)) < limit
+length-small y t b e =
+    let u = unrefused y t e in
+    let most = verdict-told t (u .0) .most in
+    let p = tape-most t b (u .0) in
+    let q = tape-indents t b (u .0) in
+    let s = stream-sums y (nodesOf t) (u .1) in
+    let i = some-indents (eqb y 2) in
+    omega arith
+  where
+    some-indents : (b : Bool) → if b (indents 0 (nodesOf t)) 0 ≤ indents 0 (nodesOf t)
+    some-indents true = omega arith
+    some-indents false = omega arith

@@ -1,0 +1,27 @@
+-- `escapes::suspect` meets its contract. Assumes nothing.
+use native.Mathlib.Omega.{arith}
+use borrow.Author.Tests.{le-leb, lt-leb, ne-eqb}
+use Rattle.text_rules.specs.Escapes.{hasLetter, textEscape}
+use Rattle.measure.proofs.escapes.suspect.Statement.{statement}
+use Rattle.measure.proofs.escapes.suspect.Tie as tie
+
+returns : tie.Need-returns
+returns c = λ e. absurd (omega arith)
+
+returns-2 : tie.Need-returns-2
+returns-2 c = λ e. absurd (omega arith)
+
+returns-3 : tie.Need-returns-3
+returns-3 c = λ e. absurd (omega arith)
+
+returns-4 : tie.Need-returns-4
+returns-4 c = λ e. absurd (omega arith)
+
+returns-5 : tie.Need-returns-5
+unfolding textEscape hasLetter
+returns-5 c =
+    let b = c .before .before .before .before .args .b in
+    λ e. simp (ne-eqb b 0 (λ z. omega arith), le-leb 7 b (omega arith), lt-leb b 13 (omega arith), ne-eqb _ _ (c .before .before .if2 .left), ne-eqb _ _ (c .before .if3 .left), ne-eqb _ _ (c .if4 .left))
+
+pub suspect-spec : {M : Type 1} → statement M
+suspect-spec = tie.close (tie.spec returns returns-2 returns-3 returns-4 returns-5)

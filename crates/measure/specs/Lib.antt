@@ -1,0 +1,4 @@
+pub mod MarkSteps
+pub mod Sums
+pub mod Steps
+pub mod Outcome

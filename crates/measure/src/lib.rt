@@ -1,0 +1,40 @@
+// The length of a tape's text, worked out in place of writing it.
+ghost use mathlib.Core.Path.{_≡_};
+ghost use Rattle.tape.specs.Answer.{outcome};
+ghost use Rattle.measure.specs.Outcome.{textLength};
+use tape::Frame;
+use tape::answer::Answer;
+
+pub mod clobs;
+pub mod decimal;
+pub mod escapes;
+pub mod int;
+pub mod marks;
+pub mod parts;
+pub mod text_formatter;
+pub mod timestamp;
+pub mod walk;
+
+// The number of bytes that `write_stream` writes of a tape in a layout, in a buffer that is long enough; or its refusal, which is never 6.
+pub fn text_length(layout: u32, tape: &[u8]) -> Answer
+    ensures { λ r. ⌜ outcome r ≡ textLength layout (now (tape .entry)) ⌝ }
+{
+    if 2 < layout {
+        return Answer::NoLayout;
+    }
+    let c = tape::check::check_tape(tape);
+    if c.fault != 0 {
+        return tape::answer::refusal_of(c.fault);
+    }
+    if c.noted {
+        return Answer::Unsuited;
+    }
+    let end = tape.len() - 8;
+    let mut sums = [0usize; 4];
+    walk::sum_nodes(tape, 0, end, Frame::Top, 65, &mut sums);
+    let n = sums[0] + sums[1];
+    if layout == 2 {
+        return Answer::Count(n + sums[3]);
+    }
+    Answer::Count(n)
+}

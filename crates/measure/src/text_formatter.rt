@@ -1,0 +1,197 @@
+// The lengths of what `text_rules::text_formatter` writes: nulls, bools, floats, identifiers, strings, symbols.
+ghost use Prim.Native.Nat.{_+_, _-_, _<_, _≤_};
+ghost use mathlib.Core.Path.{_≡_};
+ghost use mathlib.Core.Bool.{true};
+ghost use mathlib.Core.List.{_++_};
+ghost use lib.ListN.{length, take, drop};
+ghost use Rattle.output.specs.Wrote.{leBytes};
+ghost use Rattle.text_rules.specs.Text.{symbolText, symbolIdText, stringText, nullText, boolText, bitsText, floatText};
+ghost use Rattle.text_rules.specs.WordSteps.{allPart, isBare};
+ghost use Rattle.measure.specs.MarkSteps.{bareKind};
+use text_rules::words::Kind;
+
+pub fn null_length(t: u8) -> usize
+    ensures { λ r. ⌜ r ≡ length (nullText t) ⌝ }
+{
+    match t {
+        0 => 4,
+        1 => 9,
+        2 => 8,
+        3 => 10,
+        4 => 12,
+        5 => 14,
+        6 => 11,
+        7 => 11,
+        8 => 9,
+        9 => 9,
+        10 => 9,
+        11 => 9,
+        12 => 11,
+        _ => 5,
+    }
+}
+
+pub fn bool_length(b: bool) -> usize
+    ensures { λ r. ⌜ r ≡ length (boolText b) ⌝ }
+{
+    if b { 4 } else { 5 }
+}
+
+// Of a float by its bits, which are no NaN's.
+fn float_bits_length(b: u64) -> usize
+    ensures { λ r. ⌜ r ≡ length (bitsText b) ⌝ }
+{
+    if b == 0x7FF0_0000_0000_0000 {
+        return 4;
+    }
+    if b == 0xFFF0_0000_0000_0000 {
+        return 4;
+    }
+    if b == 0 {
+        return 3;
+    }
+    if b == 0x8000_0000_0000_0000 {
+        return 4;
+    }
+    0
+}
+
+pub fn float_length(x: f64) -> usize
+    ensures { λ r. ⌜ r ≡ length (floatText x) ⌝ }
+{
+    if x != x {
+        return 3;
+    }
+    float_bits_length(f64::to_bits(x))
+}
+
+pub fn symbol_id_length(n: u32) -> usize
+    ensures { λ r. ⌜ r ≡ length (symbolIdText n) ⌝ }
+{
+    1 + text_rules::digits::digit_count(n as u64)
+}
+
+// A string that is the n bytes of s from a place on, behind which eight bytes stand.
+pub fn string_length_at(s: &[u8], from: usize, n: usize) -> usize
+    requires { ⌜ from + n + 8 ≤ length (now s) ⌝ }
+    ensures { λ r. ⌜ r ≡ length (stringText (take n (drop from (now (s .entry))))) ⌝ }
+{
+    crate::escapes::escaped_text_body_length(s, from, n) + 2
+}
+
+// ---- symbols, by their bytes in words
+
+// The n lowest bytes of x are small letters and no keyword: as a symbol they stand bare. It may say no too often. Names are mostly of small letters, for
+// which the test has fewer steps than that of `is_plain`.
+pub fn is_lower(x: u64, n: usize) -> bool
+    requires { ⌜ (1 ≤ n) × (n ≤ 8) ⌝ }
+    ensures { λ r. ⌜ (r ≡ true → symbolText (leBytes n x) ≡ leBytes n x) ⌝ }
+{
+    if !crate::marks::is_lower_word(x, n) {
+        return false;
+    }
+    if text_rules::short_words::starts_no_keyword(x) {
+        return true;
+    }
+    !text_rules::short_words::is_keyword_word(x, n)
+}
+
+// Of the n lowest bytes of x, eight at most; 0 where that is not told, as they start with `$` or a digit.
+pub fn short_symbol_length(x: u64, n: usize) -> usize
+    requires { ⌜ (1 ≤ n) × (n ≤ 8) ⌝ }
+    ensures { λ r. ⌜ (0 < r → r ≡ length (symbolText (leBytes n x))) ⌝ }
+{
+    if lanes::is_identifier_word(x, n) {
+        if lanes::starts_with_letter(x) {
+            if text_rules::short_words::is_keyword_word(x, n) {
+                return n + 2;
+            }
+            return n;
+        }
+        return 0;
+    }
+    n + 2 + crate::marks::escaped_count(x, n)
+}
+
+// Of the eight bytes of x and the n - 8 lowest of y, sixteen at most; 0 where that is not told, as they start with `$` or a digit.
+pub fn long_symbol_length(x: u64, y: u64, n: usize) -> usize
+    requires { ⌜ (9 ≤ n) × (n ≤ 16) ⌝ }
+    ensures { λ r. ⌜ (0 < r → r ≡ length (symbolText (leBytes 8 x ++ leBytes (n - 8) y))) ⌝ }
+{
+    if lanes::is_identifier_word(x, 8) {
+        if lanes::is_identifier_word(y, n - 8) {
+            if lanes::starts_with_letter(x) {
+                return n;
+            }
+            return 0;
+        }
+    }
+    n + 2 + crate::marks::escaped_count(x, 8) + crate::marks::escaped_count(y, n - 8)
+}
+
+// The n bytes of s from a place on are letters, digits, `_` and `$`.
+fn is_word_at(s: &[u8], from: usize, n: usize) -> bool
+    requires { ⌜ (1 ≤ n) × (from + n + 8 ≤ length (now s)) ⌝ }
+    ensures { λ r. ⌜ r ≡ allPart (take n (drop from (now (s .entry)))) ⌝ }
+{
+    let mut i: usize = 0;
+    while i + 8 < n {
+        if !lanes::is_identifier_word(output::word_at(s, from + i), 8) {
+            return false;
+        }
+        i += 8;
+    }
+    lanes::is_identifier_word(output::word_at(s, from + i), n - i)
+}
+
+// A word of identifier bytes stands bare where it would be read as a symbol's text.
+fn is_text(kind: Kind) -> bool
+    ensures { λ r. ⌜ r ≡ bareKind kind ⌝ }
+{
+    match kind {
+        Kind::Text => true,
+        _ => false,
+    }
+}
+
+// Whether text that has bytes of identifiers alone stands bare as a symbol.
+fn stands_bare(text: &[u8]) -> bool
+    ensures { λ r. ⌜ (allPart (now (text .entry)) ≡ true → r ≡ isBare (now (text .entry))) ⌝ }
+{
+    let w = text_rules::words::word_at(text, 0);
+    let k = w.kind;
+    is_text(k)
+}
+
+// A symbol that is the n bytes of s from a place on, behind which eight bytes stand. It asks for words first, as the walk does before it calls this: so
+// `short_symbol_length` and `long_symbol_length` have two callers and are not built into the walk.
+pub fn symbol_length_at(s: &[u8], from: usize, n: usize) -> usize
+    requires { ⌜ from + n + 8 ≤ length (now s) ⌝ }
+    ensures { λ r. ⌜ r ≡ length (symbolText (take n (drop from (now (s .entry))))) ⌝ }
+{
+    if n == 0 {
+        return 2;
+    }
+    if n <= 8 {
+        let r = short_symbol_length(output::word_at(s, from), n);
+        if r != 0 {
+            return r;
+        }
+    } else {
+        if n <= 16 {
+            let r = long_symbol_length(output::word_at(s, from), output::word_at(s, from + 8), n);
+            if r != 0 {
+                return r;
+            }
+        }
+    }
+    if is_word_at(s, from, n) {
+        let to = from + n;
+        if stands_bare(&s[from..to]) {
+            return n;
+        }
+        // no byte of these is escaped
+        return n + 2;
+    }
+    crate::escapes::escaped_text_body_length(s, from, n) + 2
+}
