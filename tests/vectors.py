@@ -176,6 +176,17 @@ for b in range(256):
         add(struct_((('sym', c), ('str', c + b'z'))))
         add(notes(('str', c), ('sym', c), ('sym', b'_' + c)))
 
+section('symbols, names, annotations and strings of up to nine words of eight bytes, with one byte that is otherwise')
+STEM, DIGITS = b'Small_letters_and_Capitals' * 3, b'1234567890' * 7
+for n in 7, 8, 9, 12, 15, 16, 17, 20, 27, 31, 32, 33, 40, 48, 64, 65:
+    for odd in b'', b'"', b"'", b'\\', b'\0', b'\x0b', b'\r', b'\x1f', b' ', b'$', b'7', 'é'.encode():
+        texts = sorted({STEM[:i] + odd + STEM[i + len(odd):n] for i in (0, n // 2, n - len(odd))})
+        add(struct_(*((('sym', x), list_(('sym', x), ('str', x))) for x in texts)))
+        add(notes(string('a'), *(('sym', x) for x in texts)))
+    words = [b'$' + DIGITS[1:n], DIGITS[:n], b'$ion_' + DIGITS[:n - 7] + b'_1', b'$ion_1_' + DIGITS[:n - 7], b'$' + STEM[:n - 1], b'_' + DIGITS[:n - 1]]
+    add(struct_(*((('sym', x), ('sym', x)) for x in words)))
+    add(notes(NULL, *(('sym', x) for x in words)))
+
 section('UTF-8: borders of one to four bytes, and what is broken')
 BORDERS = [b'\x7f', b'\xc2\x80', b'\xdf\xbf', b'\xe0\xa0\x80', b'\xe0\xbf\xbf', b'\xe1\x80\x80', b'\xec\xbf\xbf', b'\xed\x80\x80', b'\xed\x9f\xbf',
            b'\xee\x80\x80', b'\xef\xbf\xbf', b'\xef\xbb\xbf', b'\xf0\x90\x80\x80', b'\xf1\x80\x80\x80', b'\xf3\xbf\xbf\xbf', b'\xf4\x80\x80\x80',

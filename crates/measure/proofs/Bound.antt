@@ -1,8 +1,8 @@
 -- How long a text is at most, by the length of its tape. Assumes nothing.
 use Prim.Native.Nat.{ℕ, zero, suc, _+_, _*_, _≤_}
-use mathlib.Core.Path.{_≡_, refl, ap}
+use mathlib.Core.Path.{_≡_, refl, ap, subst}
 use mathlib.Core.List.{List, [], _∷_}
-use mathlib.Core.Bool.{Bool, true, false, _||_}
+use mathlib.Core.Bool.{Bool, true, false}
 use mathlib.Core.Option.{Option, none, some}
 use native.Mathlib.Omega.{arith}
 use lib.Dec.{eqb}
@@ -12,19 +12,20 @@ use borrow.Author.Tests.{ne-eqb, le-ltb}
 use Rattle.output.specs.Logic.{if, byte, ascii}
 use Rattle.output.specs.Wrote.{leBytes}
 use Rattle.output.proofs.Laws.{length-le}
-use Rattle.text_rules.specs.Words.{isKeyword, resemblesSymbolId, resemblesVersionMarker, isIdentifier}
-use Rattle.text_rules.specs.Escapes.{textBody, clobBody}
-use Rattle.text_rules.specs.Text.{Sym, marked, symbolText, stringText, clobText, typeName, nullText, boolText, bitsText, floatText}
+use Rattle.text_rules.specs.Escapes.{clobBody}
+use Rattle.text_rules.specs.Text.{Sym, stringText, clobText, typeName, nullText, boolText, bitsText, floatText}
+use Rattle.numbers.specs.declared.timestamp.Timestamp.{Timestamp}
+use Rattle.numbers.specs.Timestamp.{wellFormed}
 use Rattle.tape.specs.Bytes.{first}
 use Rattle.tape.specs.Tree.{Scalar, Head, Node, Nodes, null, bool, int, float, decimal, timestamp, symbol, string, clob, scalar, nest, marker, nil, more, size, sized, encodeTimestamp, encodeSym, encodeScalar, encodeSyms, encodeName, encodeNotes, encodeHead, encode, encodes, tape}
-use Rattle.tape.specs.Tape.{nodesOf}
+use Rattle.tape.specs.Tape.{scalarFault, nodesOf}
 use Rattle.tape.specs.Fine.{Bytes, FineScalar, Fine, Fines}
 use Rattle.tape.specs.Verdict.{verdict}
 use Rattle.tape.specs.Refusal.{noteds}
 use Rattle.tape.specs.Answer.{Outcome, counted, ended, refused, numberOf}
 use Rattle.tape.specs.declared.Frame.{Frame}
 use Rattle.tape.specs.declared.Frame.the-variants.{Top, List as ListF, Sexp, Struct}
-use Rattle.tape.proofs.Walking.{first-zero, tape-back}
+use Rattle.tape.proofs.Walking.{first-zero, if-zero-else, tape-back}
 use Rattle.tape.proofs.FineBack.{tape-fine}
 use Rattle.writer.specs.Text.{symText, scalarText, nameText, notesText, opening, closing, separator, broken, deeper, streamText}
 use Rattle.writer.specs.Outcome.{refusal, answered}
@@ -86,22 +87,33 @@ unfolding symText encodeSym
 sym-most (Sym.text s) = let a = symbol-most s in let b = sized-long s in omega arith
 sym-most (Sym.id n) = let a = id-most n in let b = length-le 4 n in omega arith
 
+-- a timestamp stands in the calendar
+abbrev Dated : Scalar → Type 0
+Dated s = (x : Timestamp) → s ≡ timestamp x → wellFormed x ≡ true
+
+fine-dated : (s : Scalar) → FineScalar s → Dated s
+fine-dated s f x e = subst FineScalar e f
+
 -- a scalar and its separator
-scalar-most : (s : Scalar) → FineScalar s → length (scalarText s) + 2 ≤ longest (length (encodeScalar s))
+scalar-most : (s : Scalar) → Dated s → length (scalarText s) + 2 ≤ longest (length (encodeScalar s))
 unfolding scalarText encodeScalar encodeTimestamp stringText leBytes
 scalar-most (null t) f = let a = null-most t in omega arith
 scalar-most (bool b) f = let a = bool-most b in omega arith
 scalar-most (int n) f = let a = int-most n in omega arith
 scalar-most (float x) f = let a = float-most x in omega arith
 scalar-most (decimal neg m e) f = let a = decimal-most neg m e in omega arith
-scalar-most (timestamp x) f = let a = timestamp-most x f in omega arith
+scalar-most (timestamp x) f = let a = timestamp-most x (f x refl) in omega arith
 scalar-most (symbol s) f = let a = sym-most s in omega arith
 scalar-most (string s) f = let a = quoted-most (byte "\"") s in let b = sized-long s in omega arith
 scalar-most (clob s) f = let a = clob-most s in let b = sized-long s in omega arith
 
+pub sound-most : (s : Scalar) → scalarFault s ≡ 0 → length (scalarText s) + 2 ≤ longest (length (encodeScalar s))
+unfolding scalarFault
+sound-most s z = scalar-most s (λ x e. if-zero-else (wellFormed x) 1 (subst (λ (s : Scalar). scalarFault s ≡ 0) e z))
+
 -- ---- what stands before a value
 
-name-most : (a : Option Sym) → length (nameText a) ≤ longest (length (encodeName a))
+pub name-most : (a : Option Sym) → length (nameText a) ≤ longest (length (encodeName a))
 unfolding nameText encodeName
 name-most none = omega arith
 name-most (some s) = let a = sym-most s in let b = length-append (symText s) (ascii ": ") in omega arith
@@ -116,7 +128,7 @@ syms-most (s ∷ ss) =
     let d = syms-most ss in
     omega arith
 
-notes-most : (ss : List Sym) → length (notesText ss) ≤ longest (length (encodeNotes ss))
+pub notes-most : (ss : List Sym) → length (notesText ss) ≤ longest (length (encodeNotes ss))
 unfolding encodeNotes notesText
 notes-most [] = omega arith
 notes-most (s ∷ ss) = let a = syms-most (s ∷ ss) in omega arith
@@ -131,7 +143,7 @@ front-most h =
 
 -- ---- nodes
 
-gap-most : (k : Frame) → separatorLength k ≤ 2
+pub gap-most : (k : Frame) → separatorLength k ≤ 2
 unfolding separator
 gap-most Top = omega arith
 gap-most ListF = omega arith
@@ -162,7 +174,7 @@ mutual
   unfolding contentsOf contents separatorsOf separators encode encodes separator Fine Fines
 
   node-most : (d : ℕ) (k : Frame) (ss : List Sym) (n : Node) → Fine d k ss n → contentsOf n + separatorsOf n + separatorLength k ≤ longest (length (encode n))
-  node-most d k ss (scalar s) f = let a = scalar-most s f in let b = gap-most k in omega arith
+  node-most d k ss (scalar s) f = let a = scalar-most s (fine-dated s f) in let b = gap-most k in omega arith
   node-most zero k ss (nest g ns) f = absurd f
   node-most (suc d) k ss (nest g ns) f =
       let a = nodes-most d g ns (f .2) in
@@ -190,7 +202,7 @@ mutual
   unfolding indentsOf indents broken deeper encode encodes Fine Fines
 
   node-indents : (d w : ℕ) (k : Frame) (ss : List Sym) (n : Node) → w + 2 * d ≤ 130 → Fine d k ss n → w + indentsOf w n ≤ 130 * length (encode n)
-  node-indents d w k ss (scalar s) h f = let a = scalar-most s f in omega arith
+  node-indents d w k ss (scalar s) h f = let a = scalar-most s (fine-dated s f) in omega arith
   node-indents zero w k ss (nest g ns) h f = absurd f
   node-indents (suc d) w k ss (nest g ns) h f =
       let a = nodes-indents d (w + 2) g ns (omega arith) (f .2) in

@@ -6,15 +6,16 @@ use Prim.Native.Nat.{ℕ, zero, suc, _+_, _*_, _/_, _%_, _≤_, _<_}
 use native.Mathlib.Omega.{arith}
 use lib.Dec.{leb}
 use lib.ListN.{length, take, drop, length-append, length-take}
-use lib.Seq.{take-add}
+use lib.Seq.{take-add, drop-drop, take-append-seam, drop-append-seam}
 use Rattle.output.specs.Logic.{if, byte, ascii}
 use Rattle.output.specs.Wrote.{leBytes}
-use Rattle.lanes.specs.Lanes.{unmarkedBy}
+use Rattle.lanes.specs.Lanes.{every, unmarkedBy, noRaw}
 use Rattle.lanes.proofs.Table.{same as agree}
 use Rattle.text_rules.specs.Escapes.{letterOf, hasLetter, hexDigit, textEscape, textBody, clobEscape, clobBody}
 use Rattle.text_rules.specs.Words.{isKeyword, resemblesSymbolId, resemblesVersionMarker, isIdentifier}
 use Rattle.text_rules.specs.Text.{symbolText, marked, clobText}
-use Rattle.text_rules.proofs.EscapesLaws.{escape-short}
+use Rattle.text_rules.proofs.EscapesLaws.{escape-short, body-part}
+use Rattle.text_rules.proofs.LaneTests.{raw-word, word-part}
 use Rattle.measure.specs.MarkSteps.{escapeMark, markedCount}
 
 -- ---- text
@@ -44,6 +45,19 @@ body-more l i k c x h e =
     let q : length (textBody (take (i + k) l)) ≡ length (textBody (take i l)) + length (textBody (leBytes k x)) =
     rw (take-add i k l, e) (body-length-append (take i l) (take k (drop i l))) in
     omega (arith, q, escaped-length k x)
+
+-- raw text in two parts is raw
+raw-both : (s t : List ℕ) → textBody s ≡ s → textBody t ≡ t → textBody (s ++ t) ≡ s ++ t
+raw-both s t h e =
+    let z : 0 + length s ≡ length s = omega arith in
+    body-part (s ++ t) 0 (length s) (rw (take-append-seam s t) h) (rw (z, drop-append-seam s t) e)
+
+-- i raw bytes from a place on and k more, which a word has
+pub raw-more : (s : List ℕ) (from i k x : ℕ) → k ≤ 8 → leBytes 8 x ≡ take 8 (drop (from + i) s) → every (unmarkedBy noRaw) (leBytes k x) ≡ true
+    → textBody (take i (drop from s)) ≡ take i (drop from s) → textBody (take (i + k) (drop from s)) ≡ take (i + k) (drop from s)
+raw-more s from i k x l e r h =
+    let b : leBytes k x ≡ take k (drop i (drop from s)) = rw (drop-drop i from s) (word-part s (from + i) k x l e) in
+    rw (take-add i k (drop from s)) (raw-both (take i (drop from s)) (take k (drop i (drop from s))) h (rw b at (raw-word k x r)))
 
 -- at most twice as long as the text
 pub text-body-most : (s : List ℕ) → length (textBody s) ≤ 2 * length s

@@ -1,6 +1,6 @@
--- What text_length answers. Assumes nothing.
-use Prim.Native.Nat.{ℕ, _+_, _-_, _≤_, _<_}
-use mathlib.Core.Path.{_≡_, refl, ap, _∙_}
+-- What measure_tape and text_length answer. Assumes nothing.
+use Prim.Native.Nat.{ℕ, _+_, _≤_, _<_}
+use mathlib.Core.Path.{_≡_, refl, ap}
 use mathlib.Core.List.{List}
 use mathlib.Core.Bool.{Bool, true, false}
 use native.Mathlib.Omega.{arith}
@@ -9,29 +9,37 @@ use lib.ListN.{length, getD, replicate}
 use borrow.Author.Tests.{eq-eqb, ne-eqb}
 use Rattle.output.specs.Logic.{if}
 use Rattle.output.specs.Wrote.{limit}
-use Rattle.tape.specs.Bytes.{part, first}
-use Rattle.tape.specs.Tree.{Nodes}
-use Rattle.tape.specs.Tape.{walk, bodyOf, nodesOf}
+use Rattle.tape.specs.Bytes.{first}
+use Rattle.tape.specs.Tape.{Walked, bodyOf, nodesOf}
 use Rattle.tape.specs.Fine.{Bytes}
 use Rattle.tape.specs.Verdict.{verdict}
-use Rattle.tape.specs.Refusal.{noteds}
+use Rattle.tape.specs.Refusal.{noteds, numbereds}
 use Rattle.tape.specs.Answer.{counted, refused}
+use Rattle.tape.specs.CheckSteps.{Checks}
 use Rattle.tape.specs.declared.Frame.the-variants.{Top}
 use Rattle.tape.proofs.Walking.{first-zero, verdict-told}
 use Rattle.writer.specs.Text.{streamText}
 use Rattle.writer.specs.Outcome.{refusal}
-use Rattle.writer.proofs.Verdicts.{answered-refused, nodes-walked}
+use Rattle.writer.proofs.Verdicts.{answered-refused}
 use Rattle.measure.specs.Sums.{contents, separators, lasts, indents, summed}
-use Rattle.measure.specs.Steps.{plus, SumsFit}
+use Rattle.measure.specs.Steps.{flagged, met}
 use Rattle.measure.specs.Outcome.{textLength}
 use Rattle.measure.proofs.TextSums.{stream-sums, lasts-most}
 use Rattle.measure.proofs.Bound.{tape-most, tape-indents}
 
--- ---- the sums of a tape, from nothing on
+-- ---- what the walk has met, as validation says it
 
--- what the walk is asked for
-abbrev pub sumsFrom : List ℕ → List ℕ
-sumsFrom t = plus (replicate 4 0) (summed Top 0 (walk 65 Top (part t 0 (length t - 8)) .0))
+flag-back : (b : Bool) → eqb (flagged 0 b) 1 ≡ b
+flag-back true = refl
+flag-back false = refl
+
+-- of the nodes w, without a problem where f is 0, seen was met
+module _ (w : Walked) (f : ℕ) (z : f ≡ w .1) (seen : List ℕ) (e : f ≡ 0 → seen ≡ met (replicate 3 0) (w .0)) where
+  pub met-checks : Checks w (record { fault = f; count = getD seen 2 0; noted = eqb (getD seen 0 0) 1; numbered = eqb (getD seen 1 0) 1 })
+  unfolding met
+  met-checks = record { fault = z; counts = λ y. rw (e y) (record { count = refl; noted = flag-back (noteds (w .0)); numbered = flag-back (numbereds (w .0)) }) }
+
+-- ---- the sums of a tape, from nothing on
 
 -- the four sums of the tape t, and room for their own sum
 pub record Summed (t a : List ℕ) : Type 0 where
@@ -42,28 +50,18 @@ pub record Summed (t a : List ℕ) : Type 0 where
   pub room : getD a 0 0 + getD a 1 0 + getD a 3 0 < limit
   pub fewer : getD a 2 0 ≤ getD a 1 0
 
-module _ (t : List ℕ) (b : Bytes t) (v : verdict t ≡ 0) where
-  pub sums-told : (a : List ℕ) → a ≡ sumsFrom t → Summed t a
-  unfolding plus summed
-  sums-told a e =
-      let s : a ≡ plus (replicate 4 0) (summed Top 0 (nodesOf t)) = e ∙ ap (λ (ns : Nodes). plus (replicate 4 0) (summed Top 0 ns)) (nodes-walked t) in
-      let c = ap (λ (l : List ℕ). getD l 0 0) s in
-      let g = ap (λ (l : List ℕ). getD l 1 0) s in
-      let l = ap (λ (l : List ℕ). getD l 2 0) s in
-      let i = ap (λ (l : List ℕ). getD l 3 0) s in
-      let most = verdict-told t v .most in
-      let p = tape-most t b v in
-      let q = tape-indents t b v in
-      let r = lasts-most Top (nodesOf t) in
-      record { contents = omega arith; separators = omega arith; lasts = omega arith; indents = omega arith; room = omega arith; fewer = omega arith }
-
-  -- they fit
-  pub sums-small : SumsFit (sumsFrom t)
-  sums-small =
-      let s = sums-told (sumsFrom t) refl in
-      let r = s .room in
-      let f = s .fewer in
-      record { contents = omega arith; separators = omega arith; lasts = omega arith; indents = omega arith }
+pub sums-told : (t : List ℕ) → Bytes t → verdict t ≡ 0 → (a : List ℕ) → a ≡ summed Top 0 (nodesOf t) → Summed t a
+unfolding summed
+sums-told t b v a e =
+    let c = ap (λ (l : List ℕ). getD l 0 0) e in
+    let g = ap (λ (l : List ℕ). getD l 1 0) e in
+    let l = ap (λ (l : List ℕ). getD l 2 0) e in
+    let i = ap (λ (l : List ℕ). getD l 3 0) e in
+    let most = verdict-told t v .most in
+    let p = tape-most t b v in
+    let q = tape-indents t b v in
+    let r = lasts-most Top (nodesOf t) in
+    record { contents = omega arith; separators = omega arith; lasts = omega arith; indents = omega arith; room = omega arith; fewer = omega arith }
 
 -- ---- answers
 

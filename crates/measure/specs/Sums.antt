@@ -6,9 +6,9 @@ use mathlib.Core.Bool.{Bool}
 use lib.ListN.{length}
 use Rattle.output.specs.Logic.{if, ascii}
 use Rattle.tape.specs.Tree.{Head, Node, Nodes, scalar, nest, marker, nil, more}
-use Rattle.tape.specs.Tape.{reading, scalarOf}
+use Rattle.tape.specs.Tape.{reading, symOf, scalarOf}
 use Rattle.tape.specs.declared.Frame.{Frame}
-use Rattle.writer.specs.Text.{scalarText, nameText, notesText, opening, closing, separator, broken, deeper}
+use Rattle.writer.specs.Text.{symText, scalarText, nameText, notesText, opening, closing, separator, broken, deeper}
 use Rattle.writer.specs.Steps.{isNil}
 
 -- ---- contents: scalars, markers, brackets, names with their `: `, annotations with their `::`
@@ -72,3 +72,7 @@ summed k w ns = contents ns ∷ separators k ns ∷ lasts k ns ∷ indents w ns 
 -- the length of the text of the scalar that the bytes l start with
 abbrev pub leafLength : List ℕ → ℕ
 leafLength l = length (reading (scalarOf l) [] (λ s n. scalarText s))
+
+-- the length of the text of the symbol that they start with
+abbrev pub symLength : List ℕ → ℕ
+symLength l = length (reading (symOf l) [] (λ s n. symText s))

@@ -1,6 +1,7 @@
 // The length of the body of quoted text and strings.
 ghost use Prim.Native.Nat.{_+_, _≤_, min};
 ghost use mathlib.Core.Path.{_≡_};
+ghost use mathlib.Core.Bool.{true};
 ghost use mathlib.Core.List.{[], _∷_};
 ghost use lib.ListN.{length, take, drop};
 ghost use Rattle.text_rules.specs.Escapes.{textEscape, textBody};
@@ -59,17 +60,44 @@ fn escapes_at(s: &[u8], from: usize, n: usize) -> usize
     c
 }
 
-// The length of the body of the n bytes of s from a place on, behind which eight bytes stand. Long text is looked through for escapes at first, which
-// takes many bytes at a time.
+// True only where the n bytes of s from a place on are raw, word by word.
+fn is_raw_at(s: &[u8], from: usize, n: usize) -> bool
+    requires { ⌜ (1 ≤ n) × (from + n + 8 ≤ length (now s)) ⌝ }
+    ensures { λ r. ⌜ (r ≡ true → textBody (take n (drop from (now (s .entry)))) ≡ take n (drop from (now (s .entry)))) ⌝ }
+{
+    let mut i: usize = 0;
+    while i + 8 < n {
+        if !lanes::is_raw_word(output::word_at(s, from + i), 8) {
+            return false;
+        }
+        i += 8;
+    }
+    lanes::is_raw_word(output::word_at(s, from + i), n - i)
+}
+
+// The same for bytes of any number: long text is looked through many bytes at a time. Of eight bytes at most it says no: these are one word, whose escapes are
+// counted as soon.
+fn is_raw(s: &[u8], from: usize, n: usize) -> bool
+    requires { ⌜ from + n + 8 ≤ length (now s) ⌝ }
+    ensures { λ r. ⌜ (r ≡ true → textBody (take n (drop from (now (s .entry)))) ≡ take n (drop from (now (s .entry)))) ⌝ }
+{
+    if n < 9 {
+        return false;
+    }
+    if n < 32 {
+        return is_raw_at(s, from, n);
+    }
+    let to = from + n;
+    any_suspect(&s[from..to]) == 0
+}
+
+// The length of the body of the n bytes of s from a place on, behind which eight bytes stand. Most text has no escapes, which is asked first.
 pub fn escaped_text_body_length(s: &[u8], from: usize, n: usize) -> usize
     requires { ⌜ from + n + 8 ≤ length (now s) ⌝ }
     ensures { λ r. ⌜ r ≡ length (textBody (take n (drop from (now (s .entry))))) ⌝ }
 {
-    if 32 <= n {
-        let to = from + n;
-        if any_suspect(&s[from..to]) == 0 {
-            return n;
-        }
+    if is_raw(s, from, n) {
+        return n;
     }
     n + escapes_at(s, from, n)
 }

@@ -2,7 +2,6 @@
 ghost use mathlib.Core.Path.{_≡_};
 ghost use Rattle.tape.specs.Answer.{outcome};
 ghost use Rattle.measure.specs.Outcome.{textLength};
-use tape::Frame;
 use tape::answer::Answer;
 
 pub mod clobs;
@@ -22,16 +21,14 @@ pub fn text_length(layout: u32, tape: &[u8]) -> Answer
     if 2 < layout {
         return Answer::NoLayout;
     }
-    let c = tape::check::check_tape(tape);
+    let mut sums = [0usize; 4];
+    let c = walk::measure_tape(tape, &mut sums);
     if c.fault != 0 {
         return tape::answer::refusal_of(c.fault);
     }
     if c.noted {
         return Answer::Unsuited;
     }
-    let end = tape.len() - 8;
-    let mut sums = [0usize; 4];
-    walk::sum_nodes(tape, 0, end, Frame::Top, 65, &mut sums);
     let n = sums[0] + sums[1];
     if layout == 2 {
         return Answer::Count(n + sums[3]);

@@ -1,18 +1,9 @@
-// Counts and tests of the bytes of a word side by side, as in the crate lanes: up to eight bytes at once, the lowest first.
+// How many bytes of a word text escapes, side by side as in the crate lanes: up to eight at once, the lowest first.
 ghost use Prim.Native.Nat.{_≤_};
 ghost use mathlib.Core.Path.{_≡_};
 ghost use Rattle.output.specs.Wrote.{leBytes};
-ghost use Rattle.lanes.specs.Lanes.{Lane, every, unmarkedBy};
-ghost use Rattle.measure.specs.MarkSteps.{noLower, escapeMark, markedCount};
-
-// The n lowest bytes are small letters.
-pub fn is_lower_word(x: u64, n: usize) -> bool
-    requires { ⌜ (1 ≤ n) × (n ≤ 8) ⌝ }
-    ensures { λ r. ⌜ r ≡ every (unmarkedBy noLower) (leBytes n x) ⌝ }
-{
-    let z = x & 0x7F7F7F7F7F7F7F7F;
-    (!(z + 0x1F1F1F1F1F1F1F1F) | (z + 0x0505050505050505) | x) & lanes::high_bits(n) == 0
-}
+ghost use Rattle.lanes.specs.Lanes.{Lane};
+ghost use Rattle.measure.specs.MarkSteps.{escapeMark, markedCount};
 
 // Marks of the bytes that text escapes: NUL, 7 to 13, the quote marks and the backslash.
 fn escapes(x: u64) -> u64

@@ -1,32 +1,24 @@
-// The lengths of what a child has: its name, its annotations, its scalar, each with the place behind it.
+// The lengths of what a child has: its name, its annotations, its scalar. A scalar is validated where it is measured.
 ghost use mathlib.Core.Path.{_≡_};
-ghost use mathlib.Core.Bool.{true};
+ghost use mathlib.Core.Bool.{true, false};
 ghost use mathlib.Core.List.{[]};
 ghost use mathlib.Core.Option.{some};
 ghost use Prim.Native.Nat.{_+_, _<_, _≤_};
 ghost use lib.ListN.{length, getD, take, drop};
-ghost use Rattle.output.specs.Wrote.{limit};
 ghost use Rattle.text_rules.specs.Text.{symbolText};
 ghost use Rattle.tape.specs.Bytes.{part};
-ghost use Rattle.tape.specs.Tape.{nameOf, notesOf, headOf, scalarOf};
-ghost use Rattle.tape.specs.Steps.{placeOf, headAt};
-ghost use Rattle.tape.specs.declared.Place.the-variants.{At};
+ghost use Rattle.tape.specs.Tape.{reading, symOf, symsOf, nameOf, notesOf, scalarOf, symFault};
+ghost use Rattle.tape.specs.CheckSteps.{codeOf, scalarCode, symsFront, notesFront};
 ghost use Rattle.tape.specs.declared.Frame.the-variants.{Struct};
 ghost use Rattle.writer.specs.Text.{nameText, notesText};
 ghost use Rattle.writer.specs.Steps.{nameIn, notesIn, sizeTaken};
-ghost use Rattle.measure.specs.Sums.{frontLength, leafLength};
+ghost use Rattle.measure.specs.Sums.{leafLength, symLength};
+ghost use Rattle.measure.specs.Steps.{isUntold, notesAs};
 use crate::text_formatter;
 use tape::Frame;
-use tape::Place;
 use tape::Scalar;
 use tape::Scanned;
-use tape::Symbol;
-
-// The length of the text of something on the tape, and the place behind it.
-pub struct Part {
-    pub length: usize,
-    pub at: usize,
-}
+use tape::check;
 
 // ---- symbols
 
@@ -37,34 +29,41 @@ fn plain_at(tape: &[u8], from: usize, n: usize) -> bool
 {
     if 1 <= n {
         if n <= 8 {
-            return text_formatter::is_lower(output::word_at(tape, from), n);
+            return text_rules::short_words::is_plain(output::word_at(tape, from), n);
         }
     }
     false
 }
 
-// A symbol's text that is n bytes of the tape from a place on. Its words are handed on as numbers, which takes less time than to hand on the tape.
+// The length of the symbol that is the n bytes of the tape from a place on, sixteen at most; 0 where that is not told. Its words are handed on as numbers,
+// which takes less time than to hand on the tape.
+fn words_length(tape: &[u8], from: usize, n: usize) -> usize
+    requires { ⌜ from + n + 8 ≤ length (now tape) ⌝ }
+    requires { ⌜ n ≤ 16 ⌝ }
+    ensures { λ r. ⌜ (0 < r → r ≡ length (symbolText (take n (drop from (now (tape .entry)))))) ⌝ }
+{
+    if n == 0 {
+        return 2;
+    }
+    if n <= 8 {
+        return text_formatter::short_symbol_length(output::word_at(tape, from), n);
+    }
+    text_formatter::long_symbol_length(
+        output::word_at(tape, from),
+        output::word_at(tape, from + 8),
+        n,
+    )
+}
+
+// The length of the symbol that is the n bytes of the tape from a place on.
 fn symbol_length(tape: &[u8], from: usize, n: usize) -> usize
     requires { ⌜ from + n + 8 ≤ length (now tape) ⌝ }
     ensures { λ r. ⌜ r ≡ length (symbolText (take n (drop from (now (tape .entry))))) ⌝ }
 {
-    if n <= 8 {
-        if 1 <= n {
-            let r = text_formatter::short_symbol_length(output::word_at(tape, from), n);
-            if r != 0 {
-                return r;
-            }
-        }
-    } else {
-        if n <= 16 {
-            let r = text_formatter::long_symbol_length(
-                output::word_at(tape, from),
-                output::word_at(tape, from + 8),
-                n,
-            );
-            if r != 0 {
-                return r;
-            }
+    if n <= 16 {
+        let r = words_length(tape, from, n);
+        if r != 0 {
+            return r;
         }
     }
     text_formatter::symbol_length_at(tape, from, n)
@@ -73,162 +72,236 @@ fn symbol_length(tape: &[u8], from: usize, n: usize) -> usize
 // ---- what stands before a value
 
 // The symbol at a place, and `: `.
-fn name_part(tape: &[u8], at: usize, end: usize) -> Part
+fn name_length(tape: &[u8], at: usize, end: usize) -> usize
     requires { ⌜ at ≤ end ⌝ }
     requires { ⌜ end + 8 ≤ length (now tape) ⌝ }
     requires { ⌜ nameOf Struct (part (now tape) at end) ≡ some (nameIn Struct (part (now tape) at end), sizeTaken (nameOf Struct (part (now tape) at end))) ⌝ }
-    ensures length { λ r. ⌜ r .length ≡ length (nameText (nameIn Struct (part (now (tape .entry)) at end))) ⌝ }
-    ensures place { λ r. ⌜ r .at ≡ at + sizeTaken (nameOf Struct (part (now (tape .entry)) at end)) ⌝ }
+    ensures { λ r. ⌜ r ≡ length (nameText (nameIn Struct (part (now (tape .entry)) at end))) ⌝ }
 {
     let n = tape::u32_at(tape, at + 1) as usize;
     let from = at + 5;
     // 6 is text, 7 an identifier
     if tape[at] < 7 {
         if plain_at(tape, from, n) {
-            return Part {
-                length: n + 2,
-                at: from + n,
-            };
+            return n + 2;
         }
-        return Part {
-            length: symbol_length(tape, from, n) + 2,
-            at: from + n,
-        };
+        return symbol_length(tape, from, n) + 2;
     }
-    Part {
-        length: text_formatter::symbol_id_length(n as u32) + 2,
-        at: from,
-    }
+    text_formatter::symbol_id_length(n as u32) + 2
 }
 
 // A field's name, where the child at a place has one.
-fn field_name_part(tape: &[u8], at: usize, end: usize, frame: Frame) -> Part
+pub fn field_name_length(tape: &[u8], at: usize, end: usize, frame: Frame) -> usize
     requires { ⌜ at ≤ end ⌝ }
     requires { ⌜ end + 8 ≤ length (now tape) ⌝ }
     requires { ⌜ nameOf frame (part (now tape) at end) ≡ some (nameIn frame (part (now tape) at end), sizeTaken (nameOf frame (part (now tape) at end))) ⌝ }
-    ensures length { λ r. ⌜ r .length ≡ length (nameText (nameIn frame (part (now (tape .entry)) at end))) ⌝ }
-    ensures place { λ r. ⌜ r .at ≡ at + sizeTaken (nameOf frame (part (now (tape .entry)) at end)) ⌝ }
+    ensures { λ r. ⌜ r ≡ length (nameText (nameIn frame (part (now (tape .entry)) at end))) ⌝ }
 {
     match frame {
-        Frame::Struct => name_part(tape, at, end),
-        Frame::Top => Part { length: 0, at },
-        Frame::List => Part { length: 0, at },
-        Frame::Sexp => Part { length: 0, at },
+        Frame::Struct => name_length(tape, at, end),
+        Frame::Top => 0,
+        Frame::List => 0,
+        Frame::Sexp => 0,
     }
 }
 
-// The annotations at a place; the value behind them stands at `value`.
-fn notes_length(tape: &[u8], at: usize, end: usize, value: usize) -> usize
+// What annotations have: the place behind them, or 0 where they are refused, which is always by 2; the length of their text; whether there is an
+// identifier but 0 among them.
+pub struct Notes {
+    pub at: usize,
+    pub length: usize,
+    pub numbered: bool,
+}
+
+fn no_notes() -> Notes
+    ensures { λ r. ⌜ r .at ≡ 0 ⌝ }
+{
+    Notes {
+        at: 0,
+        length: 0,
+        numbered: false,
+    }
+}
+
+// The symbol at a place, which has `size` bytes.
+fn sym_length(tape: &[u8], at: usize, end: usize, size: usize) -> usize
     requires { ⌜ at ≤ end ⌝ }
     requires { ⌜ end + 8 ≤ length (now tape) ⌝ }
-    requires { ⌜ placeOf at (notesOf (part (now tape) at end)) ≡ At value ⌝ }
-    requires { ⌜ length (notesText (notesIn (part (now tape) at end))) < limit ⌝ }
-    ensures { λ r. ⌜ r ≡ length (notesText (notesIn (part (now (tape .entry)) at end))) ⌝ }
+    requires { ⌜ (size ≡ codeOf symFault (symOf (part (now tape) at end))) × (1 ≤ size) ⌝ }
+    ensures { λ r. ⌜ r ≡ symLength (part (now (tape .entry)) at end) ⌝ }
 {
-    if at == value {
-        return 0;
-    }
-    let mut n: usize = 0;
-    let mut from = at + 2;
-    while from < value {
-        let s = tape::sym_at(tape, from, end);
-        match s {
-            Symbol::Bad => {
-                return n;
-            }
-            Symbol::Text(k) => {
-                n = n + (text_formatter::symbol_length_at(tape, from + 5, k) + 2);
-                from = from + (5 + k);
-            }
-            Symbol::Id(i) => {
-                n = n + (text_formatter::symbol_id_length(i) + 2);
-                from = from + 5;
-            }
+    // 6 is text, 7 an identifier
+    if tape[at] < 7 {
+        let n = size - 5;
+        if plain_at(tape, at + 5, n) {
+            return n;
         }
+        return symbol_length(tape, at + 5, n);
     }
-    n
+    text_formatter::symbol_id_length(tape::u32_at(tape, at + 1) as u32)
 }
 
-// What stands before the value of the child at a place: its name, and its annotations.
-pub fn front_part(tape: &[u8], at: usize, end: usize, frame: Frame) -> Part
-    requires { ⌜ at ≤ end ⌝ }
+// n symbols from a place on, each with `::` behind it.
+fn notes_from(tape: &[u8], at: usize, end: usize, n: u8) -> Notes
+    requires { ⌜ (1 ≤ at) × (at ≤ end) ⌝ }
     requires { ⌜ end + 8 ≤ length (now tape) ⌝ }
-    requires { ⌜ headOf frame (part (now tape) at end) ≡ some (headAt frame (part (now tape) at end), sizeTaken (headOf frame (part (now tape) at end))) ⌝ }
-    requires { ⌜ at + sizeTaken (headOf frame (part (now tape) at end)) < end ⌝ }
-    requires { ⌜ frontLength (headAt frame (part (now tape) at end)) < limit ⌝ }
-    ensures length { λ r. ⌜ r .length ≡ frontLength (headAt frame (part (now (tape .entry)) at end)) ⌝ }
-    ensures place { λ r. ⌜ r .at ≡ at + sizeTaken (headOf frame (part (now (tape .entry)) at end)) ⌝ }
+    requires { ⌜ length (now tape) ≤ 1048576 ⌝ }
+    ensures front { λ r. ⌜ notesAs (r .at) (r .numbered) ≡ symsFront at false (symsOf n (part (now (tape .entry)) at end)) ⌝ }
+    ensures length { λ r. ⌜ (0 < r .at → r .length ≡ length (notesText (reading (symsOf n (part (now (tape .entry)) at end)) [] (λ ss m. ss)))) ⌝ }
 {
-    let f = field_name_part(tape, at, end, frame);
-    let from = f.at;
-    let k = tape[from];
-    // a scalar, as most children are
-    if k < 10 {
-        return f;
+    let mut p = at;
+    let mut left = n;
+    let mut length: usize = 0;
+    let mut numbered = false;
+    while 0 < left {
+        let size = check::sym_size(tape, p, end);
+        if size == 0 {
+            return no_notes();
+        }
+        length = length + (sym_length(tape, p, end, size) + 2);
+        if check::is_number(tape, p, end) {
+            numbered = true;
+        }
+        p = p + size;
+        left -= 1;
     }
-    if k != 13 {
-        return f;
+    Notes {
+        at: p,
+        length,
+        numbered,
     }
-    let Place::At(value) = tape::notes_end(tape, from, end) else {
-        return f;
-    };
-    Part {
-        length: f.length + notes_length(tape, from, end, value),
-        at: value,
+}
+
+// The annotations at a place, where their kind byte stands.
+pub fn notes_at(tape: &[u8], at: usize, end: usize) -> Notes
+    requires { ⌜ at < end ⌝ }
+    requires { ⌜ end + 8 ≤ length (now tape) ⌝ }
+    requires { ⌜ length (now tape) ≤ 1048576 ⌝ }
+    requires { ⌜ getD (now tape) at 0 ≡ 13 ⌝ }
+    ensures front { λ r. ⌜ notesAs (r .at) (r .numbered) ≡ notesFront at true false (notesOf (part (now (tape .entry)) at end)) ⌝ }
+    ensures length { λ r. ⌜ (0 < r .at → r .length ≡ length (notesText (notesIn (part (now (tape .entry)) at end)))) ⌝ }
+{
+    if end - at < 2 {
+        return no_notes();
     }
+    let n = tape[at + 1];
+    if n < 1 {
+        return no_notes();
+    }
+    if 16 < n {
+        return no_notes();
+    }
+    notes_from(tape, at + 2, end, n)
 }
 
 // ---- scalars
 
+// A scalar by its size, which is 0 where it is refused by 2 and 1 where it is refused by 4, and by the length of its text, which is 0 where
+// `untold_length` tells it. Where it is refused, the length says nothing.
+pub struct Leaf {
+    pub size: usize,
+    pub length: usize,
+}
+
 // The symbol at a place, which is text.
-fn symbol_part(tape: &[u8], at: usize, end: usize) -> Part
-    requires { ⌜ at ≤ end ⌝ }
+fn symbol_leaf(tape: &[u8], at: usize, end: usize) -> Leaf
+    requires { ⌜ at < end ⌝ }
     requires { ⌜ end + 8 ≤ length (now tape) ⌝ }
-    requires { ⌜ 0 < sizeTaken (scalarOf (part (now tape) at end)) ⌝ }
     requires { ⌜ getD (now tape) at 0 ≡ 6 ⌝ }
-    ensures length { λ r. ⌜ r .length ≡ leafLength (part (now (tape .entry)) at end) ⌝ }
-    ensures place { λ r. ⌜ r .at ≡ at + sizeTaken (scalarOf (part (now (tape .entry)) at end)) ⌝ }
+    ensures size { λ r. ⌜ r .size ≡ scalarCode (scalarOf (part (now (tape .entry)) at end)) ⌝ }
+    ensures length { λ r. ⌜ (2 ≤ r .size → 0 < r .length → r .length ≡ leafLength (part (now (tape .entry)) at end)) ⌝ }
 {
-    let n = tape::u32_at(tape, at + 1) as usize;
+    let size = check::word_size(tape, at, end);
+    if size < 5 {
+        return Leaf { size, length: 0 };
+    }
     let from = at + 5;
+    let n = size - 5;
     if plain_at(tape, from, n) {
-        return Part {
-            length: n,
-            at: from + n,
-        };
+        return Leaf { size, length: n };
     }
-    Part {
-        length: symbol_length(tape, from, n),
-        at: from + n,
+    if 16 < n {
+        return Leaf { size, length: 0 };
+    }
+    Leaf {
+        size,
+        length: words_length(tape, from, n),
     }
 }
 
-// The string at a place.
-fn string_part(tape: &[u8], at: usize, end: usize) -> Part
-    requires { ⌜ at ≤ end ⌝ }
+// The scalar at a place, which is no clob.
+pub fn leaf_at(tape: &[u8], at: usize, end: usize) -> Leaf
+    requires { ⌜ at < end ⌝ }
     requires { ⌜ end + 8 ≤ length (now tape) ⌝ }
-    requires { ⌜ 0 < sizeTaken (scalarOf (part (now tape) at end)) ⌝ }
-    requires { ⌜ getD (now tape) at 0 ≡ 8 ⌝ }
-    ensures length { λ r. ⌜ r .length ≡ leafLength (part (now (tape .entry)) at end) ⌝ }
-    ensures place { λ r. ⌜ r .at ≡ at + sizeTaken (scalarOf (part (now (tape .entry)) at end)) ⌝ }
+    requires { ⌜ getD (now tape) at 0 < 9 ⌝ }
+    ensures size { λ r. ⌜ r .size ≡ scalarCode (scalarOf (part (now (tape .entry)) at end)) ⌝ }
+    ensures length { λ r. ⌜ (2 ≤ r .size → 0 < r .length → r .length ≡ leafLength (part (now (tape .entry)) at end)) ⌝ }
+    ensures untold { λ r. ⌜ (2 ≤ r .size → r .length ≡ 0 → isUntold (getD (now (tape .entry)) at 0) ≡ true) ⌝ }
 {
-    let n = tape::u32_at(tape, at + 1) as usize;
-    let from = at + 5;
-    Part {
-        length: text_formatter::string_length_at(tape, from, n),
-        at: from + n,
+    match tape[at] {
+        0 => Leaf {
+            size: check::null_size(tape, at, end),
+            length: text_formatter::null_length(tape[at + 1]),
+        },
+        1 => Leaf {
+            size: check::bool_size(tape, at, end),
+            length: text_formatter::bool_length(tape[at + 1] == 1),
+        },
+        2 => Leaf {
+            size: check::int_size(tape, at, end),
+            length: crate::int::integer_length(tape::int_of(tape, at)),
+        },
+        3 => Leaf {
+            size: check::float_size(tape, at, end),
+            length: 0,
+        },
+        4 => {
+            let size = check::decimal_size(tape, at, end);
+            if size == 0 {
+                return Leaf { size, length: 0 };
+            }
+            Leaf {
+                size,
+                length: crate::decimal::decimal_length(
+                    tape[at + 1] == 1,
+                    tape::magnitude_of(tape, at),
+                    tape::exponent_of(tape, at),
+                ),
+            }
+        }
+        5 => {
+            let size = check::timestamp_size(tape, at, end);
+            if size == 0 {
+                return Leaf { size, length: 0 };
+            }
+            Leaf {
+                size,
+                length: crate::timestamp::timestamp_length(tape::timestamp_of(tape, at)),
+            }
+        }
+        6 => symbol_leaf(tape, at, end),
+        7 => Leaf {
+            size: check::sym_size(tape, at, end),
+            length: text_formatter::symbol_id_length(tape::u32_at(tape, at + 1) as u32),
+        },
+        _ => Leaf {
+            size: check::text_size(tape, at, end),
+            length: 0,
+        },
     }
 }
 
-// The float or the clob at a place. It has two callers, so that it is not built into the walk.
-fn rare_length(tape: &[u8], at: usize, end: usize) -> usize
+// The length of a scalar's text that is not told yet: of a float, of a symbol that has over sixteen bytes or starts with `$`, of a string, of a clob. It is
+// called at two places, so that it is not built into the walk.
+pub fn untold_length(tape: &[u8], at: usize, end: usize) -> usize
     requires { ⌜ at ≤ end ⌝ }
     requires { ⌜ end + 8 ≤ length (now tape) ⌝ }
-    requires { ⌜ 0 < sizeTaken (scalarOf (part (now tape) at end)) ⌝ }
-    requires { ⌜ ((getD (now tape) at 0 ≡ 3 → ⊥) → getD (now tape) at 0 ≡ 9) ⌝ }
+    requires { ⌜ 2 ≤ scalarCode (scalarOf (part (now tape) at end)) ⌝ }
+    requires { ⌜ isUntold (getD (now tape) at 0) ≡ true ⌝ }
     ensures { λ r. ⌜ r ≡ leafLength (part (now (tape .entry)) at end) ⌝ }
 {
-    if tape[at] == 3 {
+    let k = tape[at];
+    if k == 3 {
         let Scanned::Is(s) = tape::float_of(tape::u64_at(tape, at + 1)) else {
             return 0;
         };
@@ -237,57 +310,14 @@ fn rare_length(tape: &[u8], at: usize, end: usize) -> usize
         };
         return text_formatter::float_length(x);
     }
+    let n = tape::u32_at(tape, at + 1) as usize;
     let from = at + 5;
-    let to = from + tape::u32_at(tape, at + 1) as usize;
-    crate::clobs::clob_length(&tape[from..to])
-}
-
-// The scalar at a place.
-pub fn leaf_part(tape: &[u8], at: usize, end: usize) -> Part
-    requires { ⌜ at ≤ end ⌝ }
-    requires { ⌜ end + 8 ≤ length (now tape) ⌝ }
-    requires { ⌜ 0 < sizeTaken (scalarOf (part (now tape) at end)) ⌝ }
-    ensures length { λ r. ⌜ r .length ≡ leafLength (part (now (tape .entry)) at end) ⌝ }
-    ensures place { λ r. ⌜ r .at ≡ at + sizeTaken (scalarOf (part (now (tape .entry)) at end)) ⌝ }
-{
-    match tape[at] {
-        0 => Part {
-            length: text_formatter::null_length(tape[at + 1]),
-            at: at + 2,
-        },
-        1 => Part {
-            length: text_formatter::bool_length(tape[at + 1] == 1),
-            at: at + 2,
-        },
-        2 => Part {
-            length: crate::int::integer_length(tape::int_of(tape, at)),
-            at: at + 9,
-        },
-        3 => Part {
-            length: rare_length(tape, at, end),
-            at: at + 9,
-        },
-        4 => Part {
-            length: crate::decimal::decimal_length(
-                tape[at + 1] == 1,
-                tape::magnitude_of(tape, at),
-                tape::exponent_of(tape, at),
-            ),
-            at: at + 14,
-        },
-        5 => Part {
-            length: crate::timestamp::timestamp_length(tape::timestamp_of(tape, at)),
-            at: at + 16,
-        },
-        6 => symbol_part(tape, at, end),
-        7 => Part {
-            length: text_formatter::symbol_id_length(tape::u32_at(tape, at + 1) as u32),
-            at: at + 5,
-        },
-        8 => string_part(tape, at, end),
-        _ => Part {
-            length: rare_length(tape, at, end),
-            at: at + (5 + tape::u32_at(tape, at + 1) as usize),
-        },
+    if k == 6 {
+        return text_formatter::symbol_length_at(tape, from, n);
     }
+    if k == 8 {
+        return text_formatter::string_length_at(tape, from, n);
+    }
+    let to = from + n;
+    crate::clobs::clob_length(&tape[from..to])
 }

@@ -3,12 +3,11 @@ ghost use Prim.Native.Nat.{_+_, _-_, _<_, _≤_};
 ghost use mathlib.Core.Path.{_≡_};
 ghost use mathlib.Core.Bool.{true};
 ghost use mathlib.Core.List.{_++_};
-ghost use lib.ListN.{length, take, drop};
+ghost use lib.ListN.{length, getD, take, drop};
 ghost use Rattle.output.specs.Wrote.{leBytes};
 ghost use Rattle.text_rules.specs.Text.{symbolText, symbolIdText, stringText, nullText, boolText, bitsText, floatText};
+ghost use Rattle.text_rules.specs.Words.{isStart};
 ghost use Rattle.text_rules.specs.WordSteps.{allPart, isBare};
-ghost use Rattle.measure.specs.MarkSteps.{bareKind};
-use text_rules::words::Kind;
 
 pub fn null_length(t: u8) -> usize
     ensures { λ r. ⌜ r ≡ length (nullText t) ⌝ }
@@ -81,26 +80,14 @@ pub fn string_length_at(s: &[u8], from: usize, n: usize) -> usize
 
 // ---- symbols, by their bytes in words
 
-// The n lowest bytes of x are small letters and no keyword: as a symbol they stand bare. It may say no too often. Names are mostly of small letters, for
-// which the test has fewer steps than that of `is_plain`.
-pub fn is_lower(x: u64, n: usize) -> bool
-    requires { ⌜ (1 ≤ n) × (n ≤ 8) ⌝ }
-    ensures { λ r. ⌜ (r ≡ true → symbolText (leBytes n x) ≡ leBytes n x) ⌝ }
-{
-    if !crate::marks::is_lower_word(x, n) {
-        return false;
-    }
-    if text_rules::short_words::starts_no_keyword(x) {
-        return true;
-    }
-    !text_rules::short_words::is_keyword_word(x, n)
-}
-
-// Of the n lowest bytes of x, eight at most; 0 where that is not told, as they start with `$` or a digit.
+// Of the n lowest bytes of x, eight at most; 0 where that is not told, as they start with `$`.
 pub fn short_symbol_length(x: u64, n: usize) -> usize
     requires { ⌜ (1 ≤ n) × (n ≤ 8) ⌝ }
     ensures { λ r. ⌜ (0 < r → r ≡ length (symbolText (leBytes n x))) ⌝ }
 {
+    if x % 256 == 0x24 {
+        return 0;
+    }
     if lanes::is_identifier_word(x, n) {
         if lanes::starts_with_letter(x) {
             if text_rules::short_words::is_keyword_word(x, n) {
@@ -108,22 +95,25 @@ pub fn short_symbol_length(x: u64, n: usize) -> usize
             }
             return n;
         }
-        return 0;
+        return n + 2;
     }
     n + 2 + crate::marks::escaped_count(x, n)
 }
 
-// Of the eight bytes of x and the n - 8 lowest of y, sixteen at most; 0 where that is not told, as they start with `$` or a digit.
+// Of the eight bytes of x and the n - 8 lowest of y, sixteen at most; 0 where that is not told, as they start with `$`.
 pub fn long_symbol_length(x: u64, y: u64, n: usize) -> usize
     requires { ⌜ (9 ≤ n) × (n ≤ 16) ⌝ }
     ensures { λ r. ⌜ (0 < r → r ≡ length (symbolText (leBytes 8 x ++ leBytes (n - 8) y))) ⌝ }
 {
+    if x % 256 == 0x24 {
+        return 0;
+    }
     if lanes::is_identifier_word(x, 8) {
         if lanes::is_identifier_word(y, n - 8) {
             if lanes::starts_with_letter(x) {
                 return n;
             }
-            return 0;
+            return n + 2;
         }
     }
     n + 2 + crate::marks::escaped_count(x, 8) + crate::marks::escaped_count(y, n - 8)
@@ -144,27 +134,21 @@ fn is_word_at(s: &[u8], from: usize, n: usize) -> bool
     lanes::is_identifier_word(output::word_at(s, from + i), n - i)
 }
 
-// A word of identifier bytes stands bare where it would be read as a symbol's text.
-fn is_text(kind: Kind) -> bool
-    ensures { λ r. ⌜ r ≡ bareKind kind ⌝ }
-{
-    match kind {
-        Kind::Text => true,
-        _ => false,
-    }
-}
-
-// Whether text that has bytes of identifiers alone stands bare as a symbol.
+// Whether text of bytes of identifiers alone, which starts as an identifier does, stands bare as a symbol. Of other text it says nothing.
 fn stands_bare(text: &[u8]) -> bool
-    ensures { λ r. ⌜ (allPart (now (text .entry)) ≡ true → r ≡ isBare (now (text .entry))) ⌝ }
+    requires { ⌜ 1 ≤ length (now text) ⌝ }
+    ensures { λ r. ⌜ (allPart (now (text .entry)) ≡ true → isStart (getD (now (text .entry)) 0 0) ≡ true → r ≡ isBare (now (text .entry))) ⌝ }
 {
-    let w = text_rules::words::word_at(text, 0);
-    let k = w.kind;
-    is_text(k)
+    if text[0] != b'$' {
+        return !text_rules::words::token_is_keyword(text);
+    }
+    if text_rules::words::token_resembles_symbol_id(text) {
+        return false;
+    }
+    !text_rules::words::token_resembles_version_marker(text)
 }
 
-// A symbol that is the n bytes of s from a place on, behind which eight bytes stand. It asks for words first, as the walk does before it calls this: so
-// `short_symbol_length` and `long_symbol_length` have two callers and are not built into the walk.
+// A symbol that is the n bytes of s from a place on, behind which eight bytes stand.
 pub fn symbol_length_at(s: &[u8], from: usize, n: usize) -> usize
     requires { ⌜ from + n + 8 ≤ length (now s) ⌝ }
     ensures { λ r. ⌜ r ≡ length (symbolText (take n (drop from (now (s .entry))))) ⌝ }
@@ -172,26 +156,15 @@ pub fn symbol_length_at(s: &[u8], from: usize, n: usize) -> usize
     if n == 0 {
         return 2;
     }
-    if n <= 8 {
-        let r = short_symbol_length(output::word_at(s, from), n);
-        if r != 0 {
-            return r;
-        }
-    } else {
-        if n <= 16 {
-            let r = long_symbol_length(output::word_at(s, from), output::word_at(s, from + 8), n);
-            if r != 0 {
-                return r;
+    if text_rules::words::is_start(s[from]) {
+        if is_word_at(s, from, n) {
+            let to = from + n;
+            if stands_bare(&s[from..to]) {
+                return n;
             }
+            // no byte of these is escaped
+            return n + 2;
         }
-    }
-    if is_word_at(s, from, n) {
-        let to = from + n;
-        if stands_bare(&s[from..to]) {
-            return n;
-        }
-        // no byte of these is escaped
-        return n + 2;
     }
     crate::escapes::escaped_text_body_length(s, from, n) + 2
 }

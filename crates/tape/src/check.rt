@@ -29,7 +29,7 @@ pub struct Checked {
     pub numbered: bool,
 }
 
-fn first_of(p: u8, r: u8) -> u8
+pub fn first_of(p: u8, r: u8) -> u8
     ensures { λ x. ⌜ x ≡ first p r ⌝ }
 {
     if p == 0 { r } else { p }
@@ -60,7 +60,7 @@ fn is_text(tape: &[u8], at: usize, n: usize) -> bool
     text_rules::utf8::valid_part(tape, from, n)
 }
 
-fn null_size(tape: &[u8], at: usize, end: usize) -> usize
+pub fn null_size(tape: &[u8], at: usize, end: usize) -> usize
     requires { ⌜ at ≤ end ⌝ }
     requires { ⌜ end ≤ length (now tape) ⌝ }
     ensures { λ r. ⌜ r ≡ scalarCode (byteOf 12 null (part (now (tape .entry)) at end)) ⌝ }
@@ -74,7 +74,7 @@ fn null_size(tape: &[u8], at: usize, end: usize) -> usize
     2
 }
 
-fn bool_size(tape: &[u8], at: usize, end: usize) -> usize
+pub fn bool_size(tape: &[u8], at: usize, end: usize) -> usize
     requires { ⌜ at ≤ end ⌝ }
     requires { ⌜ end ≤ length (now tape) ⌝ }
     ensures { λ r. ⌜ r ≡ scalarCode (byteOf 1 (λ b. bool (eqb b 1)) (part (now (tape .entry)) at end)) ⌝ }
@@ -108,7 +108,7 @@ fn bits_size(b: u64) -> usize
     1
 }
 
-fn float_size(tape: &[u8], at: usize, end: usize) -> usize
+pub fn float_size(tape: &[u8], at: usize, end: usize) -> usize
     requires { ⌜ at ≤ end ⌝ }
     requires { ⌜ end ≤ length (now tape) ⌝ }
     ensures { λ r. ⌜ r ≡ scalarCode (floatOf (part (now (tape .entry)) at end)) ⌝ }
@@ -119,7 +119,7 @@ fn float_size(tape: &[u8], at: usize, end: usize) -> usize
     bits_size(crate::u64_at(tape, at + 1))
 }
 
-fn int_size(tape: &[u8], at: usize, end: usize) -> usize
+pub fn int_size(tape: &[u8], at: usize, end: usize) -> usize
     requires { ⌜ at ≤ end ⌝ }
     requires { ⌜ end ≤ length (now tape) ⌝ }
     ensures { λ r. ⌜ r ≡ scalarCode (intOf (part (now (tape .entry)) at end)) ⌝ }
@@ -130,7 +130,7 @@ fn int_size(tape: &[u8], at: usize, end: usize) -> usize
     9
 }
 
-fn decimal_size(tape: &[u8], at: usize, end: usize) -> usize
+pub fn decimal_size(tape: &[u8], at: usize, end: usize) -> usize
     requires { ⌜ at ≤ end ⌝ }
     requires { ⌜ end ≤ length (now tape) ⌝ }
     ensures { λ r. ⌜ r ≡ scalarCode (decimalOf (part (now (tape .entry)) at end)) ⌝ }
@@ -145,7 +145,7 @@ fn decimal_size(tape: &[u8], at: usize, end: usize) -> usize
 }
 
 // The calendar.
-fn timestamp_size(tape: &[u8], at: usize, end: usize) -> usize
+pub fn timestamp_size(tape: &[u8], at: usize, end: usize) -> usize
     requires { ⌜ at ≤ end ⌝ }
     requires { ⌜ end ≤ length (now tape) ⌝ }
     ensures { λ r. ⌜ r ≡ scalarCode (timestampOf (part (now (tape .entry)) at end)) ⌝ }
@@ -160,7 +160,7 @@ fn timestamp_size(tape: &[u8], at: usize, end: usize) -> usize
 }
 
 // A node with a length, and the bytes that the length says; of a container, too.
-fn span(tape: &[u8], at: usize, end: usize) -> usize
+pub fn span(tape: &[u8], at: usize, end: usize) -> usize
     requires { ⌜ at ≤ end ⌝ }
     requires { ⌜ end ≤ length (now tape) ⌝ }
     ensures { λ r. ⌜ r ≡ spanOf (part (now (tape .entry)) at end) ⌝ }
@@ -176,7 +176,7 @@ fn span(tape: &[u8], at: usize, end: usize) -> usize
 }
 
 // A string's node.
-fn text_size(tape: &[u8], at: usize, end: usize) -> usize
+pub fn text_size(tape: &[u8], at: usize, end: usize) -> usize
     requires { ⌜ at ≤ end ⌝ }
     requires { ⌜ end ≤ length (now tape) ⌝ }
     ensures { λ r. ⌜ r ≡ codeOf textFault (textOf (part (now (tape .entry)) at end)) ⌝ }
@@ -192,7 +192,7 @@ fn text_size(tape: &[u8], at: usize, end: usize) -> usize
 }
 
 // The node of a symbol's text. Symbols are short, so a word is tested first.
-fn word_size(tape: &[u8], at: usize, end: usize) -> usize
+pub fn word_size(tape: &[u8], at: usize, end: usize) -> usize
     requires { ⌜ at ≤ end ⌝ }
     requires { ⌜ end + 8 ≤ length (now tape) ⌝ }
     ensures { λ r. ⌜ r ≡ codeOf textFault (textOf (part (now (tape .entry)) at end)) ⌝ }
@@ -208,7 +208,7 @@ fn word_size(tape: &[u8], at: usize, end: usize) -> usize
 }
 
 // A symbol's node.
-fn sym_size(tape: &[u8], at: usize, end: usize) -> usize
+pub fn sym_size(tape: &[u8], at: usize, end: usize) -> usize
     requires { ⌜ at ≤ end ⌝ }
     requires { ⌜ end + 8 ≤ length (now tape) ⌝ }
     ensures { λ r. ⌜ r ≡ codeOf symFault (symOf (part (now (tape .entry)) at end)) ⌝ }
@@ -227,7 +227,7 @@ fn sym_size(tape: &[u8], at: usize, end: usize) -> usize
 }
 
 // Whether the node at a place is an identifier but 0.
-fn is_number(tape: &[u8], at: usize, end: usize) -> bool
+pub fn is_number(tape: &[u8], at: usize, end: usize) -> bool
     requires { ⌜ at < end ⌝ }
     requires { ⌜ end ≤ length (now tape) ⌝ }
     ensures { λ r. ⌜ r ≡ numberIn (part (now (tape .entry)) at end) ⌝ }
@@ -277,7 +277,7 @@ fn scalar_size(tape: &[u8], at: usize, end: usize) -> usize
 }
 
 // By what a scalar is refused, by its size.
-fn size_fault(n: usize) -> u8
+pub fn size_fault(n: usize) -> u8
     ensures { λ r. ⌜ r ≡ if (eqb n 0) 2 4 ⌝ }
 {
     if n == 0 { 2 } else { 4 }
@@ -345,7 +345,7 @@ fn notes_seen(tape: &[u8], at: usize, end: usize, noted: bool, numbered: bool) -
 }
 
 // Behind the name of the child at a place, or at the place where it has none; at the end where the name is refused.
-fn behind_name(tape: &[u8], at: usize, end: usize, frame: Frame) -> usize
+pub fn behind_name(tape: &[u8], at: usize, end: usize, frame: Frame) -> usize
     requires { ⌜ at ≤ end ⌝ }
     requires { ⌜ end + 8 ≤ length (now tape) ⌝ }
     ensures { λ r. ⌜ r ≡ endOf nameFault at end (nameOf frame (part (now (tape .entry)) at end)) ⌝ }
@@ -365,7 +365,7 @@ fn behind_name(tape: &[u8], at: usize, end: usize, frame: Frame) -> usize
 }
 
 // Whether the name of the child at a place is an identifier but 0.
-fn name_number(tape: &[u8], at: usize, end: usize, frame: Frame) -> bool
+pub fn name_number(tape: &[u8], at: usize, end: usize, frame: Frame) -> bool
     requires { ⌜ at < end ⌝ }
     requires { ⌜ end ≤ length (now tape) ⌝ }
     ensures { λ r. ⌜ r ≡ nameNumberIn frame (part (now (tape .entry)) at end) ⌝ }
@@ -379,7 +379,7 @@ fn name_number(tape: &[u8], at: usize, end: usize, frame: Frame) -> bool
 }
 
 // Whether a marker may stand here.
-fn is_free(tape: &[u8], at: usize, end: usize, frame: Frame) -> bool
+pub fn is_free(tape: &[u8], at: usize, end: usize, frame: Frame) -> bool
     requires { ⌜ at < end ⌝ }
     requires { ⌜ end ≤ length (now tape) ⌝ }
     ensures { λ r. ⌜ r ≡ freeAt frame (part (now (tape .entry)) at end) ⌝ }
@@ -395,7 +395,7 @@ fn is_free(tape: &[u8], at: usize, end: usize, frame: Frame) -> bool
 // ---- bodies
 
 // A problem, and nothing told of nodes.
-fn refused(fault: u8) -> Checked
+pub fn refused(fault: u8) -> Checked
     ensures { λ r. ⌜ Refuses fault r ⌝ }
 {
     Checked {
@@ -483,7 +483,7 @@ fn check_nodes(tape: &[u8], from: usize, end: usize, frame: Frame, depth: usize)
 }
 
 // Whether the trailer counts the nodes right.
-fn count_fault(claimed: usize, count: usize) -> u8
+pub fn count_fault(claimed: usize, count: usize) -> u8
     ensures { λ r. ⌜ r ≡ if (eqb claimed count) 0 2 ⌝ }
 {
     if claimed == count { 0 } else { 2 }

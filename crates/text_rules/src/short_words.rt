@@ -23,7 +23,7 @@ fn low_bits(n: usize) -> u64
 const KEYWORD_STARTS: u64 = 0x104040;
 
 // No keyword starts with the lowest byte.
-pub fn starts_no_keyword(x: u64) -> bool
+fn starts_no_keyword(x: u64) -> bool
     ensures { λ r. ⌜ (r ≡ true → (n : ℕ) → isKeyword (leBytes n x) ≡ false) ⌝ }
 {
     (KEYWORD_STARTS >> (x % 32)) % 2 == 0

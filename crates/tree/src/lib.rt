@@ -39,7 +39,8 @@ pub fn write_tree(tape: &[u8], out: &mut [u8]) -> Answer
 pub fn tree_length(tape: &[u8]) -> Answer
     ensures { λ r. ⌜ outcome r ≡ treeLength (now (tape .entry)) ⌝ }
 {
-    let c = tape::check::check_tape(tape);
+    let mut sums = [0usize; 4];
+    let c = measure::walk::measure_tape(tape, &mut sums);
     if c.fault != 0 {
         return tape::answer::refusal_of(c.fault);
     }
@@ -53,8 +54,5 @@ pub fn tree_length(tape: &[u8]) -> Answer
     if tape[0] == 14 {
         return Answer::Unsuited;
     }
-    let end = tape.len() - 8;
-    let mut sums = [0usize; 4];
-    measure::walk::sum_nodes(tape, 0, end, Frame::Top, 65, &mut sums);
     Answer::Count(sums[0] + (sums[1] - sums[2]))
 }

@@ -10,8 +10,8 @@ use Rattle.tape.specs.Fine.{Bytes}
 use Rattle.tape.specs.Verdict.{verdict}
 use Rattle.tape.specs.Refusal.{numbereds}
 use Rattle.tape.proofs.Walking.{verdict-told}
-use Rattle.writer.proofs.Verdicts.{verdict-most, fine-walked}
-use Rattle.measure.proofs.Verdicts.{Summed, sums-told, sums-small}
+use Rattle.writer.proofs.Verdicts.{verdict-most}
+use Rattle.measure.proofs.Verdicts.{Summed, sums-told}
 use Rattle.tree.specs.Outcome.{refusal}
 use Rattle.tree.proofs.Verdicts.{tape-bad, tape-many, tape-numbered, tape-marked, tape-good, length-refused, length-counted}
 use borrow.Author.Needs.{needs}
@@ -20,52 +20,52 @@ use Rattle.tree.proofs.tree_length.Tie as tie
 
 -- ---- what is known of a tape that is accepted
 
-accepted : (c : tie.Else1) → verdict (now (c .before .before .before .before .args .tape)) ≡ 0
-accepted c = sym (c .before .before .check-tape .ensures .fault) ∙ c .if1 .left
+accepted : (c : tie.Else1) → verdict (now (c .before .before .before .before .before .args .tape)) ≡ 0
+accepted c = sym (c .before .before .measure-tape .ensures .0 .fault) ∙ c .if1 .left
 
-bytes : (c : tie.Else1) → Bytes (now (c .before .before .before .before .args .tape))
-bytes c i = c .before .before .before .shared-slice-known .given i .fits
+bytes : (c : tie.Else1) → Bytes (now (c .before .before .before .before .before .args .tape))
+bytes c i = c .before .before .before .before .shared-slice-known .given i .fits
 
-single : (c : tie.Else2) → size (bodyOf (now (c .before .before .before .before .before .before .args .tape)) .0) ≡ 1
-single c = sym (c .before .before .before .before .check-tape .ensures .counts (c .before .before .if1 .left) .count) ∙ c .if2 .left
+single : (c : tie.Else2) → size (bodyOf (now (c .before .before .before .before .before .before .before .args .tape)) .0) ≡ 1
+single c = sym (c .before .before .before .before .measure-tape .ensures .0 .counts (c .before .before .if1 .left) .count) ∙ c .if2 .left
 
-plain : (c : tie.Else3) → numbereds (bodyOf (now (c .before .before .before .before .before .before .before .args .tape)) .0) ≡ false
-plain c = sym (c .before .before .before .before .before .check-tape .ensures .counts (c .before .before .before .if1 .left) .numbered) ∙ c .if3 .left
+plain : (c : tie.Else3) → numbereds (bodyOf (now (c .before .before .before .before .before .before .before .before .args .tape)) .0) ≡ false
+plain c = sym (c .before .before .before .before .before .measure-tape .ensures .0 .counts (c .before .before .before .if1 .left) .numbered) ∙ c .if3 .left
 
-good : (c : tie.Else4) → refusal (now (c .before .before .before .before .before .before .before .before .before .args .tape)) ≡ 0
+good : (c : tie.Else4) → refusal (now (c .before .before .before .before .before .before .before .before .before .before .args .tape)) ≡ 0
 good c = tape-good _ (accepted (c .before .before .before .before .before)) (single (c .before .before .before)) (plain (c .before .before)) (c .if4 .left)
 
-summed : (c : tie.After-sum-nodes) → Summed (now (c .before .before .before .before .before .before .before .before .before .before .before .args .tape)) (c .sum-nodes .last .1 .1 .1 .1 .1 .0)
+summed : (c : tie.Else4) → Summed (now (c .before .before .before .before .before .before .before .before .before .before .args .tape)) (c .before .before .before .before .before .before .before .measure-tape .last .1 .0)
 summed c =
-    let d = c .before .before .before .before .before .before .before in
-    sums-told _ (bytes d) (accepted d) _ (c .sum-nodes .ensures)
+    let d = c .before .before .before .before .before in
+    sums-told _ (bytes d) (accepted d) _ (d .before .before .measure-tape .ensures .1 (d .if1 .left))
 
 -- ---- the needs
 
-check-tape-requires : tie.Need-check-tape-requires
-check-tape-requires c κs = search needs
+measure-tape-requires : tie.Need-measure-tape-requires
+measure-tape-requires c κs = refl
 
 refusal-of-requires : tie.Need-refusal-of-requires
 refusal-of-requires c κs =
-    let m = verdict-most (now (c .before .before .before .before .args .tape)) in
-    let e = c .before .before .check-tape .ensures .fault in
+    let m = verdict-most (now (c .before .before .before .before .before .args .tape)) in
+    let e = c .before .before .measure-tape .ensures .0 .fault in
     let nz = c .if1 .taken in
     (omega arith, omega arith)
 
 returns : tie.Need-returns
 returns c =
-    let f = c .before .before .before .check-tape .ensures .fault in
+    let f = c .before .before .before .measure-tape .ensures .0 .fault in
     let nz = c .before .if1 .taken in
     c .refusal-of .ensures ∙ length-refused _ _ nz (tape-bad _ (λ z. nz (f ∙ z)) ∙ sym f)
 
 returns-2 : tie.Need-returns-2
 returns-2 c =
-    let n = c .before .before .before .before .check-tape .ensures .counts (c .before .before .if1 .left) in
+    let n = c .before .before .before .before .measure-tape .ensures .0 .counts (c .before .before .if1 .left) in
     length-refused _ 5 (λ z. omega arith) (tape-many _ (accepted (c .before .before)) (λ z. c .if2 .taken (n .count ∙ z)))
 
 returns-3 : tie.Need-returns-3
 returns-3 c =
-    let n = c .before .before .before .before .before .check-tape .ensures .counts (c .before .before .before .if1 .left) in
+    let n = c .before .before .before .before .before .measure-tape .ensures .0 .counts (c .before .before .before .if1 .left) in
     length-refused _ 5 (λ z. omega arith) (tape-numbered _ (accepted (c .before .before .before)) (sym (n .numbered) ∙ c .if3 .taken))
 
 shared-slice-read-if4 : tie.Need-shared-slice-read-if4
@@ -74,51 +74,40 @@ shared-slice-read-if4 c = let a = verdict-told _ (accepted (c .before .before .b
 returns-4 : tie.Need-returns-4
 returns-4 c = length-refused _ 5 (λ z. omega arith) (tape-marked _ (accepted (c .before .before .before .before .before)) (single (c .before .before .before)) (plain (c .before .before)) (c .if4 .taken))
 
-sub-end : tie.Need-sub-end
-sub-end c = verdict-told _ (accepted (c .before .before .before .before .before)) .least
+array-read-t10 : tie.Need-array-read-t10
+array-read-t10 c = search needs
 
-sum-nodes-requires : tie.Need-sum-nodes-requires
-sum-nodes-requires c κs =
-    let d = c .before .before .before .before .before .before in
-    let m = verdict-told _ (accepted d) .least in
-    (omega arith, (omega arith, (omega arith, (fine-walked _ (accepted d), (refl, sums-small _ (bytes d) (accepted d))))))
-
-array-read-t8 : tie.Need-array-read-t8
-array-read-t8 c = search needs
+array-read-t13 : tie.Need-array-read-t13
+array-read-t13 c = search needs
 
 array-read-t16 : tie.Need-array-read-t16
 array-read-t16 c = search needs
 
-array-read-t19 : tie.Need-array-read-t19
-array-read-t19 c = search needs
+sub-t17 : tie.Need-sub-t17
+sub-t17 c = summed c .fewer
 
-sub-t20 : tie.Need-sub-t20
-sub-t20 c = summed c .fewer
-
-add-t21 : tie.Need-add-t21
-add-t21 c = let r = summed c .room in record { fits = omega arith }
+add-t18 : tie.Need-add-t18
+add-t18 c = let r = summed c .room in record { fits = omega arith }
 
 returns-5 : tie.Need-returns-5
 returns-5 c =
-    let d = c .before .before .before .before .before .before .before in
-    length-counted _ _ (bytes d) (accepted d) (single (c .before .before .before .before .before)) (good (c .before .before)) (summed c)
+    let d = c .before .before .before .before .before in
+    length-counted _ _ (bytes d) (accepted d) (single (c .before .before .before)) (good c) (summed c)
 
 pub tree-length-spec : {M : Type 1} → statement M
 tree-length-spec =
     tie.close
     (tie.spec
-    check-tape-requires
+    measure-tape-requires
     refusal-of-requires
     returns
     returns-2
     returns-3
     shared-slice-read-if4
     returns-4
-    sub-end
-    sum-nodes-requires
-    array-read-t8
+    array-read-t10
+    array-read-t13
     array-read-t16
-    array-read-t19
-    sub-t20
-    add-t21
+    sub-t17
+    add-t18
     returns-5)

@@ -15,14 +15,14 @@ use Rattle.measure.proofs.parts.plain_at.Tie as tie
 word-at-requires : tie.Need-word-at-requires
 word-at-requires c κs = search needs
 
-is-lower-requires : tie.Need-is-lower-requires
-is-lower-requires c κs = search needs
+is-plain-requires : tie.Need-is-plain-requires
+is-plain-requires c κs = search needs
 
 returns : tie.Need-returns
 returns c =
     let a = c .before .before .before .before .before .args in
     let w = word-bytes (now (a .tape)) (a .from) (a .n) _ (c .before .word-at .ensures) (c .before .before .if2 .taken) in
-    λ e. ap (λ (l : List ℕ). length (symbolText l)) (sym w) ∙ ap length (c .is-lower .ensures e) ∙ length-le (a .n) _
+    λ e. ap (λ (l : List ℕ). length (symbolText l)) (sym w) ∙ ap length (c .is-plain .ensures e) ∙ length-le (a .n) _
 
 returns-2 : tie.Need-returns-2
 returns-2 c = λ e. let z : _≡_ {A = ℕ} 0 1 = cc in absurd (omega arith)
@@ -31,4 +31,4 @@ returns-3 : tie.Need-returns-3
 returns-3 c = λ e. let z : _≡_ {A = ℕ} 0 1 = cc in absurd (omega arith)
 
 pub plain-at-spec : {M : Type 1} → statement M
-plain-at-spec = tie.close (tie.spec word-at-requires is-lower-requires returns returns-2 returns-3)
+plain-at-spec = tie.close (tie.spec word-at-requires is-plain-requires returns returns-2 returns-3)

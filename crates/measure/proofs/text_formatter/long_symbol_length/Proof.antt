@@ -1,4 +1,4 @@
--- `measure::text_formatter::long_symbol_length` meets its contract. Assumes nothing.
+-- `text_formatter::long_symbol_length` meets its contract. Assumes nothing.
 use Prim.Native.Nat.{_-_}
 use mathlib.Core.Path.{_≡_, refl, sym, _∙_}
 use mathlib.Core.Bool.{Bool, true, false, _&&_}
@@ -8,10 +8,13 @@ use Rattle.output.specs.Wrote.{leBytes}
 use Rattle.lanes.specs.Lanes.{every, unmarkedBy, noPart}
 use Rattle.measure.specs.MarkSteps.{escapeMark}
 use Rattle.measure.proofs.MarkLaws.{marked-most}
-use Rattle.measure.proofs.SymbolLengths.{words-bare, words-other}
+use Rattle.measure.proofs.SymbolLengths.{words-bare, words-number, words-other}
 use borrow.Author.Needs.{needs}
 use Rattle.measure.proofs.text_formatter.long_symbol_length.Statement.{statement}
 use Rattle.measure.proofs.text_formatter.long_symbol_length.Tie as tie
+
+returns : tie.Need-returns
+returns c = search needs
 
 is-identifier-word-requires : tie.Need-is-identifier-word-requires
 is-identifier-word-requires c κs = search needs
@@ -25,22 +28,29 @@ is-identifier-word-requires-2 c κs = search needs
 starts-with-letter-requires : tie.Need-starts-with-letter-requires
 starts-with-letter-requires c κs = search needs
 
-returns : tie.Need-returns
-returns c =
-    let a = c .before .before .before .before .before .before in
-    λ z. words-bare (a .args .n) (a .args .x) (a .args .y) (a .pre .0) (a .pre .1) (sym (c .before .before .before .before .before .is-identifier-word .ensures) ∙ c .before .before .before .before .if1 .taken) (sym (c .before .before .before .is-identifier-word2 .ensures) ∙ c .before .before .if2 .taken) (sym (c .before .starts-with-letter .ensures) ∙ c .if3 .taken)
-
 returns-2 : tie.Need-returns-2
-returns-2 c = search needs
+returns-2 c =
+    let a = c .before .before .before .before .before .before .before in
+    λ z. words-bare (a .args .n) (a .args .x) (a .args .y) (a .pre .0) (a .pre .1) (c .before .before .before .before .before .before .if1 .left) (sym (c .before .before .before .before .before .is-identifier-word .ensures) ∙ c .before .before .before .before .if2 .taken) (sym (c .before .before .before .is-identifier-word2 .ensures) ∙ c .before .before .if3 .taken) (sym (c .before .starts-with-letter .ensures) ∙ c .if4 .taken)
 
 add-result : tie.Need-add-result
 add-result c = search needs
 
+returns-3 : tie.Need-returns-3
+returns-3 c =
+    let a = c .before .before .before .before .before .before .before in
+    λ z. words-number (a .args .n) (a .args .x) (a .args .y) (a .pre .0) (a .pre .1) (c .before .before .before .before .before .before .if1 .left) (sym (c .before .before .before .before .before .is-identifier-word .ensures) ∙ c .before .before .before .before .if2 .taken) (sym (c .before .before .before .is-identifier-word2 .ensures) ∙ c .before .before .if3 .taken) (sym (c .before .starts-with-letter .ensures) ∙ c .if4 .left)
+
+add-result-2 : tie.Need-add-result-2
+add-result-2 c = search needs
+
 escaped-count-requires : tie.Need-escaped-count-requires
 escaped-count-requires c κs = search needs
 
-add-result-2 : tie.Need-add-result-2
-add-result-2 c = record { fits = omega (arith, c .escaped-count .ensures, marked-most escapeMark 8 (c .before .before .before .args .x), c .before .before .before .pre .1) }
+add-result-3 : tie.Need-add-result-3
+add-result-3 c =
+    let a = c .before .before .before .before in
+    record { fits = omega (arith, c .escaped-count .ensures, marked-most escapeMark 8 (a .args .x), a .pre .1) }
 
 sub-escaped-count : tie.Need-sub-escaped-count
 sub-escaped-count c = search needs
@@ -48,38 +58,40 @@ sub-escaped-count c = search needs
 escaped-count-requires-2 : tie.Need-escaped-count-requires-2
 escaped-count-requires-2 c κs = search needs
 
-add-result-3 : tie.Need-add-result-3
-add-result-3 c =
-    let a = c .before .before .before .before .args in
-    record { fits = omega (arith, c .before .escaped-count .ensures, c .escaped-count2 .ensures, marked-most escapeMark 8 (a .x), marked-most escapeMark (a .n - 8) (a .y), c .before .before .before .before .pre .1) }
+add-result-4 : tie.Need-add-result-4
+add-result-4 c =
+    let a = c .before .before .before .before .before in
+    record { fits = omega (arith, c .before .escaped-count .ensures, c .escaped-count2 .ensures, marked-most escapeMark 8 (a .args .x), marked-most escapeMark (a .args .n - 8) (a .args .y), a .pre .1) }
 
 -- of one of the words not all bytes are an identifier's
-one-not : (c : tie.Joined1) → let a = c .before .before .args in every (unmarkedBy noPart) (leBytes 8 (a .x)) && every (unmarkedBy noPart) (leBytes (a .n - 8) (a .y)) ≡ false
-one-not c = ⊎-elim (λ w. second (every (unmarkedBy noPart) (leBytes 8 (c .before .before .args .x))) _ (sym (w .1 .ensures) ∙ w .2 .left)) (λ w. rw (sym (c .before .is-identifier-word .ensures) ∙ w .left)) (c .if1 .came)
+one-not : (c : tie.Joined2) → let a = c .before .before .before .args in every (unmarkedBy noPart) (leBytes 8 (a .x)) && every (unmarkedBy noPart) (leBytes (a .n - 8) (a .y)) ≡ false
+one-not c = ⊎-elim (λ w. second (every (unmarkedBy noPart) (leBytes 8 (c .before .before .before .args .x))) _ (sym (w .1 .ensures) ∙ w .2 .left)) (λ w. rw (sym (c .before .is-identifier-word .ensures) ∙ w .left)) (c .if2 .came)
   where
     second : (p q : Bool) → q ≡ false → p && q ≡ false
     second true q h = h
     second false q h = refl
 
-returns-3 : tie.Need-returns-3
-returns-3 c =
-    let a = c .before .before .before .before in
+returns-4 : tie.Need-returns-4
+returns-4 c =
+    let a = c .before .before .before .before .before in
     λ z. omega (arith, c .before .escaped-count .ensures, c .escaped-count2 .ensures, words-other (a .args .n) (a .args .x) (a .args .y) (a .pre .0) (a .pre .1) (one-not (c .before .before)))
 
 pub long-symbol-length-spec : {M : Type 1} → statement M
 long-symbol-length-spec =
     tie.close
     (tie.spec
+    returns
     is-identifier-word-requires
     sub-is-identifier-word
     is-identifier-word-requires-2
     starts-with-letter-requires
-    returns
     returns-2
     add-result
-    escaped-count-requires
+    returns-3
     add-result-2
+    escaped-count-requires
+    add-result-3
     sub-escaped-count
     escaped-count-requires-2
-    add-result-3
-    returns-3)
+    add-result-4
+    returns-4)

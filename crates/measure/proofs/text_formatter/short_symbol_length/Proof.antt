@@ -1,12 +1,15 @@
--- `measure::text_formatter::short_symbol_length` meets its contract. Assumes nothing.
+-- `text_formatter::short_symbol_length` meets its contract. Assumes nothing.
 use mathlib.Core.Path.{sym, _∙_}
 use native.Mathlib.Omega.{arith}
 use Rattle.measure.specs.MarkSteps.{escapeMark}
 use Rattle.measure.proofs.MarkLaws.{marked-most}
-use Rattle.measure.proofs.SymbolLengths.{keyword-length, bare-length, other-length}
+use Rattle.measure.proofs.SymbolLengths.{keyword-length, bare-length, number-length, other-length}
 use borrow.Author.Needs.{needs}
 use Rattle.measure.proofs.text_formatter.short_symbol_length.Statement.{statement}
 use Rattle.measure.proofs.text_formatter.short_symbol_length.Tie as tie
+
+returns : tie.Need-returns
+returns c = search needs
 
 is-identifier-word-requires : tie.Need-is-identifier-word-requires
 is-identifier-word-requires c κs = search needs
@@ -20,43 +23,54 @@ is-keyword-word-requires c κs = search needs
 add-result : tie.Need-add-result
 add-result c = search needs
 
-returns : tie.Need-returns
-returns c = λ z. keyword-length (c .before .before .before .before .before .before .args .n) (c .before .before .before .before .before .before .args .x) (sym (c .before .is-keyword-word .ensures) ∙ c .if3 .taken)
-
 returns-2 : tie.Need-returns-2
 returns-2 c =
-    let a = c .before .before .before .before .before .before in
-    λ z. bare-length (a .args .n) (a .args .x) (a .pre .0) (sym (c .before .before .before .before .before .is-identifier-word .ensures) ∙ c .before .before .before .before .if1 .taken) (sym (c .before .before .before .starts-with-letter .ensures) ∙ c .before .before .if2 .taken) (sym (c .before .is-keyword-word .ensures) ∙ c .if3 .left)
+    let a = c .before .before .before .before .before .before .before in
+    λ z. keyword-length (a .args .n) (a .args .x) (a .pre .0) (c .before .before .before .before .before .before .if1 .left) (sym (c .before .before .before .before .before .is-identifier-word .ensures) ∙ c .before .before .before .before .if2 .taken) (sym (c .before .is-keyword-word .ensures) ∙ c .if4 .taken)
 
 returns-3 : tie.Need-returns-3
-returns-3 c = search needs
+returns-3 c =
+    let a = c .before .before .before .before .before .before .before in
+    λ z. bare-length (a .args .n) (a .args .x) (a .pre .0) (c .before .before .before .before .before .before .if1 .left) (sym (c .before .before .before .before .before .is-identifier-word .ensures) ∙ c .before .before .before .before .if2 .taken) (sym (c .before .before .before .starts-with-letter .ensures) ∙ c .before .before .if3 .taken) (sym (c .before .is-keyword-word .ensures) ∙ c .if4 .left)
 
 add-result-2 : tie.Need-add-result-2
 add-result-2 c = search needs
 
+returns-4 : tie.Need-returns-4
+returns-4 c =
+    let a = c .before .before .before .before .before in
+    λ z. number-length (a .args .n) (a .args .x) (a .pre .0) (c .before .before .before .before .if1 .left) (sym (c .before .before .before .is-identifier-word .ensures) ∙ c .before .before .if2 .taken) (sym (c .before .starts-with-letter .ensures) ∙ c .if3 .left)
+
+add-result-3 : tie.Need-add-result-3
+add-result-3 c = search needs
+
 escaped-count-requires : tie.Need-escaped-count-requires
 escaped-count-requires c κs = search needs
 
-add-result-3 : tie.Need-add-result-3
-add-result-3 c = record { fits = omega (arith, c .escaped-count .ensures, marked-most escapeMark (c .before .before .before .args .n) (c .before .before .before .args .x), c .before .before .before .pre .1) }
+add-result-4 : tie.Need-add-result-4
+add-result-4 c =
+    let a = c .before .before .before .before in
+    record { fits = omega (arith, c .escaped-count .ensures, marked-most escapeMark (a .args .n) (a .args .x), a .pre .1) }
 
-returns-4 : tie.Need-returns-4
-returns-4 c =
-    let a = c .before .before .before .args in
-    λ z. omega (arith, c .escaped-count .ensures, other-length (a .n) (a .x) (sym (c .before .before .is-identifier-word .ensures) ∙ c .before .if1 .left))
+returns-5 : tie.Need-returns-5
+returns-5 c =
+    let a = c .before .before .before .before .args in
+    λ z. omega (arith, c .escaped-count .ensures, other-length (a .n) (a .x) (sym (c .before .before .is-identifier-word .ensures) ∙ c .before .if2 .left))
 
 pub short-symbol-length-spec : {M : Type 1} → statement M
 short-symbol-length-spec =
     tie.close
     (tie.spec
+    returns
     is-identifier-word-requires
     starts-with-letter-requires
     is-keyword-word-requires
     add-result
-    returns
     returns-2
     returns-3
     add-result-2
-    escaped-count-requires
+    returns-4
     add-result-3
-    returns-4)
+    escaped-count-requires
+    add-result-4
+    returns-5)

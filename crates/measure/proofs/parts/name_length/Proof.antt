@@ -1,4 +1,4 @@
--- `parts::name_part` meets its contract. Assumes nothing.
+-- `parts::name_length` meets its contract. Assumes nothing.
 use mathlib.Core.Path.{_≡_}
 use native.Mathlib.Omega.{arith}
 use Prim.Native.Nat.{_+_}
@@ -11,8 +11,8 @@ use Rattle.writer.proofs.Leaves.{NameAt, text-name, id-name}
 use Rattle.measure.proofs.NumberLengths.{id-most}
 use Rattle.measure.proofs.PartLaws.{text-most, text-name-length, id-name-length}
 use borrow.Author.Needs.{needs}
-use Rattle.measure.proofs.parts.name_part.Statement.{statement}
-use Rattle.measure.proofs.parts.name_part.Tie as tie
+use Rattle.measure.proofs.parts.name_length.Statement.{statement}
+use Rattle.measure.proofs.parts.name_length.Tie as tie
 
 add-u32-at : tie.Need-add-u32-at
 add-u32-at c = search needs
@@ -40,18 +40,14 @@ plain-at-requires c κs =
     let k = c .before .before .before .before .pre .1 .0 in
     omega arith
 
-add-t12 : tie.Need-add-t12
-add-t12 c = search needs
-
-add-t13 : tie.Need-add-t13
-add-t13 c = search needs
+add-result : tie.Need-add-result
+add-result c = search needs
 
 returns : tie.Need-returns
 returns c =
-    let q = name (c .before .before) in
     let p = c .before .plain-at .ensures (c .if2 .taken) in
-    let t = text-name-length _ q in
-    (omega arith, rw (q .read) (omega arith))
+    let t = text-name-length _ (name (c .before .before)) in
+    omega arith
 
 symbol-length-requires : tie.Need-symbol-length-requires
 symbol-length-requires c κs =
@@ -59,22 +55,18 @@ symbol-length-requires c κs =
     let k = c .before .before .before .before .before .before .pre .1 .0 in
     omega arith
 
-add-t15 : tie.Need-add-t15
-add-t15 c =
+add-result-2 : tie.Need-add-result-2
+add-result-2 c =
     let a = c .before .before .before .before .before .before .before .args in
     let m = text-most _ (drop (a .at + 5) (now (a .tape))) (c .before .before .before .before .before .u32-at .ensures .1) in
     let r = c .symbol-length .ensures in
     record { fits = omega arith }
 
-add-t16 : tie.Need-add-t16
-add-t16 c = search needs
-
 returns-2 : tie.Need-returns-2
 returns-2 c =
-    let q = name (c .before .before .before) in
-    let t = text-name-length _ q in
     let r = c .symbol-length .ensures in
-    (omega arith, rw (q .read) (omega arith))
+    let t = text-name-length _ (name (c .before .before .before)) in
+    omega arith
 
 cast-symbol-id-length : tie.Need-cast-symbol-id-length
 cast-symbol-id-length c = search needs
@@ -82,8 +74,8 @@ cast-symbol-id-length c = search needs
 symbol-id-length-requires : tie.Need-symbol-id-length-requires
 symbol-id-length-requires c κs = search needs
 
-add-t18 : tie.Need-add-t18
-add-t18 c =
+add-result-3 : tie.Need-add-result-3
+add-result-3 c =
     let m = id-most (c .before .before .before .u32-at .result) in
     let r = c .symbol-id-length .ensures in
     record { fits = omega arith }
@@ -95,10 +87,10 @@ returns-3 c =
     let q = id-name (now (a .tape)) (a .at) (a .end) (s .pre .0) (trailed (s .pre .1 .0)) (s .pre .1 .1) _ (c .before .before .before .u32-at .ensures .0) (c .before .if1 .left) in
     let t = id-name-length _ q in
     let r = c .symbol-id-length .ensures in
-    (omega arith, rw (q .read) (omega arith))
+    omega arith
 
-pub name-part-spec : {M : Type 1} → statement M
-name-part-spec =
+pub name-length-spec : {M : Type 1} → statement M
+name-length-spec =
     tie.close
     (tie.spec
     add-u32-at
@@ -106,14 +98,12 @@ name-part-spec =
     add-from
     shared-slice-read-if1
     plain-at-requires
-    add-t12
-    add-t13
+    add-result
     returns
     symbol-length-requires
-    add-t15
-    add-t16
+    add-result-2
     returns-2
     cast-symbol-id-length
     symbol-id-length-requires
-    add-t18
+    add-result-3
     returns-3)
