@@ -61,7 +61,7 @@ written-reads (more h n ns) room f q l m =
       record {
         body = lineBody h n;
         is = refl;
-        only = line-body h n (a .0) .count;
+        only = line-body h n (a .0);
         reads = ap lineTape (sym (line-alone h n)) ∙ line-reads h n (a .0) (a .1);
         holds = tape-fits (tape (more h n nil)) room (omega arith) (omega arith);
       },
@@ -73,7 +73,7 @@ written-reads (more h n ns) room f q l m =
 -- a well-formed node's line in front of a text is its first line
 line-first : (h : Head) (n : Node) (t : List ℕ) → Fines 64 Top (more h n nil) → linesOf (line h n ++ t) ≡ line h n ∷ linesOf t
 unfolding line
-line-first h n t f = ap linesOf (append-assoc (lineBody h n) (lf ∷ []) t) ∙ cut-line (lineBody h n) t (line-body h n f .count)
+line-first h n t f = ap linesOf (append-assoc (lineBody h n) (lf ∷ []) t) ∙ cut-line (lineBody h n) t (line-body h n f)
 
 -- The lines of the Lines text are the nodes' own Lines texts.
 pub lines-each : (ns : Nodes) → Fines 64 Top ns → noteds ns ≡ false → linesOf (streamText 1 ns) ≡ linesEach ns

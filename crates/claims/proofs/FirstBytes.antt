@@ -12,7 +12,7 @@ use borrow.Author.Tests.{eqb-true, ne-eqb, leb-true, lt-leb}
 use Rattle.output.specs.Logic.{if, byte}
 use Rattle.text_rules.specs.Digits.{isDigit}
 use Rattle.text_rules.specs.Texts.{starts, strip, blank}
-use Rattle.text_rules.specs.Words.{isStart, isPart, behindWord}
+use Rattle.text_rules.specs.Words.{isStart}
 use Rattle.tape.specs.declared.Frame.{Frame}
 use Rattle.tape.specs.declared.Frame.the-variants.{Top, List as ListF, Sexp, Struct}
 use Rattle.reader.specs.Grammar.{skip, opener, opens, closes, numbers, numeric, words, scalar}
@@ -195,12 +195,3 @@ scalar-word m t f = ap (scalar m) (f .is) ∙ word-here m (f .byte₀) (f .rest)
 pub first-long : {P : ℕ → Bool} (t : List ℕ) → First P t → 1 ≤ length t
 first-long [] f = absurd (let z : _≡_ {A = List ℕ} [] (f .byte₀ ∷ f .rest) = f .is in let y : _≡_ {A = ℕ} 0 1 = cc in omega arith)
 first-long (c ∷ t) f = omega arith
-
--- what holds of nothing, and of a text with one more byte of a word in front, holds of a whole word
-pub word-all : (P : List ℕ → Type 0) → P [] → ((c : ℕ) (w : List ℕ) → isPart c ≡ true → P w → P (c ∷ w)) → (w : List ℕ) → behindWord w ≡ [] → P w
-word-all P z s [] h = z
-word-all P z s (c ∷ w) h = go (isPart c) refl (λ k. word-all P z s w k) (unfold behindWord in h)
-  where
-    go : (b : Bool) → isPart c ≡ b → (behindWord w ≡ [] → P w) → if b (behindWord w) (c ∷ w) ≡ [] → P (c ∷ w)
-    go true e f k = s c w e (f k)
-    go false e f k = absurd (let y : _≡_ {A = ℕ} 0 1 = cc in omega arith)

@@ -3,7 +3,6 @@ pub mod NumbersApart
 pub mod ScalarBack
 pub mod NoteBack
 pub mod StreamBack
-pub mod NoLineFeed
 pub mod LineBack
 pub mod TokensRead
 pub mod WellRead

@@ -6,16 +6,19 @@ use mathlib.Core.Bool.{false}
 use mathlib.Core.Option.{some}
 use native.Mathlib.Omega.{arith}
 use lib.ListN.{length, length-append}
-use Rattle.tape.specs.Tree.{Head, Node, Nodes, nil, more}
+use Rattle.text_rules.specs.Text.{Sym}
+use Rattle.tape.specs.Tree.{Head, Node, Nodes, scalar, nest, marker, nil, more}
 use Rattle.tape.specs.Refusal.{annotated, noted, noteds}
-use Rattle.tape.specs.Fine.{Fine, Fines}
-use Rattle.tape.specs.declared.Frame.the-variants.{Top}
+use Rattle.tape.specs.Fine.{Inner, Fine, Fines}
+use Rattle.tape.specs.declared.Frame.{Frame}
+use Rattle.tape.specs.declared.Frame.the-variants.{Top, List as ListF, Sexp, Struct}
 use Rattle.reader.specs.Grammar.{skip, closes, sequence, meaning}
-use Rattle.writer.specs.Text.{nameText, separator, blanks, text, streamText}
+use Rattle.line_reader.specs.Cut.{lfs}
+use Rattle.writer.specs.Text.{nameText, separator, broken, deeper, blanks, unbroken, text, texts, streamText}
+use Rattle.writer.proofs.NoLineFeed.{Unbroken, unbroken-nil, unbroken-first, unbroken-both, unbroken-name, unbroken-scalar, unbroken-blanks, unbroken-opening, unbroken-closing, unbroken-marker}
 use Rattle.claims.proofs.FirstBytes.{first-long}
 use Rattle.claims.proofs.NoteBack.{node-leads}
 use Rattle.claims.proofs.StreamBack.{parts-end, no-notes, three-false, child-back, body-back, sequence-end}
-use Rattle.claims.proofs.NoLineFeed.{NoLf, no-lf-both, no-lf-name, no-lf-text}
 
 -- the text of a top-level node, without its LF
 unfoldable pub lineBody : Head → Node → List ℕ
@@ -50,12 +53,45 @@ pub alone-rest : (h : Head) (n : Node) (ns : Nodes) → Fines 64 Top (more h n n
 unfolding Fine noted
 alone-rest h n ns f q = (f .2, three-false (annotated (h .1)) (noted n) (noteds ns) q .2)
 
--- its only LF is the last byte
-pub line-body : (h : Head) (n : Node) → Fines 64 Top (more h n nil) → NoLf (lineBody h n)
-unfolding lineBody Fine
-line-body h n f = no-lf-both (no-lf-name (h .0)) (no-lf-text n 0 64 Top (h .1) (f .1))
+-- ---- its only LF is the last byte
 
--- the line without its LF means the node
+unbroken-broken : Unbroken (broken 1)
+unfolding broken
+unbroken-broken = unbroken-nil
+
+unbroken-separator : (k : Frame) → Inner k → Unbroken (separator 1 k)
+unfolding separator unbroken
+unbroken-separator Top h = absurd h
+unbroken-separator ListF h = record { told = refl }
+unbroken-separator Sexp h = record { told = refl }
+unbroken-separator Struct h = record { told = refl }
+
+mutual
+  unfolding text Fine
+
+  unbroken-text : (n : Node) (w d : ℕ) (k : Frame) (ss : List Sym) → Fine d k ss n → Unbroken (text 1 w n)
+  unbroken-text (scalar s) w d k ss h = unbroken-scalar s
+  unbroken-text (nest i ns) w zero k ss h = absurd h
+  unbroken-text (nest i ns) w (suc d) k ss h =
+      unbroken-both (unbroken-both (unbroken-both (unbroken-both (unbroken-opening i) unbroken-broken) (unbroken-texts ns (deeper 1 w) d i (h .0) (h .2))) (unbroken-blanks w)) (unbroken-closing i)
+  unbroken-text marker w d k ss h = unbroken-marker
+
+  unbroken-texts : (ns : Nodes) (w d : ℕ) (k : Frame) → Inner k → Fines d k ns → Unbroken (texts 1 k w ns)
+  unbroken-texts nil w d k i h = unbroken-nil
+  unbroken-texts (more x n ns) w d k i h =
+      unbroken-both (unbroken-both (unbroken-both (unbroken-both (unbroken-blanks w) (unbroken-name (x .0))) (unbroken-text n w d k (x .1) (h .1))) (unbroken-separator k i)) (unbroken-texts ns w d k i (h .2))
+
+none-counted : (s : List ℕ) → Unbroken s → lfs s ≡ 0
+unfolding lfs
+none-counted [] u = refl
+none-counted (c ∷ s) u = let f = unbroken-first c u in rw (f .0) (none-counted s (f .1))
+
+pub line-body : (h : Head) (n : Node) → Fines 64 Top (more h n nil) → lfs (lineBody h n) ≡ 0
+unfolding lineBody Fine
+line-body h n f = none-counted _ (unbroken-both (unbroken-name (h .0)) (unbroken-text n 0 64 Top (h .1) (f .1)))
+
+-- ---- the line without its LF means the node
+
 end-back : (f l : ℕ) → 1 ≤ f → sequence f Top l [] ≡ some (nil, [])
 end-back zero l h = absurd (omega arith)
 end-back (suc f) l h = sequence-end f l Top [] [] (unfold closes skip in refl)

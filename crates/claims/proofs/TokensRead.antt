@@ -30,6 +30,7 @@ use Rattle.reader.specs.Grammar.{taken}
 use Rattle.text_rules.proofs.DigitLaws.{never}
 use Rattle.text_rules.proofs.Utf8Chars.{and-left, and-second, and-third}
 use Rattle.text_rules.proofs.Utf8View.{Char, one, two, three, four, valid-char, ascii-char}
+use Rattle.text_rules.proofs.WordsBack.{word-all}
 use Rattle.text_rules.proofs.WordsLaws.{behind-word}
 use Rattle.tokens.proofs.QuotedMany.{characters-many}
 use Rattle.tokens.proofs.Utf8Back.{many-all, character-char, valid-nothing, quoted-valid, clob-bytes}
@@ -37,7 +38,6 @@ use Rattle.numbers.proofs.DecimalBack.{decimal-range, int-range}
 use Rattle.numbers.proofs.TimestampBack.{timestamp-well}
 use Rattle.tape.proofs.Reading.{if-all}
 use Rattle.claims.specs.InRange.{Got, got-none, got, IsText, SymInRange, NumeralInRange}
-use Rattle.claims.proofs.FirstBytes.{word-all}
 
 -- ---- what holds of what was read, if anything was
 

@@ -82,6 +82,11 @@ unfolding behindWord
 behind-back [] r h s = s .all-behind
 behind-back (c ∷ w) r h s = let p = behind-first c w h in rw (p .0) (behind-back w r (p .1) s)
 
+-- what holds of nothing, and of a text with one more byte of a word in front, holds of a whole word
+pub word-all : (P : List ℕ → Type 0) → P [] → ((c : ℕ) (w : List ℕ) → isPart c ≡ true → P w → P (c ∷ w)) → (w : List ℕ) → behindWord w ≡ [] → P w
+word-all P z s [] h = z
+word-all P z s (c ∷ w) h = let p = behind-first c w h in s c w (p .0) (word-all P z s w (p .1))
+
 -- ---- identifiers and digits are words
 
 empty-is : (t : List ℕ) → empty t ≡ true → t ≡ []

@@ -4,4 +4,6 @@ pub mod Leaves
 pub mod Notes
 pub mod Turning
 pub mod Items
+pub mod NoLineFeed
+pub mod Indented
 pub mod Verdicts

@@ -2,6 +2,7 @@
 -- Assumes nothing: these are definitions.
 use Prim.Native.Nat.{ℕ, _+_}
 use mathlib.Core.List.{List, [], _∷_, _++_}
+use mathlib.Core.Bool.{Bool, true, not, _&&_}
 use mathlib.Core.Option.{Option, none, some}
 use lib.Dec.{eqb}
 use lib.ListN.{replicate}
@@ -73,6 +74,20 @@ deeper y w = if (eqb y 2) (w + 2) 0
 
 abbrev pub blanks : ℕ → List ℕ
 blanks w = replicate w (byte " ")
+
+-- no LF stands in a text
+unfoldable pub unbroken : List ℕ → Bool
+unbroken [] = true
+unbroken (c ∷ s) = not (eqb c (byte "\n")) && unbroken s
+
+-- the lines of a text, with n further blanks before each. starts: a line starts with the next byte
+unfoldable pub indentedFrom : Bool → ℕ → List ℕ → List ℕ
+indentedFrom starts n [] = []
+indentedFrom starts n (c ∷ s) = if starts (blanks n) [] ++ (c ∷ indentedFrom (eqb c (byte "\n")) n s)
+
+-- the same of a whole text, which starts with a line
+unfoldable pub indented : ℕ → List ℕ → List ℕ
+indented n s = indentedFrom true n s
 
 -- The text of a node before which w blanks stand: a struct value has no indentation before it, its name has, so the blanks are the child's.
 -- Every closing bracket is indented at its container's level. Annotations have no place here: they are refused by 5.

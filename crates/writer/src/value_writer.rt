@@ -1,7 +1,7 @@
 // The text of values, and of the nodes of a body in a layout.
 ghost use mathlib.Core.Path.{_≡_};
 ghost use mathlib.Core.List.{_++_};
-ghost use Prim.Native.Nat.{_+_, _*_, _<_, _≤_};
+ghost use Prim.Native.Nat.{_+_, _-_, _*_, _<_, _≤_};
 ghost use lib.ListN.{length, getD, take, drop};
 ghost use Rattle.output.specs.Wrote.{Wrote, limit};
 ghost use Rattle.tape.specs.Bytes.{part};
@@ -13,7 +13,7 @@ ghost use Rattle.tape.specs.Tape.{reading, nameOf, notesOf, headOf, scalarOf, w
 ghost use Rattle.tape.specs.Steps.{placeOf, meantScalar, sizeOf, headAt};
 ghost use Rattle.tape.specs.declared.Place.the-variants.{At};
 ghost use Rattle.output.specs.Logic.{if, ascii};
-ghost use Rattle.writer.specs.Text.{scalarText, nameText, notesText, blanks, closing};
+ghost use Rattle.writer.specs.Text.{scalarText, nameText, notesText, blanks, closing, indented, texts};
 ghost use Rattle.text_rules.specs.Text.{symbolText, stringText, clobText};
 ghost use Rattle.tape.specs.declared.Frame.the-variants.{Struct};
 ghost use Rattle.writer.specs.Steps.{Rare, nameIn, notesIn, sizeTaken, front, separating, Plain, item, items, nodeAt, sizeAt, problemAt};
@@ -412,7 +412,7 @@ fn write_container(
     requires { ⌜ at ≤ end ⌝ }
     requires { ⌜ end + 8 ≤ length (now tape) ⌝ }
     requires { ⌜ pos ≤ limit ⌝ }
-    requires { ⌜ 2 * depth + width ≤ 128 ⌝ }
+    requires { ⌜ 2 * depth + width ≤ 256 ⌝ }
     requires { ⌜ problemAt depth (part (now tape) at end) ≡ 0 ⌝ }
     requires { ⌜ (10 ≤ getD (now tape) at 0) × (getD (now tape) at 0 ≡ 14 → ⊥) ⌝ }
     ensures text { λ r. ⌜ Wrote (now (buf .entry)) (now (buf .exit)) pos (r .pos) (item layout width (nodeAt depth (part (now (tape .entry)) at end))) ⌝ }
@@ -442,7 +442,7 @@ fn write_value(
     requires { ⌜ at ≤ end ⌝ }
     requires { ⌜ end + 8 ≤ length (now tape) ⌝ }
     requires { ⌜ pos ≤ limit ⌝ }
-    requires { ⌜ 2 * depth + width ≤ 128 ⌝ }
+    requires { ⌜ 2 * depth + width ≤ 256 ⌝ }
     requires { ⌜ problemAt depth (part (now tape) at end) ≡ 0 ⌝ }
     ensures text { λ r. ⌜ Wrote (now (buf .entry)) (now (buf .exit)) pos (r .pos) (item layout width (nodeAt depth (part (now (tape .entry)) at end))) ⌝ }
     ensures place { λ r. ⌜ r .at ≡ at + sizeAt (part (now (tape .entry)) at end) ⌝ }
@@ -459,7 +459,8 @@ fn write_value(
 }
 
 // The nodes of a body, with `width` blanks before each. This body and those inside it are `depth` at most. Eight bytes stand behind every body,
-// as the trailer does, so that a word may be loaded at any place of it.
+// as the trailer does, so that a word may be loaded at any place of it. Every width up to 128 may be handed at every depth up to 65. In Pretty
+// a width of 2 or more gives the lines that 2 gives, with the further blanks before each.
 pub fn write_nodes(
     tape: &[u8],
     from: usize,
@@ -474,9 +475,10 @@ pub fn write_nodes(
     requires { ⌜ from ≤ end ⌝ }
     requires { ⌜ end + 8 ≤ length (now tape) ⌝ }
     requires { ⌜ pos ≤ limit ⌝ }
-    requires { ⌜ 2 * depth + width ≤ 130 ⌝ }
+    requires { ⌜ 2 * depth + width ≤ 258 ⌝ }
     requires { ⌜ walk depth frame (part (now tape) from end) .1 ≡ 0 ⌝ }
-    ensures { λ r. ⌜ Wrote (now (buf .entry)) (now (buf .exit)) pos r (items layout frame width (walk depth frame (part (now (tape .entry)) from end) .0)) ⌝ }
+    ensures text { λ r. ⌜ Wrote (now (buf .entry)) (now (buf .exit)) pos r (items layout frame width (walk depth frame (part (now (tape .entry)) from end) .0)) ⌝ }
+    ensures moved { λ r. ⌜ (layout ≡ 2 → 2 ≤ width → Wrote (now (buf .entry)) (now (buf .exit)) pos r (indented (width - 2) (texts 2 frame 2 (walk depth frame (part (now (tape .entry)) from end) .0)))) ⌝ }
 {
     if depth == 0 {
         return pos;

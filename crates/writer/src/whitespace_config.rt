@@ -77,7 +77,7 @@ pub fn write_blanks(buf: &mut [u8], pos: usize, width: usize) -> usize
 
 // How many blanks stand before a child of a container that has `width` before itself.
 pub fn indentation(layout: u32, width: usize) -> usize
-    requires { ⌜ width ≤ 128 ⌝ }
+    requires { ⌜ width ≤ 256 ⌝ }
     ensures { λ r. ⌜ r ≡ deeper layout width ⌝ }
 {
     if layout == 2 { width + 2 } else { 0 }

@@ -81,7 +81,7 @@ returns-5 c =
     let e = tape-good t v (sym (n .count) ∙ c .before .before .before .before .before .before .before .before .if2 .left) (sym (n .numbered) ∙ c .before .before .before .before .before .before .before .if3 .left) (c .before .before .before .before .before .if4 .left) in
     let m : Bytes t = λ i. c .before .before .before .before .before .before .before .before .before .before .before .before .before .before .shared-slice-known .given i .fits in
     let o = sym (n .count) ∙ c .before .before .before .before .before .before .before .before .if2 .left in
-    let w = c .before .before .before .write-nodes .ensures in
+    let w = c .before .before .before .write-nodes .ensures .0 in
     (clipped-by _ _ _ _ m v o e w (rw (wrote-length w) at (c .if5 .taken)), laid-by _ _ _ _ m v o e w)
 
 same-length-2 : tie.Need-same-length-2
@@ -96,7 +96,7 @@ returns-6 c =
     let e = tape-good t v (sym (n .count) ∙ c .before .before .before .before .before .before .before .before .if2 .left) (sym (n .numbered) ∙ c .before .before .before .before .before .before .before .if3 .left) (c .before .before .before .before .before .if4 .left) in
     let m : Bytes t = λ i. c .before .before .before .before .before .before .before .before .before .before .before .before .before .before .shared-slice-known .given i .fits in
     let o = sym (n .count) ∙ c .before .before .before .before .before .before .before .before .if2 .left in
-    let w = c .before .before .before .write-nodes .ensures in
+    let w = c .before .before .before .write-nodes .ensures .0 in
     (counted-by _ _ _ _ m v o e w (rw (wrote-length w) at (c .if5 .left)), laid-by _ _ _ _ m v o e w)
 
 pub write-tree-spec : {M : Type 1} → statement M

@@ -6,12 +6,14 @@ use denote.Ref.{now}
 use Prim.Native.Nat.{ℕ, _+_, _*_, _-_, _<_, _≤_}
 use Rattle.output.proofs.Laws.{Progress, start, more, finish, wrote-none, wrote-then, wrote-length, wrote-bound}
 use Rattle.tape.specs.Bytes.{part}
+use Rattle.tape.specs.Tree.{nil}
 use Rattle.tape.specs.Tape.{Walked, walk}
 use Rattle.tape.proofs.Walking.{walk-end}
 use Rattle.tape.proofs.Parts.{part-length}
 use Rattle.writer.specs.Steps.{ending, items}
 use Rattle.writer.proofs.Layouts.{deeper-most}
 use Rattle.writer.proofs.Turning.{head-here, turn-here}
+use Rattle.writer.proofs.Indented.{wrote-moved}
 use Rattle.writer.proofs.Items.{last-child, items-turn, value-place, scalar-text, scalar-size, scalar-some, marker-text, marker-length, header-room, container}
 use Rattle.tape.proofs.Parts.{trailed}
 use borrow.Author.Needs.{needs}
@@ -90,7 +92,10 @@ module _ (t : ℕ) where
 
   nodes-returns : nodes-lts.Need-returns (nodes-calls t) (nodes-at t) nodes.Post Inv μ-loop
   unfolding items walk
-  nodes-returns c = rw (c .if1 .taken) (wrote-none _ _ (c .before .before .before .pre .1 .1 .1 .0) (search needs))
+  nodes-returns c =
+      let a = c .before .before .before .args in
+      let w = wrote-none (now (a .buf)) (a .pos) (c .before .before .before .pre .1 .1 .1 .0) (search needs) in
+      rw (c .if1 .taken) (w, wrote-moved (a .layout) (a .width) (a .frame) nil w)
 
   nodes-separator-of-requires : nodes-lts.Need-separator-of-requires (nodes-calls t) (nodes-at t) nodes.Post Inv μ-loop
   nodes-separator-of-requires c κs = search needs
@@ -169,7 +174,8 @@ module _ (t : ℕ) where
       let l = c .before .loop in
       let n = part-length (now (a .tape)) (l .at) (a .end) (trailed (c .before .before .before .before .before .before .pre .1 .1 .0)) in
       let z = c .loop-test .left in
-      finish (l .inv .2) (ap (λ (w : Walked). items (a .layout) (a .frame) (a .width) (w .0)) (walk-end (a .frame) (a .depth) _ (c .before .before .before .if1 .left) (omega arith)))
+      let w = finish (l .inv .2) (ap (λ (w : Walked). items (a .layout) (a .frame) (a .width) (w .0)) (walk-end (a .frame) (a .depth) _ (c .before .before .before .if1 .left) (omega arith))) in
+      (w, wrote-moved (a .layout) (a .width) (a .frame) _ w)
 
   -- ---- a value
 
@@ -332,7 +338,7 @@ module _ (t : ℕ) where
       (omega arith, (omega arith, (omega arith, (wrote-bound (c .before .before .before .before .write-start .ensures), (omega arith, q .fine)))))
 
   container-write-close-requires : container-lts.Need-write-close-requires (container-calls t) (container-at t) container-reads.Post
-  container-write-close-requires c κs = wrote-bound (c .before .before .before .write-nodes .ensures)
+  container-write-close-requires c κs = wrote-bound (c .before .before .before .write-nodes .ensures .0)
 
   container-same-length : container-lts.Need-same-length (container-calls t) (container-at t) container-reads.Post
   container-same-length c = search needs
@@ -347,7 +353,7 @@ module _ (t : ℕ) where
       let m = s .pre .1 .1 .1 .1 .1 .1 .1 in
       let r = header-room (a .layout) (a .width) (a .depth) (now (a .tape)) (a .at) (a .end) (trailed i) z h m in
       let q = container (a .layout) (a .width) (a .depth) (now (a .tape)) (a .at) (a .end) (trailed i) z h m _ (c .before .before .before .before .before .before .before .before .before .before .before .before .before .before .frame-of .ensures) _ (c .before .before .before .before .before .before .before .before .before .before .before .before .before .u32-at .ensures .0) in
-      let b = rw (c .before .before .before .before .before .before .before .before .indentation .ensures) at (c .before .before .before .before .before .before .write-nodes .ensures) in
+      let b = rw (c .before .before .before .before .before .before .before .before .indentation .ensures) at (c .before .before .before .before .before .before .write-nodes .ensures .0) in
       (rw (q .written) (wrote-then (wrote-then (c .before .before .before .before .before .before .before .before .before .before .before .write-start .ensures) b) (c .before .before .write-close .ensures)), q .place)
 
 pub +write-container+write-nodes+write-value-spec : {M : Type 1} → statement M

@@ -54,7 +54,7 @@ returns-4 : tie.Need-returns-4
 returns-4 c =
     let k = c .before .before .before .before .before .before .before .before .check-tape .ensures .counts (c .before .before .before .before .before .before .if2 .left) in
     let e = tape-good _ (now (c .before .before .before .before .before .before .before .before .before .before .before .before .args .tape)) (c .before .before .before .before .before .before .before .before .before .if1 .left) (sym (c .before .before .before .before .before .before .before .before .check-tape .ensures .fault) ∙ c .before .before .before .before .before .before .if2 .left) (sym (k .noted) ∙ c .before .before .before .before .before .if3 .left) in
-    let w = c .before .before .before .write-nodes .ensures in
+    let w = c .before .before .before .write-nodes .ensures .0 in
     (clipped-by _ _ _ _ _ (c .before .before .before .before .before .before .before .before .before .if1 .left) e w (rw (wrote-length w) at (c .if4 .taken)), laid-by _ _ _ _ _ (c .before .before .before .before .before .before .before .before .before .if1 .left) e w)
 
 same-length-2 : tie.Need-same-length-2
@@ -64,7 +64,7 @@ returns-5 : tie.Need-returns-5
 returns-5 c =
     let k = c .before .before .before .before .before .before .before .before .check-tape .ensures .counts (c .before .before .before .before .before .before .if2 .left) in
     let e = tape-good _ (now (c .before .before .before .before .before .before .before .before .before .before .before .before .args .tape)) (c .before .before .before .before .before .before .before .before .before .if1 .left) (sym (c .before .before .before .before .before .before .before .before .check-tape .ensures .fault) ∙ c .before .before .before .before .before .before .if2 .left) (sym (k .noted) ∙ c .before .before .before .before .before .if3 .left) in
-    let w = c .before .before .before .write-nodes .ensures in
+    let w = c .before .before .before .write-nodes .ensures .0 in
     (counted-by _ _ _ _ _ (c .before .before .before .before .before .before .before .before .before .if1 .left) e w (rw (wrote-length w) at (c .if4 .left)), laid-by _ _ _ _ _ (c .before .before .before .before .before .before .before .before .before .if1 .left) e w)
 
 pub write-stream-spec : {M : Type 1} → statement M
