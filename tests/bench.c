@@ -1,6 +1,7 @@
 /* Times ion_write in a layout, or ion_write_tree, over tape files, and in turn with it ion_length or ion_tree_length: thread processor time, best
-   of many. Prints for each file the answer and both times. With `once` there is one call of the writer for each file, for count.py.
-   Usage: bench [once] LAYOUT|tree FILE.. */
+   of many. Prints for each file the answer and both times. For count.py, with `once` there is one call of the writer for each file, and with
+   `both` one of the length behind it.
+   Usage: bench [once|both] LAYOUT|tree FILE.. */
 #include "../bindings/c/ion.h"
 
 #include <stdio.h>
@@ -21,7 +22,7 @@ static double now(void) {
 static uint8_t tape[1 << 20], out[1 << 24];
 
 int main(int count, char **words) {
-    int once = !strcmp(words[1], "once");
+    int both = !strcmp(words[1], "both"), once = both || !strcmp(words[1], "once");
     int tree = !strcmp(words[1 + once], "tree");
     uint32_t layout = atoi(words[1 + once]);
     for (int k = 2 + once; k < count; k++) {
@@ -30,14 +31,14 @@ int main(int count, char **words) {
         size_t n = fread(tape, 1, sizeof tape, f);
         fclose(f);
         int turns = once ? 1 : 1 + 200000 / (int)(n + 20), runs = once ? 1 : 300;
-        double best = 1e18, length = once ? 0 : 1e18;
+        double best = 1e18, length = 1e18;
         int64_t r = 0;
         for (int i = 0; i < runs; i++) {
             double a = now();
             for (int j = 0; j < turns; j++) r = tree ? ion_write_tree(tape, n, out, sizeof out) : ion_write(layout, tape, n, out, sizeof out);
             double d = (now() - a) / turns;
             if (d < best) best = d;
-            if (once || !ion_length) continue;
+            if (once > both || !ion_length) continue;
             a = now();
             for (int j = 0; j < turns; j++)
                 if ((tree ? ion_tree_length(tape, n) : ion_length(layout, tape, n)) != r) return 2;

@@ -26,9 +26,9 @@ def main():
     oracle, bench = builds.oracle(), builds.c_program('bench')
     print('%-16s %6s %12s %12s %7s %12s %7s' % ('sample', 'layout', 'Rust ns', 'ours ns', 'ratio', 'length ns', 'of ours'))
     with tempfile.TemporaryDirectory() as folder:
-        for name, path, one in sorted(samples.write(folder)):
+        for name, path, layouts in sorted(samples.write(folder)):
             turns = max(500, 40_000_000 // (os.path.getsize(path) + 20))
-            for layout in ['0', '1', '2'] + ['tree'] * one:
+            for layout in layouts:
                 rust = own = length = 1e18
                 for _ in range(rounds):
                     rust = min(rust, float(re.search(r'best ([0-9.]+) ns', said(oracle, 'bench', layout, path, str(turns)))[1]))

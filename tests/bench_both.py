@@ -36,8 +36,8 @@ def main():
         print('%-16s %6s %12s %12s %7s' % ('sample', 'layout', 'before ns', 'now ns', 'ratio'))
         tapes = os.path.join(folder, 'tapes')
         os.mkdir(tapes)
-        for name, path, one in sorted(samples.write(tapes)):
-            for layout in ['0', '1', '2'] + ['tree'] * one:
+        for name, path, layouts in sorted(samples.write(tapes)):
+            for layout in layouts:
                 best = [[1e18] * len(PLACES), [1e18] * len(PLACES)]
                 for _ in range(rounds):
                     for k, of in enumerate(programs):

@@ -1,4 +1,5 @@
-"""Instructions and taken branches of one call that writes a sample tape (tests/samples.py), by valgrind's callgrind on our archive.
+"""Instructions and taken branches of one call that writes a sample tape (tests/samples.py), and instructions of one that tells its text's
+length, by valgrind's callgrind on our archive.
 
     python3 tests/count.py
 
@@ -15,16 +16,15 @@ import builds
 import samples
 
 COLUMNS = [('0', name) for name in ('record', 'passlist', 'ints', 'symbols', 'decimals', 'strings', 'escapes', 'deep')]
-COLUMNS += [('tree', 'record'), ('tree', 'passlist')]
+COLUMNS += [('tree', name) for name in ('record', 'passlist', 'annotated')]
 
 
-def counted(bench, layout, path):
-    """The instructions of the one call, and its taken branches. Callgrind has a line for each place that jumps or calls: `jump=times`,
-    `jcnd=taken/times`, `calls=times`; each call also returns."""
-    call = 'ion_write_tree' if layout == 'tree' else 'ion_write'
+def counted(bench, how, call, layout, path):
+    """The instructions of the call, and the taken branches of it and of what is called before it. Callgrind has a line for each place that
+    jumps or calls: `jump=times`, `jcnd=taken/times`, `calls=times`; each call also returns."""
     out = path + '.counts'
     subprocess.run(['valgrind', '--tool=callgrind', '--collect-atstart=no', '--toggle-collect=' + call, '--collect-jumps=yes', '--dump-instr=yes',
-                    '--callgrind-out-file=' + out, bench, 'once', layout, path], check=True, stdout=subprocess.DEVNULL, stderr=subprocess.DEVNULL)
+                    '--callgrind-out-file=' + out, bench, how, layout, path], check=True, stdout=subprocess.DEVNULL, stderr=subprocess.DEVNULL)
     with open(out) as f:
         said = f.read()
 
@@ -35,12 +35,13 @@ def counted(bench, layout, path):
 
 def main():
     bench = builds.c_program('bench')
-    print('%-18s %14s %16s' % ('sample', 'instructions', 'taken branches'))
+    print('%-18s %14s %16s %14s' % ('sample', 'instructions', 'taken branches', 'of the length'))
     with tempfile.TemporaryDirectory() as folder:
         paths = {name: path for name, path, _ in samples.write(folder)}
         for layout, name in COLUMNS:
-            instructions, branches = counted(bench, layout, paths[name])
-            print('%-18s %14s %16s' % (name + ', tree' * (layout == 'tree'), '{:,}'.format(instructions), '{:,}'.format(branches)), flush=True)
+            write, tell = ('ion_write_tree', 'ion_tree_length') if layout == 'tree' else ('ion_write', 'ion_length')
+            counts = [*counted(bench, 'once', write, layout, paths[name]), counted(bench, 'both', tell, layout, paths[name])[0]]
+            print('%-18s %14s %16s %14s' % (name + ', tree' * (layout == 'tree'), *map('{:,}'.format, counts)), flush=True)
 
 
 if __name__ == '__main__':

@@ -2,8 +2,8 @@
 
     python3 tests/samples.py FOLDER
 
-writes them as files. Every tape but `lines` has one top-level node, so that it has a tree text too; none has annotations, so that it has
-the streaming texts.
+writes them as files. Every tape but `lines` has one top-level node, so that it has a tree text too; none but `annotated` has annotations,
+so that it has the streaming texts.
 """
 import calendar
 import os
@@ -96,15 +96,17 @@ def samples():
     yield 'textclob', [('clob', b'plain ASCII text, all of it raw; ' * 500)]
     yield 'deep', [('list', [nested(63, ('int', 1)) for _ in range(50)])]
     yield 'siblings', [('list', [siblings(63) for _ in range(50)])]
+    units = ['degrees', 'mag', 'seconds', 'J2000', 'observed', 'right_ascension', 'photometric_system']
+    yield 'annotated', [('list', [('notes', [sym(r.choice(units)) for _ in range(r.choice([2, 3]))], ('int', r.randrange(10**6))) for _ in range(1000)])]
 
 
 def write(folder):
-    """Each as NAME.tape in the folder; gives the names with their files and whether the tape has a tree text."""
+    """Each as NAME.tape in the folder; gives the names with their files and the layouts that the tape has a text in."""
     for name, values in samples():
         path = os.path.join(folder, name + '.tape')
         with open(path, 'wb') as f:
             f.write(tape(values))
-        yield name, path, len(values) == 1
+        yield name, path, ['0', '1', '2'] * (name != 'annotated') + ['tree'] * (len(values) == 1)
 
 
 if __name__ == '__main__':

@@ -2,7 +2,7 @@
 use mathlib.Core.Path.{_≡_, refl}
 use mathlib.Core.Bool.{Bool, true, false, _&&_, _||_}
 use mathlib.Core.List.{List, [], _∷_, _++_}
-use Prim.Native.Nat.{ℕ, zero, suc, _+_, _*_, _/_, _%_, _≤_, _<_}
+use Prim.Native.Nat.{ℕ, zero, suc, _+_, _-_, _*_, _/_, _%_, _≤_, _<_}
 use native.Mathlib.Omega.{arith}
 use lib.Dec.{leb}
 use lib.ListN.{length, take, drop, length-append, length-take}
@@ -51,6 +51,12 @@ raw-both : (s t : List ℕ) → textBody s ≡ s → textBody t ≡ t → textBo
 raw-both s t h e =
     let z : 0 + length s ≡ length s = omega arith in
     body-part (s ++ t) 0 (length s) (rw (take-append-seam s t) h) (rw (z, drop-append-seam s t) e)
+
+-- the first n bytes, of which the first m are raw, and so are the others
+pub raw-rest : (s : List ℕ) (m n : ℕ) → m ≤ n → textBody (take m s) ≡ take m s → textBody (take (n - m) (drop m s)) ≡ take (n - m) (drop m s) → textBody (take n s) ≡ take n s
+raw-rest s m n l h e =
+    let z : n ≡ m + (n - m) = omega arith in
+    rw (z, take-add m (n - m) s) (raw-both (take m s) (take (n - m) (drop m s)) h e)
 
 -- i raw bytes from a place on and k more, which a word has
 pub raw-more : (s : List ℕ) (from i k x : ℕ) → k ≤ 8 → leBytes 8 x ≡ take 8 (drop (from + i) s) → every (unmarkedBy noRaw) (leBytes k x) ≡ true

@@ -6,8 +6,8 @@ use Prim.Native.Nat.{ℕ, zero, suc, _+_, _-_, _%_, _≤_, _<_}
 use native.Mathlib.Decide.{decLe}
 use native.Mathlib.Omega.{arith}
 use lib.Dec.{eqb}
-use lib.ListN.{length, getD, take, drop, length-append, length-take, length-drop}
-use lib.Seq.{take-add, drop-drop, getD-take, getD-drop}
+use lib.ListN.{length, getD, take, drop, length-append}
+use lib.Seq.{take-add, drop-drop}
 use borrow.Author.Tests.{lt-leb, ne-eqb}
 use Rattle.output.specs.Logic.{if, byte, ascii}
 use Rattle.output.specs.Wrote.{leBytes}
@@ -160,7 +160,7 @@ two-words s i n x y l h e f =
     ∙ sym (ap (λ (k : ℕ). take k (drop i s)) z ∙ take-add 8 (n - 8) (drop i s))
 
 -- a keyword has five bytes at most
-long-keyword : (s : List ℕ) → 5 < length s → isKeyword s ≡ false
+pub long-keyword : (s : List ℕ) → 5 < length s → isKeyword s ≡ false
 unfolding isKeyword
 long-keyword s h =
     rw (same-long (ascii "true") s (λ e. omega arith), same-long (ascii "false") s (λ e. omega arith), same-long (ascii "nan") s (λ e. omega arith), same-long (ascii "null") s (λ e. omega arith))
@@ -193,28 +193,16 @@ module _ (n x y : ℕ) (l : 9 ≤ n) (h : n ≤ 16) where
 -- ---- many words
 
 -- the bytes left from i on: eight, which a word has, and the others
-pub part-left : (s : List ℕ) (from n i x : ℕ) → i + 8 ≤ n → leBytes 8 x ≡ take 8 (drop (from + i) s)
-    → allPart (take (n - i) (drop (from + i) s)) ≡ every (unmarkedBy noPart) (leBytes 8 x) && allPart (take (n - (i + 8)) (drop (from + (i + 8)) s))
-part-left s from n i x h e =
-    let at = from + i in
+pub part-left : (s : List ℕ) (n i x : ℕ) → i + 8 ≤ n → leBytes 8 x ≡ take 8 (drop i s)
+    → allPart (take (n - i) (drop i s)) ≡ every (unmarkedBy noPart) (leBytes 8 x) && allPart (take (n - (i + 8)) (drop (i + 8) s))
+part-left s n i x h e =
     let k = n - (i + 8) in
     let z : n - i ≡ 8 + k = omega arith in
-    let a : at + 8 ≡ from + (i + 8) = omega arith in
-    ap (λ (j : ℕ). allPart (take j (drop at s))) z
-    ∙ ap allPart (take-add 8 k (drop at s))
-    ∙ part-append (take 8 (drop at s)) (take k (drop 8 (drop at s)))
-    ∙ ap₂ (λ (b c : Bool). b && c) (ap allPart (sym e) ∙ sym (part-word 8 x)) (ap (λ (t : List ℕ). allPart (take k t)) (drop-drop 8 at s ∙ ap (λ (j : ℕ). drop j s) a))
+    ap (λ (j : ℕ). allPart (take j (drop i s))) z
+    ∙ ap allPart (take-add 8 k (drop i s))
+    ∙ part-append (take 8 (drop i s)) (take k (drop 8 (drop i s)))
+    ∙ ap₂ (λ (b c : Bool). b && c) (ap allPart (sym e) ∙ sym (part-word 8 x)) (ap (λ (t : List ℕ). allPart (take k t)) (drop-drop 8 i s))
 
 -- k bytes that a word has
 pub part-last : (s : List ℕ) (at k x : ℕ) → k ≤ 8 → leBytes 8 x ≡ take 8 (drop at s) → every (unmarkedBy noPart) (leBytes k x) ≡ allPart (take k (drop at s))
 part-last s at k x h e = part-word k x ∙ ap allPart (word-part s at k x h e)
-
--- as many bytes as are asked for
-pub taken-length : (s : List ℕ) (from n : ℕ) → from + n ≤ length s → length (take n (drop from s)) ≡ n
-taken-length s from n h = omega (arith, length-take n (drop from s), length-drop from s)
-
--- and the first of them
-pub taken-first : (s : List ℕ) (from n : ℕ) → 0 < n → getD (take n (drop from s)) 0 0 ≡ getD s from 0
-taken-first s from n h =
-    let z : from + 0 ≡ from = omega arith in
-    getD-take n (drop from s) 0 0 h ∙ rw z at (getD-drop from s 0 0)

@@ -46,15 +46,15 @@ fn at_most_8(n: usize) -> usize
     if n < 8 { n } else { 8 }
 }
 
-// By how many bytes the body is longer than the n bytes of s from a place on, word by word.
-fn escapes_at(s: &[u8], from: usize, n: usize) -> usize
-    requires { ⌜ from + n + 8 ≤ length (now s) ⌝ }
-    ensures { λ r. ⌜ n + r ≡ length (textBody (take n (drop from (now (s .entry))))) ⌝ }
+// By how many bytes the body is longer than the n first bytes of s, word by word.
+fn escapes_of(s: &[u8], n: usize) -> usize
+    requires { ⌜ n + 8 ≤ length (now s) ⌝ }
+    ensures { λ r. ⌜ n + r ≡ length (textBody (take n (now (s .entry)))) ⌝ }
 {
     let mut c: usize = 0;
     let mut i: usize = 0;
     while i < n {
-        c = c + crate::marks::escaped_count(output::word_at(s, from + i), at_most_8(n - i));
+        c = c + crate::marks::escaped_count(output::word_at(s, i), at_most_8(n - i));
         i += 8;
     }
     c
@@ -75,29 +75,41 @@ fn is_raw_at(s: &[u8], from: usize, n: usize) -> bool
     lanes::is_raw_word(output::word_at(s, from + i), n - i)
 }
 
-// The same for bytes of any number: long text is looked through many bytes at a time. Of eight bytes at most it says no: these are one word, whose escapes are
-// counted as soon.
-fn is_raw(s: &[u8], from: usize, n: usize) -> bool
-    requires { ⌜ from + n + 8 ≤ length (now s) ⌝ }
-    ensures { λ r. ⌜ (r ≡ true → textBody (take n (drop from (now (s .entry)))) ≡ take n (drop from (now (s .entry)))) ⌝ }
+// The same of the n first bytes: many at a time, and the rest by words. Of eight bytes at most it says no: these are one word, whose escapes are counted
+// as soon.
+fn is_raw(s: &[u8], n: usize) -> bool
+    requires { ⌜ n + 8 ≤ length (now s) ⌝ }
+    ensures { λ r. ⌜ (r ≡ true → textBody (take n (now (s .entry))) ≡ take n (now (s .entry))) ⌝ }
 {
     if n < 9 {
         return false;
     }
-    if n < 32 {
-        return is_raw_at(s, from, n);
+    let m = n / 32 * 32;
+    if any_suspect(&s[..m]) != 0 {
+        return false;
     }
-    let to = from + n;
-    any_suspect(&s[from..to]) == 0
+    if m == n {
+        return true;
+    }
+    is_raw_at(s, m, n - m)
 }
 
-// The length of the body of the n bytes of s from a place on, behind which eight bytes stand. Most text has no escapes, which is asked first.
+// The length of the body of the n first bytes of s, behind which eight bytes stand. Most text has no escapes, which is asked first.
+fn first_body_length(s: &[u8], n: usize) -> usize
+    requires { ⌜ n + 8 ≤ length (now s) ⌝ }
+    ensures { λ r. ⌜ r ≡ length (textBody (take n (now (s .entry)))) ⌝ }
+{
+    if is_raw(s, n) {
+        return n;
+    }
+    n + escapes_of(s, n)
+}
+
+// The same from a place on, at which s is only cut (`text_formatter::symbol_length_at` says why).
 pub fn escaped_text_body_length(s: &[u8], from: usize, n: usize) -> usize
     requires { ⌜ from + n + 8 ≤ length (now s) ⌝ }
     ensures { λ r. ⌜ r ≡ length (textBody (take n (drop from (now (s .entry))))) ⌝ }
 {
-    if is_raw(s, from, n) {
-        return n;
-    }
-    n + escapes_at(s, from, n)
+    let to = from + n + 8;
+    first_body_length(&s[from..to], n)
 }

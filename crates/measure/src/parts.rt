@@ -35,24 +35,30 @@ fn plain_at(tape: &[u8], from: usize, n: usize) -> bool
     false
 }
 
-// The length of the symbol that is the n bytes of the tape from a place on, sixteen at most; 0 where that is not told. Its words are handed on as numbers,
-// which takes less time than to hand on the tape.
-fn words_length(tape: &[u8], from: usize, n: usize) -> usize
-    requires { ⌜ from + n + 8 ≤ length (now tape) ⌝ }
+// The length of the symbol that is the n first bytes of s, sixteen at most; 0 where that is not told. Its words are handed on as numbers, which takes less
+// time than to hand on s.
+fn first_words_length(s: &[u8], n: usize) -> usize
+    requires { ⌜ n + 8 ≤ length (now s) ⌝ }
     requires { ⌜ n ≤ 16 ⌝ }
-    ensures { λ r. ⌜ (0 < r → r ≡ length (symbolText (take n (drop from (now (tape .entry)))))) ⌝ }
+    ensures { λ r. ⌜ (0 < r → r ≡ length (symbolText (take n (now (s .entry))))) ⌝ }
 {
     if n == 0 {
         return 2;
     }
     if n <= 8 {
-        return text_formatter::short_symbol_length(output::word_at(tape, from), n);
+        return text_formatter::short_symbol_length(output::word_at(s, 0), n);
     }
-    text_formatter::long_symbol_length(
-        output::word_at(tape, from),
-        output::word_at(tape, from + 8),
-        n,
-    )
+    text_formatter::long_symbol_length(output::word_at(s, 0), output::word_at(s, 8), n)
+}
+
+// The same from a place of the tape on, which is only cut (`symbol_length_at` says why).
+fn words_length(tape: &[u8], from: usize, n: usize) -> usize
+    requires { ⌜ from + n + 8 ≤ length (now tape) ⌝ }
+    requires { ⌜ n ≤ 16 ⌝ }
+    ensures { λ r. ⌜ (0 < r → r ≡ length (symbolText (take n (drop from (now (tape .entry)))))) ⌝ }
+{
+    let to = from + n + 8;
+    first_words_length(&tape[from..to], n)
 }
 
 // The length of the symbol that is the n bytes of the tape from a place on.

@@ -119,19 +119,19 @@ pub fn long_symbol_length(x: u64, y: u64, n: usize) -> usize
     n + 2 + crate::marks::escaped_count(x, 8) + crate::marks::escaped_count(y, n - 8)
 }
 
-// The n bytes of s from a place on are letters, digits, `_` and `$`.
-fn is_word_at(s: &[u8], from: usize, n: usize) -> bool
-    requires { ⌜ (1 ≤ n) × (from + n + 8 ≤ length (now s)) ⌝ }
-    ensures { λ r. ⌜ r ≡ allPart (take n (drop from (now (s .entry)))) ⌝ }
+// The n first bytes of s are letters, digits, `_` and `$`.
+fn is_word(s: &[u8], n: usize) -> bool
+    requires { ⌜ (1 ≤ n) × (n + 8 ≤ length (now s)) ⌝ }
+    ensures { λ r. ⌜ r ≡ allPart (take n (now (s .entry))) ⌝ }
 {
     let mut i: usize = 0;
     while i + 8 < n {
-        if !lanes::is_identifier_word(output::word_at(s, from + i), 8) {
+        if !lanes::is_identifier_word(output::word_at(s, i), 8) {
             return false;
         }
         i += 8;
     }
-    lanes::is_identifier_word(output::word_at(s, from + i), n - i)
+    lanes::is_identifier_word(output::word_at(s, i), n - i)
 }
 
 // Whether text of bytes of identifiers alone, which starts as an identifier does, stands bare as a symbol. Of other text it says nothing.
@@ -140,6 +140,10 @@ fn stands_bare(text: &[u8]) -> bool
     ensures { λ r. ⌜ (allPart (now (text .entry)) ≡ true → isStart (getD (now (text .entry)) 0 0) ≡ true → r ≡ isBare (now (text .entry))) ⌝ }
 {
     if text[0] != b'$' {
+        // no keyword is longer; the call takes the text through memory
+        if 5 < text.len() {
+            return true;
+        }
         return !text_rules::words::token_is_keyword(text);
     }
     if text_rules::words::token_resembles_symbol_id(text) {
@@ -148,23 +152,31 @@ fn stands_bare(text: &[u8]) -> bool
     !text_rules::words::token_resembles_version_marker(text)
 }
 
-// A symbol that is the n bytes of s from a place on, behind which eight bytes stand.
-pub fn symbol_length_at(s: &[u8], from: usize, n: usize) -> usize
-    requires { ⌜ from + n + 8 ≤ length (now s) ⌝ }
-    ensures { λ r. ⌜ r ≡ length (symbolText (take n (drop from (now (s .entry))))) ⌝ }
+// A symbol that is the n first bytes of s, behind which eight bytes stand.
+fn first_symbol_length(s: &[u8], n: usize) -> usize
+    requires { ⌜ n + 8 ≤ length (now s) ⌝ }
+    ensures { λ r. ⌜ r ≡ length (symbolText (take n (now (s .entry)))) ⌝ }
 {
     if n == 0 {
         return 2;
     }
-    if text_rules::words::is_start(s[from]) {
-        if is_word_at(s, from, n) {
-            let to = from + n;
-            if stands_bare(&s[from..to]) {
+    if text_rules::words::is_start(s[0]) {
+        if is_word(s, n) {
+            if stands_bare(&s[..n]) {
                 return n;
             }
             // no byte of these is escaped
             return n + 2;
         }
     }
-    crate::escapes::escaped_text_body_length(s, from, n) + 2
+    crate::escapes::escaped_text_body_length(s, 0, n) + 2
+}
+
+// The same from a place on. It does nothing but cut: then the compiler hands on where s starts, and not s, which would go through memory.
+pub fn symbol_length_at(s: &[u8], from: usize, n: usize) -> usize
+    requires { ⌜ from + n + 8 ≤ length (now s) ⌝ }
+    ensures { λ r. ⌜ r ≡ length (symbolText (take n (drop from (now (s .entry))))) ⌝ }
+{
+    let to = from + n + 8;
+    first_symbol_length(&s[from..to], n)
 }

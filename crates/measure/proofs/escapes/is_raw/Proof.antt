@@ -1,9 +1,10 @@
 -- `escapes::is_raw` meets its contract. Assumes nothing.
-use Prim.Native.Nat.{_+_, _-_}
-use mathlib.Core.Path.{_≡_, sym}
+use Prim.Native.Nat.{_*_, _/_}
+use mathlib.Core.Path.{sym}
 use native.Mathlib.Omega.{arith}
-use borrow.Author.Tests.{eqb-true}
-use Rattle.text_rules.proofs.DigitLaws.{never}
+use lib.Seq.{length-take-le}
+use Rattle.output.proofs.Bools.{never}
+use Rattle.measure.proofs.EscapeLengths.{raw-rest}
 use borrow.Author.Needs.{needs}
 use Rattle.measure.proofs.escapes.is_raw.Statement.{statement}
 use Rattle.measure.proofs.escapes.is_raw.Tie as tie
@@ -11,43 +12,42 @@ use Rattle.measure.proofs.escapes.is_raw.Tie as tie
 returns : tie.Need-returns
 returns c = λ r. never (sym r)
 
-is-raw-at-requires : tie.Need-is-raw-at-requires
-is-raw-at-requires c κs = search needs
+mul-m : tie.Need-mul-m
+mul-m c = search needs
 
-returns-2 : tie.Need-returns-2
-returns-2 c = search needs
-
-add-to : tie.Need-add-to
-add-to c = search needs
-
-sub-any-suspect : tie.Need-sub-any-suspect
-sub-any-suspect c = search needs
-
-part-any-suspect-start : tie.Need-part-any-suspect-start
-part-any-suspect-start c = search needs
-
-part-any-suspect-end : tie.Need-part-any-suspect-end
-part-any-suspect-end c = search needs
+slice-aggregate-any-suspect : tie.Need-slice-aggregate-any-suspect
+slice-aggregate-any-suspect c = sym (length-take-le _ _ (omega (arith, c .before .before .before .pre)))
 
 any-suspect-requires : tie.Need-any-suspect-requires
 any-suspect-requires c κs = search needs
 
+returns-2 : tie.Need-returns-2
+returns-2 c = λ r. never (sym r)
+
 returns-3 : tie.Need-returns-3
-returns-3 c =
-    let a = c .before .before .before .before .before .args in
-    let e : a .from + a .n - a .from ≡ a .n = omega arith in
-    λ r. rw e at (c .any-suspect .ensures (eqb-true _ _ r))
+returns-3 c = λ r. rw (c .if3 .taken) at (c .before .before .any-suspect .ensures (omega (arith, c .before .if2 .left)))
+
+sub-is-raw-at : tie.Need-sub-is-raw-at
+sub-is-raw-at c = search needs
+
+is-raw-at-requires : tie.Need-is-raw-at-requires
+is-raw-at-requires c κs = search needs
+
+returns-4 : tie.Need-returns-4
+returns-4 c =
+    let a = c .before .before .before .before .before .before .before .args in
+    λ r. raw-rest (a .s .now) (a .n / 32 * 32) (a .n) (omega arith) (c .before .before .before .any-suspect .ensures (omega (arith, c .before .before .if2 .left))) (c .is-raw-at .ensures r)
 
 pub is-raw-spec : {M : Type 1} → statement M
 is-raw-spec =
     tie.close
     (tie.spec
     returns
-    is-raw-at-requires
-    returns-2
-    add-to
-    sub-any-suspect
-    part-any-suspect-start
-    part-any-suspect-end
+    mul-m
+    slice-aggregate-any-suspect
     any-suspect-requires
-    returns-3)
+    returns-2
+    returns-3
+    sub-is-raw-at
+    is-raw-at-requires
+    returns-4)

@@ -1,60 +1,43 @@
--- `parts::words_length` meets its contract: by one word, or by two. Assumes nothing.
-use mathlib.Core.Path.{sym, ap, _∙_}
-use mathlib.Core.List.{List}
+-- `parts::words_length` meets its contract. Assumes nothing.
+use Prim.Native.Nat.{_+_, _-_}
 use native.Mathlib.Omega.{arith}
-use Prim.Native.Nat.{ℕ}
-use lib.ListN.{length}
-use denote.Ref.{now}
-use Rattle.text_rules.specs.Text.{symbolText}
-use Rattle.writer.proofs.Texts.{word-bytes}
-use Rattle.measure.proofs.SymbolLengths.{nothing-length, two-words}
+use lib.ListN.{drop}
+use lib.Seq.{take-take}
 use borrow.Author.Needs.{needs}
 use Rattle.measure.proofs.parts.words_length.Statement.{statement}
 use Rattle.measure.proofs.parts.words_length.Tie as tie
 
+add-to : tie.Need-add-to
+add-to c = search needs
+
+add-to-2 : tie.Need-add-to-2
+add-to-2 c = search needs
+
+sub-first-words-length : tie.Need-sub-first-words-length
+sub-first-words-length c = search needs
+
+part-first-words-length-start : tie.Need-part-first-words-length-start
+part-first-words-length-start c = search needs
+
+part-first-words-length-end : tie.Need-part-first-words-length-end
+part-first-words-length-end c = search needs
+
+first-words-length-requires : tie.Need-first-words-length-requires
+first-words-length-requires c κs = search needs
+
 returns : tie.Need-returns
-returns c = λ h. rw (c .if1 .taken) (sym nothing-length)
-
-word-at-requires : tie.Need-word-at-requires
-word-at-requires c κs = search needs
-
-short-symbol-length-requires : tie.Need-short-symbol-length-requires
-short-symbol-length-requires c κs = let z = c .before .before .if1 .left in let k = c .before .if2 .taken in (omega arith, omega arith)
-
-returns-2 : tie.Need-returns-2
-returns-2 c =
-    let a = c .before .before .before .before .before .args in
-    λ h. c .short-symbol-length .ensures h ∙ ap (λ (l : List ℕ). length (symbolText l)) (word-bytes (now (a .tape)) (a .from) (a .n) _ (c .before .word-at .ensures) (c .before .before .if2 .taken))
-
-word-at-requires-2 : tie.Need-word-at-requires-2
-word-at-requires-2 c κs = search needs
-
-add-word-at : tie.Need-add-word-at
-add-word-at c = search needs
-
-word-at-requires-3 : tie.Need-word-at-requires-3
-word-at-requires-3 c κs = search needs
-
-long-symbol-length-requires : tie.Need-long-symbol-length-requires
-long-symbol-length-requires c κs = let m = c .before .before .if2 .left in let k = c .before .before .before .before .before .pre .1 in (omega arith, omega arith)
-
-returns-3 : tie.Need-returns-3
-returns-3 c =
-    let a = c .before .before .before .before .before .before .args in
-    let m = c .before .before .before .if2 .left in
-    λ h. c .long-symbol-length .ensures h
-    ∙ ap (λ (l : List ℕ). length (symbolText l)) (two-words (now (a .tape)) (a .from) (a .n) _ _ (omega arith) (c .before .before .before .before .before .before .pre .1) (c .before .before .word-at2 .ensures) (c .before .word-at3 .ensures))
+returns c =
+    let a = c .before .before .before .args in
+    rw (take-take (a .n) (a .from + a .n + 8 - a .from) (drop (a .from) (a .tape .now)) (omega arith)) at (c .first-words-length .ensures)
 
 pub words-length-spec : {M : Type 1} → statement M
 words-length-spec =
     tie.close
     (tie.spec
-    returns
-    word-at-requires
-    short-symbol-length-requires
-    returns-2
-    word-at-requires-2
-    add-word-at
-    word-at-requires-3
-    long-symbol-length-requires
-    returns-3)
+    add-to
+    add-to-2
+    sub-first-words-length
+    part-first-words-length-start
+    part-first-words-length-end
+    first-words-length-requires
+    returns)

@@ -1,9 +1,8 @@
--- `escapes::escapes_at` meets its contract. The invariant: by so many bytes is the body of what is looked through longer. Assumes nothing.
+-- `escapes::escapes_of` meets its contract. The invariant: by so many bytes is the body of what is looked through longer. Assumes nothing.
 use Prim.Native.Nat.{_+_, _-_, _<_, min}
 use mathlib.Core.Path.{_≡_}
 use native.Mathlib.Omega.{arith}
 use lib.ListN.{length, take, drop}
-use lib.Seq.{drop-drop}
 use Rattle.output.specs.Wrote.{leBytes}
 use Rattle.text_rules.specs.Escapes.{textBody}
 use Rattle.text_rules.proofs.LaneTests.{word-part}
@@ -11,24 +10,21 @@ use Rattle.measure.specs.MarkSteps.{escapeMark}
 use Rattle.measure.proofs.MarkLaws.{marked-most}
 use Rattle.measure.proofs.EscapeLengths.{body-more, escapes-most}
 use borrow.Author.Needs.{needs}
-use Rattle.measure.proofs.escapes.escapes_at.Statement.{statement}
-use Rattle.measure.proofs.escapes.escapes_at.Tie as tie
+use Rattle.measure.proofs.escapes.escapes_of.Statement.{statement}
+use Rattle.measure.proofs.escapes.escapes_of.Tie as tie
 
 -- i may pass n at the end
 abbrev Inv-loop : tie.InvT-loop
-Inv-loop s from n c₀ i₀ c i = (i < n + 8) × (min i n + c ≡ length (textBody (take (min i n) (drop from s))))
+Inv-loop s n c₀ i₀ c i = (i < n + 8) × (min i n + c ≡ length (textBody (take (min i n) s)))
 
 abbrev μ-loop : tie.MeasureT-loop
-μ-loop s from n c₀ i₀ c i = n - i
+μ-loop s n c₀ i₀ c i = n - i
 
 loop-holds : tie.Need-loop-holds Inv-loop μ-loop
 unfolding textBody
 loop-holds c =
     let e : min 0 (c .before .args .n) ≡ 0 = omega arith in
     (omega arith, rw e)
-
-add-word-at : tie.Need-add-word-at Inv-loop μ-loop
-add-word-at c = search needs
 
 word-at-requires : tie.Need-word-at-requires Inv-loop μ-loop
 word-at-requires c κs = search needs
@@ -46,7 +42,7 @@ add-c : tie.Need-add-c Inv-loop μ-loop
 add-c c =
     let b = c .before .before .before .before in
     let a = b .before .before .args in
-    record { fits = omega (arith, escapes-most (drop (a .from) (a .s .now)) (min (b .loop .i) (a .n)) (b .loop .c) (b .loop .inv .1), c .escaped-count .ensures, marked-most escapeMark (c .before .at-most-8 .result) (c .before .before .word-at .result), c .before .at-most-8 .ensures, b .before .before .pre) }
+    record { fits = omega (arith, escapes-most (a .s .now) (min (b .loop .i) (a .n)) (b .loop .c) (b .loop .inv .1), c .escaped-count .ensures, marked-most escapeMark (c .before .at-most-8 .result) (c .before .before .word-at .result), c .before .at-most-8 .ensures, b .before .before .pre) }
 
 add-i : tie.Need-add-i Inv-loop μ-loop
 add-i c = search needs
@@ -63,9 +59,8 @@ loop-again c =
     let k = c .before .at-most-8 .result in
     let m : min (l .i) (a .n) ≡ l .i = omega (arith, c .before .before .before .loop-test .taken) in
     let p : min (l .i + 8) (a .n) ≡ l .i + k = omega (arith, c .before .at-most-8 .ensures, c .before .before .before .loop-test .taken) in
-    let e : leBytes k (w .result) ≡ take k (drop (l .i) (drop (a .from) s)) =
-    rw (drop-drop (l .i) (a .from) s) (word-part s (a .from + l .i) k (w .result) (omega (arith, c .before .at-most-8 .ensures)) (w .ensures)) in
-    (omega (arith, c .before .before .before .loop-test .taken), rw (p, c .escaped-count .ensures) (body-more (drop (a .from) s) (l .i) k (l .c) (w .result) (rw m at (l .inv .1)) e))
+    let e : leBytes k (w .result) ≡ take k (drop (l .i) s) = word-part s (l .i) k (w .result) (omega (arith, c .before .at-most-8 .ensures)) (w .ensures) in
+    (omega (arith, c .before .before .before .loop-test .taken), rw (p, c .escaped-count .ensures) (body-more s (l .i) k (l .c) (w .result) (rw m at (l .inv .1)) e))
 
 returns : tie.Need-returns Inv-loop μ-loop
 returns c =
@@ -73,14 +68,13 @@ returns c =
     let m : min (l .i) (c .before .before .before .args .n) ≡ c .before .before .before .args .n = omega (arith, c .loop-test .left) in
     rw m at (l .inv .1)
 
-pub escapes-at-spec : {M : Type 1} → statement M
-escapes-at-spec =
+pub escapes-of-spec : {M : Type 1} → statement M
+escapes-of-spec =
     tie.close
     (tie.spec
     Inv-loop
     μ-loop
     loop-holds
-    add-word-at
     word-at-requires
     sub-at-most-8
     at-most-8-requires
