@@ -1,5 +1,5 @@
 """Measuring over writing (validation in both) on tapes of one kind of value each, 400 in a list: symbols, names, annotations and strings of many
-lengths and spellings, numbers, clobs, containers. Prints the ratios from the largest on: none should be over 1.
+lengths and spellings, numbers, clobs, blobs, containers. Prints the ratios from the largest on: none should be over 1.
 
     python3 tests/bench_lengths.py [HOW MANY]
 
@@ -33,6 +33,7 @@ def kinds():
         yield 'string, %d past ASCII' % n, ('str', cut(n, 'é'.encode()))
         yield 'clob, %d' % n, ('clob', cut(n, b'hello world'))
         yield 'clob, %d of all bytes' % n, ('clob', cut(n, bytes(range(256))))
+        yield 'blob, %d' % n, ('blob', (bytes(range(256)) * 2)[:n])
     for n in 1, 3, 5, 7, 8, 9, 12, 16, 17, 20, 30, 60:
         texts = {said: cut(n, text) for said, text in WORDS.items()}
         texts.update((said, cut(n, text, first)) for said, (first, text) in FIRSTS.items())

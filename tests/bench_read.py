@@ -5,6 +5,8 @@
 Needs Debian's libjansson-dev. Our side is the archive that `rt staticlib ion_c` makes, or that of the folder LECHUQTA_LIB_DIR. Processor
 time, best of many, all in one run.
 """
+import base64
+import random
 import subprocess
 import sys
 import tempfile
@@ -25,6 +27,7 @@ PASS_JSON = '{"name": "COSMOS 2251", "norad": 22675, "rise": "2026-11-15T02:14:0
 # Blanks before a string or clob, so that the tape of 1 MiB of text is no longer than a tape may be. Without them 1 MiB is refused by 9, and what
 # is measured is also the zeroing of the buffer.
 MARGIN = ' ' * 64
+BYTES = random.Random(1).randbytes(1 << 20)
 NEST = '[' * 60 + '1' + ']' * 60 + ' '
 SHAPES = {
     'flat ints': lambda n: filled('1234 ', n),
@@ -46,6 +49,8 @@ SHAPES = {
     'blanks': lambda n: filled(' ', n),
     'one clob': lambda n: filled('x', n, MARGIN + '{{"', '"}}'),
     'one clob, refused': lambda n: filled('x', n, '{{"', '"}}'),
+    'blobs of 1 KiB': lambda n: filled('{{' + base64.b64encode(BYTES[:1024]).decode() + '}} ', n),
+    'one blob': lambda n: '{{' + base64.b64encode(BYTES[:n // 4 * 3 - 9]).decode() + '}}',
 }
 
 

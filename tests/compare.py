@@ -97,12 +97,16 @@ def lines(frames):
 
 
 def special():
-    """Every byte in strings, symbols and clobs; texts of many lengths with one byte that is otherwise, at the places where words of eight bytes
-    start and end; every decimal sum from -30 to 30; depth 64."""
+    """Every byte in strings, symbols, clobs and blobs; blobs of many lengths; texts of many lengths with one byte that is otherwise, at the places
+    where words of eight bytes start and end; every decimal sum from -30 to 30; depth 64."""
     for b in range(128):
         yield [('str', bytes([b]))], [('sym', bytes([b]))]
     for b in range(256):
-        yield ([('clob', bytes([b]))],)
+        yield [('clob', bytes([b]))], [('blob', bytes([b]))], [('blob', bytes([b, 255 - b]))], [('blob', bytes([b, b ^ 90, 255 - b]))]
+    for n in range(100):
+        yield [('blob', bytes(range(n)))], [('blob', bytes(range(255, 255 - n, -1)))]
+    for n in (3071, 3072, 3073, 3074, 6144, 6145, 20000):
+        yield ([('blob', (bytes(range(256)) * 79)[:n])],)
     for n in (1, 5, 7, 8, 9, 15, 16, 17, 24, 31, 32, 33, 40, 65):
         for at in sorted({0, 7, 8, n // 2, n - 1} & set(range(n))):
             for b in b'xZ_$7 \n"\'\\':
@@ -178,7 +182,7 @@ def damaged_lines(r, pairs, texts):
 
 
 # Nodes that one refusal or another waits for.
-ODD = [b'\x0f', b'\x0e', b'\x0d\0', b'\x0d\x11', node(('notes', [('sym', b'a')], ('int', 1)))]
+ODD = [b'\x10', b'\x0f', b'\x0e', b'\x0d\0', b'\x0d\x11', node(('notes', [('sym', b'a')], ('int', 1)))]
 ODD += [node(('float', bits)) for bits in (0x3FF0 << 48, 1, 0x7FEFFFFFFFFFFFFF, 0x7FF8000000000001, 0xFFF8 << 48)]
 
 

@@ -15,7 +15,7 @@ import re
 
 import grammar
 from listing import ROOT, escaped, write
-from readings import (FALSE, INF, MARKER, MINUS_INF, MINUS_ZERO, NAN, TRUE, ZERO, clob, day, dec, int_, list_, minus, minute, month, notes, null, rec,
+from readings import (FALSE, INF, MARKER, MINUS_INF, MINUS_ZERO, NAN, TRUE, ZERO, blob, clob, day, dec, int_, list_, minus, minute, month, notes, null, rec,
                       second, sexp, sid, str_, sym, year)
 from tapes import UNKNOWN, tape
 
@@ -169,7 +169,9 @@ takes("'true' 'false' 'nan' 'null' 'null.int'", *map(sym, 'true false nan null n
 takes('_ $ a1 A_b $ion', *map(sym, '_ $ a1 A_b $ion'.split()))
 
 page('docs/spec.html, Blobs')
-out('blobs', '{{\n+AB/\n}}', '{{ VG8gaW5maW5pdHkuLi4gYW5kIGJleW9uZCE= }}', '{{ dHdvIHBhZGRpbmcgY2hhcmFjdGVycw== }}', '{{}}')
+out('blanks inside `{{` and `}}`', '{{\n+AB/\n}}', '{{ VG8gaW5maW5pdHkuLi4gYW5kIGJleW9uZCE= }}', '{{ dHdvIHBhZGRpbmcgY2hhcmFjdGVycw== }}')
+takes('{{+AB/}} {{VG8gaW5maW5pdHkuLi4gYW5kIGJleW9uZCE=}}', blob(b'\xf8\x00\x7f'), blob('To infinity... and beyond!'))
+takes('{{dHdvIHBhZGRpbmcgY2hhcmFjdGVycw==}} {{}}', blob('two padding characters'), blob(''))
 error('{{ VG8gaW5maW5pdHkuLi4gYW5kIGJleW9uZCE== }}', '{{ VG8gaW5maW5pdHku=Li4gYW5kIGJleW9uZCE= }}', '{{ dHdvIHBhZGRpbmc_gY2hhcmFjdGVycw= }}',
       '{ {VG8=} }')
 
@@ -221,7 +223,7 @@ out('blanks beside `::`', "'my.custom.type' :: { x : 12 , y : -1 }", 'bool :: nu
 takes("'my.custom.type'::{ x : 12 , y : -1 }", notes('my.custom.type', rec('x', int_(12), 'y', int_(-1))))
 takes("{ field: something::'another thing'::value }", rec('field', notes('something', 'another thing', sym('value'))))
 takes('dollars::100.0', notes('dollars', dec(1000, -1)))
-out('blobs', 'jpeg::{{/9j/4AAQ}}')
+takes('jpeg::{{/9j/4AAQ}}', notes('jpeg', blob(bytes.fromhex('ffd8ffe00010'))))
 takes('bool::null.int', notes('bool', null('int')))
 takes("''::1", notes('', int_(1)))
 error('null.symbol :: 1', 'null.symbol::1', 'a::', 'true::1', '"a"::1')
@@ -261,7 +263,7 @@ out('comments', '''/* Ion supports comments. */
 takes('{\n  name: "fido",\n  age: years::4,\n  birthday: 2012-03-01T,\n  toys: [\n    ball,\n    rope\n  ],\n  weight: pounds::41.2,\n}\n',
       rec('name', str_('fido'), 'age', notes('years', int_(4)), 'birthday', day(2012, 3, 1), 'toys', list_(sym('ball'), sym('rope')),
           'weight', notes('pounds', dec(412, -1))))
-out('blobs', '{buzz: {{VG8gaW5maW5pdHkuLi4gYW5kIGJleW9uZCE=}}}')
+takes('{buzz: {{VG8gaW5maW5pdHkuLi4gYW5kIGJleW9uZCE=}}}', rec('buzz', blob('To infinity... and beyond!')))
 
 page('docs/symbols.html, Ion Version Markers')
 takes('$ion_1_0', MARKER)

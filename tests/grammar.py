@@ -6,6 +6,7 @@ of tests/readings.py:
 
     python3 tests/grammar.py
 """
+import base64
 import calendar
 import re
 
@@ -35,6 +36,8 @@ WIDE = ESCAPE + b'|u(' + HEX + b'{4})|U(' + HEX + b'{8}))'
 PIECES = {mark: re.compile(WIDE + b'|([^\n\r\\\\' + mark + b']+)') for mark in (b'"', b"'")}
 LINE = re.compile(rb'[^\n]*\n|[^\n]+')
 CLOB = re.compile(ESCAPE + rb')|([ !#-\[\]-~]+)')
+SIX = rb'[A-Za-z0-9+/]'
+BLOB = re.compile(b'((?:' + SIX + b'{4})*(?:' + SIX + b'{2}==|' + SIX + rb'{3}=)?)\}\}')
 
 
 class Outside(Exception):
@@ -143,6 +146,13 @@ class Text:
             content += raw or bytes([SHORT[short] if short else int(x, 16)])
         return content
 
+    def blob(self):
+        found = self.match(BLOB)
+        need(found)
+        content = base64.b64decode(found[1])
+        need(base64.b64encode(content) == found[1])
+        return content
+
     def symbol(self):
         """A symbol, where nothing else may stand."""
         if self.take(b"'"):
@@ -182,6 +192,8 @@ class Text:
             return ('str', self.quoted(b'"'))
         if self.take(b'{{"'):
             return ('clob', self.clob())
+        if self.take(b'{{'):
+            return ('blob', self.blob())
         if self.next() in (b'[', b'(', b'{'):
             need(opened < 64)
             return self.container(opened + 1)

@@ -78,7 +78,7 @@ def main():
     prints(b'', b'refused 1\n')
     refuses(1, EXAMPLE[:-1])
     refuses(1, bytes(MOST))
-    refuses(2, b'\x0f' + struct.pack('<II', 1, 1))
+    refuses(2, b'\x10' + struct.pack('<II', 1, 1))
     refuses(2, struct.pack('<II', 0, 1))
     r = random.Random(1)
     prints_text(tape([nested(r, 64, ('int', 1))]))

@@ -4,6 +4,7 @@ buffer, `expect` both for a layout.
 No code is shared with our crates or with the Rust: Python's own UTF-8 decoder, calendar and regular expressions judge the tape. The lone
 digit of a decimal (`7.d-29`) is as the Rust writes it. Values are the tuples of tapes.py.
 """
+import base64
 import calendar
 import re
 import struct
@@ -87,7 +88,7 @@ class Nodes:
             return self.notes(end, opened)
         if kind == 14 and top:
             return ('marker',)
-        if kind > 9:
+        if kind > 9 and kind != 15:
             raise Refused(2)
         return self.scalar(kind, end)
 
@@ -114,7 +115,7 @@ class Nodes:
         text = self.sized(end)
         if kind == 8 and not is_utf8(text):
             raise Refused(2)
-        return ('str' if kind == 8 else 'clob', text)
+        return ({8: 'str', 9: 'clob', 15: 'blob'}[kind], text)
 
     def float(self, end):
         bits, = self.unpack('<Q', end)
@@ -258,6 +259,8 @@ def value_text(layout, v, level):
         return quoted(v[1], b'"')
     if kind == 'clob':
         return clob_text(v[1])
+    if kind == 'blob':
+        return b'{{' + base64.b64encode(v[1]) + b'}}'
     if kind == 'marker':
         return b'$ion_1_0'
     return container_text(layout, v, level)

@@ -65,7 +65,7 @@ def value(r, depth, ids, notes):
     if kind in (7, 8):
         return ('str', text(r))
     if kind == 9:
-        return ('clob', bytes(r.randrange(256) for _ in range(r.randrange(20))))
+        return (r.choice(['clob', 'blob']), bytes(r.randrange(256) for _ in range(r.randrange(20))))
     n = r.randrange(5)
     if kind == 12:
         return ('struct', [(symbol(r, ids), value(r, depth - 1, ids, notes)) for _ in range(n)])

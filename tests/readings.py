@@ -6,6 +6,7 @@
 docs/FORMAT.md restates. What is expected is written by hand or follows from the sentence above it; it is not the program's answer. Run it
 to write crates/readings/stdin (each text, then a byte 255) and crates/readings/stdout (each tape in hex, or the refusal).
 """
+import base64
 import os
 
 from tapes import UNKNOWN, tape
@@ -68,6 +69,10 @@ def clob(b):
     return ('clob', raw(b))
 
 
+def blob(b):
+    return ('blob', raw(b))
+
+
 def list_(*values):
     return ('list', values)
 
@@ -126,9 +131,10 @@ for blank in BLANKS:
     yes('a::[' + blank + ']', notes('a', list_()))
     yes('$ion_1_0' + blank + '1', MARKER, one)
     yes('"' + blank + '"', str_(blank)) if blank not in '\n\r' else no('"' + blank + '"')
-    # .. except beside `::`; a clob is one token
+    # .. except beside `::`; a clob is one token, and so is a blob
     no('a' + blank + '::1', 'a::' + blank + '1', 'a' + blank + '::' + blank + '1', 'a:' + blank + ':1', 'a::b::' + blank + '1')
     no('{' + blank + '{"a"}}', '{{' + blank + '"a"}}', '{{"a"' + blank + '}}', '{{"a"}' + blank + '}')
+    no('{' + blank + '{Zg==}}', '{{' + blank + 'Zg==}}', '{{Zg' + blank + '==}}', '{{Zg==' + blank + '}}', '{{Zg==}' + blank + '}')
     # A number, a keyword or an identifier is one token too.
     no('-' + blank + '1', '$ion_1_0 null' + blank + '.int', '1d' + blank + '2', '+' + blank + 'inf')
     yes('1.' + blank + 'd2', dec(1, 0), sym('d2'))
@@ -217,7 +223,7 @@ yes('{a:{b:{}}}', rec('a', rec('b', rec())))
 yes('{a:{{"b"}}}', rec('a', clob('b')))
 yes('{a:{{"b"}},}', rec('a', clob('b')))
 no('{,}', '{,a:1}', '{a:1,,}', '{a:1,,b:2}', '{a:1 b:2}', '{a:1;b:2}')
-no('{', '}', '{a', '{a:', '{a:1', '{a:1,', '{a:1]', '{a:1)', '{a:1}}', '{{a:1}}', '{{a:1}', '{{}}', '{{}:1}', '{[]:1}')
+no('{', '}', '{a', '{a:', '{a:1', '{a:1,', '{a:1]', '{a:1)', '{a:1}}', '{{a:1}}', '{{a:1}', '{{}:1}', '{[]:1}')
 
 # --- A field is a name, `:` and a value. Names are symbols.
 yes("{'a':1}", rec('a', one))
@@ -469,9 +475,9 @@ yes('"\\\\n"', str_('\\n'))
 yes("'\\'a\\''", sym("'a'"))
 no('"', "'", '"a', "'a", 'a"', "a'", '"a\'', '\'a"', '"\\', '"\\"', "'\\'", '"a\nb"', '"a\rb"', "'a\nb'", '"a\\\nb"', '"a\\\r\nb"')
 no("'a\\\nb'", '"""', '"a"b"')
-no('{{"', '{{"a', '{{"a"', '{{"a"}', '{{"a}}', '{{a}}', '{{"\\"}}', '{{"a\nb"}}', '{{"a\tb"}}', '{{"a\\\nb"}}', '{{"é"}}', '{"a"}')
+no('{{"', '{{"a', '{{"a"', '{{"a"}', '{{"a}}', '{{"\\"}}', '{{"a\nb"}}', '{{"a\tb"}}', '{{"a\\\nb"}}', '{{"é"}}', '{"a"}')
 no('{{"a"b}}')
-no('{{"a" "b"}}', '{{"a""b"}}', "{{'a'}}", "{{'''a'''}}", '{{"a"}}::1', '{ {"a"} }', '{{{"a"}}}', '{{"a"}}}', '{{1}}', '{{[]}}')
+no('{{"a" "b"}}', '{{"a""b"}}', "{{'a'}}", "{{'''a'''}}", '{{"a"}}::1', '{ {"a"} }', '{{{"a"}}}', '{{"a"}}}', '{{[]}}')
 yes('{{"\\""}}', clob('"'))
 yes('{{"}}"}}', clob('}}'))
 yes('{{"{{"}}', clob('{{'))
@@ -530,7 +536,7 @@ yes('"\'\'\'"', str_("'''"))
 # --- Annotations are symbols, each followed by `::`, at most 16.
 for said, value in (('null', null()), ('null.int', null('int')), ('true', TRUE), ('1', one), ('nan', NAN), ('+inf', INF),
                     ('-0e0', MINUS_ZERO), ('-1.5', minus(15, -1)), ('2007T', year(2007)), ('b', b), ("'b c'", sym('b c')), ('$7', sid(7)),
-                    ('"b"', str_('b')), ('{{"b"}}', clob('b')), ('[]', list_()), ('[1,]', list_(one)), ('(b c)', sexp(b, c)),
+                    ('"b"', str_('b')), ('{{"b"}}', clob('b')), ('{{Yg==}}', blob('b')), ('[]', list_()), ('[1,]', list_(one)), ('(b c)', sexp(b, c)),
                     ('{b:1}', rec('b', one))):
     yes('a::' + said, notes('a', value))
     yes("$7::'x y'::" + said, notes(sid(7), 'x y', value))
@@ -590,9 +596,45 @@ yes('$7 ' * fit, *[sid(7)] * fit)
 too_long('$7 ' * (fit + 1))
 too_long("{{\"" + '\\x00' * (full + 1) + '"}}')
 
-# --- Out: blobs, nonzero finite floats, larger integers, comments, long strings.
-no('// a', '//', '1 // a', '/* a */', '/**/', '/* a */ 1', '1 /* a */', '[1, /* a */ 2]', '1//', '# a', '-- a', '{{aGk=}}', '{{ aGk= }}')
-no('{{ }}', '{{a}}', '{{TWFu}}')
+# --- Blobs (document 02, A3): `{{`, padded base64, `}}`, this spelling alone. RFC 4648's own vectors first.
+for content, said in (b'', ''), (b'f', 'Zg=='), (b'fo', 'Zm8='), (b'foo', 'Zm9v'), (b'foob', 'Zm9vYg=='), (b'fooba', 'Zm9vYmE='), (b'foobar', 'Zm9vYmFy'):
+    yes('{{' + said + '}}', blob(content))
+CHARACTERS = b'ABCDEFGHIJKLMNOPQRSTUVWXYZabcdefghijklmnopqrstuvwxyz0123456789+/'
+for x in BYTES:
+    if x in (b'"', b'\xff'):
+        continue
+    at = x[0] // 2 % 4
+    four = b'AAA'[:at] + x + b'AAA'[at:]
+    if x in CHARACTERS:
+        yes(b'{{' + four + b'}}', blob((CHARACTERS.index(x) << 6 * (3 - at)).to_bytes(3, 'big')))
+    else:
+        no(b'{{' + four + b'}}')
+# Unused bits are zero.
+for i, x in enumerate(CHARACTERS):
+    x = bytes([x])
+    (yes(b'{{A' + x + b'==}}', blob(bytes([i >> 4]))) if i % 16 == 0 else no(b'{{A' + x + b'==}}'))
+    (yes(b'{{AA' + x + b'=}}', blob(bytes([0, i >> 2]))) if i % 4 == 0 else no(b'{{AA' + x + b'=}}'))
+# Behind whole words of eight characters, too; a byte that is otherwise at each place of two words.
+for n in range(1, 16):
+    content = bytes(range(200, 200 + n))
+    said = base64.b64encode(content)
+    yes(b'{{' + said + b'}}', blob(content))
+    no(b'{{' + said[:-1] + b'}}', b'{{' + said + b'=}}', b'{{' + said + b' }}', b'{{' + said + b'}')
+for at in range(16):
+    for x in b'= }':
+        no(b'{{' + b'ABCDEFGHIJKLMNOP'[:at] + bytes([x]) + b'ABCDEFGHIJKLMNOP'[at + 1:] + b'}}')
+no('{{ }}', '{{ aGk= }}', '{{aGk= }}', '{{ aGk=}}', '{{aG k=}}', '{{a}}', '{{aG}}', '{{aGk}}', '{{aGk==}}', '{{aGl=}}', '{{=}}', '{{==}}', '{{====}}')
+no('{{A===}}', '{{Zg==Zg==}}', '{{Zm8=Zm8=}}', '{{Zg=A}}', '{{-_-_}}', '{{1}}', '{{', '{{}', '{{}}}', '{{Zm9v', '{{Zm9v}', '{{Zm9v}}}', '{{Zm9v}Zm9v}}')
+no('{{}}::1', '{ {} }', '{{{}}}', '{{Zm9v}}{{Zm9v}}', '{{Zm9v}}1', '{{Zm9v\n}}', '{{//8=}}/')
+yes('{{//8=}} {{+/+/}}', blob(b'\xff\xff'), blob(b'\xfb\xff\xbf'))
+yes('[{{}},{{Zg==}}]', list_(blob(b''), blob('f')))
+yes('({{}} {{Zg==}})', sexp(blob(b''), blob('f')))
+yes('{a:{{Zm9v}}}', rec('a', blob('foo')))
+yes('{a: b::{{Zm9v}}, }', rec('a', notes('b', blob('foo'))))
+yes('jpeg::{{/9j/4AAQ}}', notes('jpeg', blob(bytes.fromhex('ffd8ffe00010'))))
+
+# --- Out: nonzero finite floats, larger integers, comments, long strings.
+no('// a', '//', '1 // a', '/* a */', '/**/', '/* a */ 1', '1 /* a */', '[1, /* a */ 2]', '1//', '# a', '-- a')
 yes('"// a" "/* b */"', str_('// a'), str_('/* b */'))
 
 # --- The document's examples.

@@ -98,6 +98,8 @@ def samples():
     yield 'siblings', [('list', [siblings(63) for _ in range(50)])]
     units = ['degrees', 'mag', 'seconds', 'J2000', 'observed', 'right_ascension', 'photometric_system']
     yield 'annotated', [('list', [('notes', [sym(r.choice(units)) for _ in range(r.choice([2, 3]))], ('int', r.randrange(10**6))) for _ in range(1000)])]
+    yield 'blob', [('blob', r.randbytes(1024))]
+    yield 'blobs', [('list', [('blob', r.randbytes(n)) for n in range(300)])]
 
 
 def write(folder):

@@ -1,8 +1,8 @@
 """Tapes (docs/FORMAT.md), made from tuples; and the oracle (tests/oracle), asked for the Rust's texts of them.
 
 A value is ('null', type), ('bool', b), ('int', i), ('float', bits), ('dec', negative, magnitude, exponent),
-('ts', precision, year, month, day, hour, minute, second, offset, digits, fraction), ('sym', bytes), ('id', n), ('str', bytes),
-('clob', bytes), ('list', values), ('sexp', values), ('struct', [(name, value), ..]), ('notes', [symbols], value) or ('marker',).
+('ts', precision, year, month, day, hour, minute, second, offset, digits, fraction), ('sym', bytes), ('id', n), ('str', bytes), ('clob', bytes),
+('blob', bytes), ('list', values), ('sexp', values), ('struct', [(name, value), ..]), ('notes', [symbols], value) or ('marker',).
 """
 import struct
 import subprocess
@@ -27,8 +27,8 @@ def node(v):
         return b'\x04' + struct.pack('<BQi', int(v[1]), v[2], v[3])
     if kind == 'ts':
         return b'\x05' + struct.pack('<BHBBBBBhBI', *v[1:])
-    if kind in ('sym', 'str', 'clob'):
-        return bytes([{'sym': 6, 'str': 8, 'clob': 9}[kind]]) + struct.pack('<I', len(v[1])) + v[1]
+    if kind in ('sym', 'str', 'clob', 'blob'):
+        return bytes([{'sym': 6, 'str': 8, 'clob': 9, 'blob': 15}[kind]]) + struct.pack('<I', len(v[1])) + v[1]
     if kind == 'id':
         return b'\x07' + struct.pack('<I', v[1])
     if kind == 'notes':

@@ -34,6 +34,7 @@ words = ('', 'true', 'false', 'nan', 'null', 'True', 'inf', 'nulls', '$', '$7', 
 values += [('sym', bytes([b])) for b in range(128)] + [('sym', w.encode()) for w in words]
 values += [('id', n) for n in (0, 10, 2**32 - 1)]
 values += [('clob', bytes([b])) for b in range(256)] + [('clob', b''), ('clob', bytes(range(200)))]
+values += [('blob', bytes(range(n))) for n in range(100)]
 
 for v, text in zip(values, ask([(1, tape([v])) for v in values])):
     if text is None:

@@ -20,7 +20,7 @@ from compare import damaged
 from listing import LONGEST, escaped, write
 from random_tapes import IDS, nested, stream, tree, value
 from tapes import UNKNOWN, ask, node, tape
-from writings import (FALSE, INF, MARKER, MINUS_INF, MINUS_ZERO, NAN, NULL, TRUE, ZERO, at, clob, dec, fraction, int_, list_, minus, nest, notes,
+from writings import (FALSE, INF, MARKER, MINUS_INF, MINUS_ZERO, NAN, NULL, TRUE, ZERO, at, blob, clob, dec, fraction, int_, list_, minus, nest, notes,
                       sexp, sid, sized, string, struct_, sym, time, trailed)
 
 SEED = 7
@@ -75,16 +75,16 @@ SAMPLES = {
     0: [('null', i) for i in range(13)], 1: [TRUE, FALSE], 2: [int_(0), int_(-7)], 3: FLOATS, 4: [dec(116, -9), minus(0, 0)],
     5: [time(0, 2024), at(-5)], 6: [sym('a'), sym('true'), sym("it's")], 7: [sid(0), sid(10)], 8: [string(''), string('a"\n')],
     9: [clob(b''), clob(b'\x00a"')], 10: [list_(), list_(TRUE)], 11: [sexp(), sexp(TRUE, NULL)], 12: [struct_(), struct_(('a', TRUE))],
-    13: [notes(TRUE, sym('a'))], 14: [MARKER], 15: [('odd', 15)]}
+    13: [notes(TRUE, sym('a'))], 14: [MARKER], 15: [blob(b''), blob(b'\x00a"')], 16: [('odd', 16)]}
 KINDS = ['null', 'bool', 'int', 'float', 'decimal', 'timestamp', 'symbol', 'identifier', 'string', 'clob', 'list', 'sexp', 'struct', 'annotated',
-         'marker', 'none']
+         'marker', 'blob', 'none']
 
 
 def fit(kind, place):
     """Whether the kind may stand there (docs/FORMAT.md)."""
     if place in ('name', 'annotation'):
         return kind in (6, 7)
-    return kind < 13 or kind == 13 and place != 'annotated' or kind == 14 and place == 'top'
+    return kind < 13 or kind == 13 and place != 'annotated' or kind == 14 and place == 'top' or kind == 15
 
 
 def bytes_of(v):
@@ -148,7 +148,7 @@ for w in WORDS:
     add(struct_((sym(w), TRUE)))
     add(notes(sym(w), sym(w)))
 
-section('every byte in symbols, names, annotations, strings and clobs')
+section('every byte in symbols, names, annotations, strings, clobs and blobs')
 
 
 def character(b):
@@ -166,6 +166,8 @@ for b in range(256):
     c = character(b)
     add(clob(bytes([b])))
     add(list_(clob(b'a' + bytes([b]) + b'"')))
+    add(blob(bytes([b])))
+    add(list_(blob(bytes([b, 255 - b])), blob(bytes([b ^ 85, b, 255 - b]))))
     if c is None:
         for n in sym('a'), string('a'):
             refused(2, trailed(bytes_of(n)[:1] + struct.pack('<I', 1) + bytes([b]), 1), 'a byte of no UTF-8')
@@ -209,6 +211,11 @@ for n in 1, 2, 16, 255, 256, 1000:
     add(('str', b'x' * n))
     add(('sym', b'x' * n))
     add(('clob', b'x' * n))
+    add(('blob', b'x' * n))
+
+section('blobs of every length below 100, and on both sides of 3072 and 6144')
+for n in *range(100), 3071, 3072, 3073, 3074, 6143, 6144, 6145:
+    add(blob((bytes(range(7, 256)) * 25)[:n]), rooms=n < 8)
 
 # --- Numbers.
 
@@ -316,9 +323,12 @@ for body in b'', ONE, node(list_(TRUE)), node(string('abc')):
     refused(1, trailed(body, 1)[:-1], 'the trailer cut')
 
 section('refusal 2')
-for kind in [*range(15, 32), 127, 128, 255]:
-    refused(2, trailed(bytes([kind]), 1), 'kind over 14')
-    refused(2, trailed(sized(10, bytes([kind])), 1), 'kind over 14')
+for kind in [*range(16, 32), 127, 128, 255]:
+    refused(2, trailed(bytes([kind]), 1), 'kind over 15')
+    refused(2, trailed(sized(10, bytes([kind])), 1), 'kind over 15')
+for cut in b'\x0f', b'\x0f\0\0\0', b'\x0f\x01\0\0\0', b'\x0f\xff\xff\xff\xff':
+    refused(2, trailed(cut, 1), 'a blob cut off')
+    refused(2, trailed(sized(10, cut), 1), 'a blob cut off')
 for kind, limit, said in (0, 12, 'null type over 12'), (1, 1, 'bool over 1'):
     for n in limit + 1, limit + 2, 128, 255:
         refused(2, trailed(bytes([kind, n]), 1), said)
@@ -368,7 +378,7 @@ for i in 1, 4, 9, 2**32 - 1:
         refused(5, tape([v]), 'an identifier but 0 as ' + said, layouts='t')
 
 section('the order of refusals: a tape with two faults')
-FAULTS = {2: b'\x0f', 3: node(nest('list', 65, TRUE)), 4: node(('float', 0x3FF8 << 48)), 5: node(notes(TRUE, sid(1)))}
+FAULTS = {2: b'\x10', 3: node(nest('list', 65, TRUE)), 4: node(('float', 0x3FF8 << 48)), 5: node(notes(TRUE, sid(1)))}
 
 
 def order(first, second, t, over=''):
@@ -493,11 +503,11 @@ def meet(v, place, outer, depth):
     kind = v[0]
     number = KIND_NUMBER[kind]
     cover['kind and place'][number, place] += 1
-    if kind in ('sym', 'str', 'clob'):
-        of = {'str': 'string', 'clob': 'clob'}.get(kind, place if place in ('name', 'annotation') else 'symbol')
+    if kind in ('sym', 'str', 'clob', 'blob'):
+        of = {'str': 'string', 'clob': 'clob', 'blob': 'blob'}.get(kind, place if place in ('name', 'annotation') else 'symbol')
         cover['byte of: ' + of].update(v[1])
         cover['length of a text'][len(v[1])] += 1
-        if kind != 'clob':
+        if kind not in ('clob', 'blob'):
             cover['UTF-8 width'].update(len(c.encode()) for c in v[1].decode())
     elif kind == 'dec':
         length = len(str(v[2]))
@@ -530,7 +540,7 @@ def meet(v, place, outer, depth):
             meet(child, kind, kind, depth + 1)
 
 
-KIND_NUMBER = dict(zip('null bool int float dec ts sym id str clob list sexp struct notes marker'.split(), range(15)))
+KIND_NUMBER = dict(zip('null bool int float dec ts sym id str clob list sexp struct notes marker blob'.split(), range(16)))
 
 
 def check_cover():
@@ -547,7 +557,7 @@ def check_cover():
     containers = ('list', 'sexp', 'struct')
     due = {'byte of: ' + text: valid for text in ('symbol', 'string', 'name', 'annotation')}
     due.update({
-        'byte of: clob': range(256), 'UTF-8 width': range(1, 5), 'length of a text': (0, 1, 2, 16, 255, 256, 1000), 'null': range(13),
+        'byte of: clob': range(256), 'byte of: blob': range(256), 'UTF-8 width': range(1, 5), 'length of a text': (0, 1, 2, 16, 255, 256, 1000), 'null': range(13),
         'bool': range(2), 'float': [f[1] for f in FLOATS], 'int': (0, 1, -1, 9, 10, 2**31, 2**63 - 1, -2**63), 'id': (0, 1, 10, 2**32 - 1),
         'decimal sum': range(-30, 31), 'decimal length': range(1, 21), 'decimal zero': [(s, e) for s in (0, 1) for e in range(-9, 4)],
         'decimal form': [(s, form) for s in (0, 1) for form in ((-1, 'p over 0'), (-1, 'p to -5'), (-1, 'p below -5'), (0, 'p over 0'),

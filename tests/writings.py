@@ -98,6 +98,10 @@ def clob(content):
     return ('clob', content)
 
 
+def blob(content):
+    return ('blob', content)
+
+
 def list_(*values):
     return ('list', list(values))
 
@@ -202,6 +206,10 @@ gives_lines((clob(b''), '{{""}}'), (clob(ESCAPED.encode()), r'{{"\0\a\b\t\n\v\f\
             (clob(b'\x01\x1f ~\x7f\x80\xab\xff'), r'{{"\x01\x1f ~\x7f\x80\xab\xff"}}'))
 for layout in LAYOUTS:
     row(layout, tape([clob(bytes(range(256)))]), 800)
+# 02, A3: "It prints as `{{`, padded base64 (RFC 4648, standard alphabet), `}}`"; the RFC's own vectors, section 10
+gives_lines(*((blob(content), '{{' + said + '}}') for content, said in (
+    (b'', ''), (b'f', 'Zg=='), (b'fo', 'Zm8='), (b'foo', 'Zm9v'), (b'foob', 'Zm9vYg=='), (b'fooba', 'Zm9vYmE='), (b'foobar', 'Zm9vYmFy'))))
+row(COMPACT, tape([blob(bytes(range(70)))]), 90)
 
 # "Depth 64 passes, 65 gives 3." Pretty also in a room too short for it.
 for kind, opening, closing in ('list', '[', ', ]'), ('sexp', '(', ' )'), ('struct', '{k: ', ', }'):
@@ -218,7 +226,7 @@ refuses(3, tape([int_(1), nest('list', 65, int_(1))]), layouts=(LINES,))
 refuses(1, b'', b'\0' * 7, b'\0' * 9, trailed(node(TRUE), 1, 1), trailed(node(TRUE), 1, 3), trailed(node(TRUE), 1, 2**32 - 8),
         trailed(b'', 0, 2**32 - 8), EXAMPLE[:-1], EXAMPLE[1:], EXAMPLE + b'\0')
 # 2: "node outside the layout": kinds and their bytes; names; cut nodes; counts
-bad_nodes = [b'\x0f', b'\xff', b'\0\x0d', b'\x01\x02', b'\x04\x02' + bytes(12), node(('float', NAN[1] + 1)), node(('float', 0xFFF8 << 48))]
+bad_nodes = [b'\x0f', b'\x10', b'\xff', b'\0\x0d', b'\x01\x02', b'\x04\x02' + bytes(12), node(('float', NAN[1] + 1)), node(('float', 0xFFF8 << 48))]
 bad_nodes += [node(time(5, 2024)), node(time(0, 0)), node(time(0, 10000)), node(time(0, 2024, 1)), node(time(1, 2024, 13)),
               node(time(2, 2023, 2, 29)), node(time(2, 1900, 2, 29)), node(time(2, 2024, 4, 31)), node(time(2, 2024, 4, 0)),
               node(time(2, 2024, 4, 1, 0, 0, 0, 0)), node(time(3, 2024, 4, 1, 24)), node(time(3, 2024, 4, 1, 0, 60)), node(at(1440)),
@@ -235,8 +243,8 @@ bad_nodes += [sized(12, node(TRUE) + node(TRUE)), sized(12, node(string('a')) + 
 bad_nodes += [b'\x0d\0' + node(TRUE), b'\x0d\x11' + node(sid(1)) * 17 + node(TRUE), b'\x0d\x01' + node(TRUE) * 2, b'\x0d\x01' + node(sid(1)),
               b'\x0d\x01' + node(sid(1)) + b'\x0e', b'\x0d\x01' + node(sid(1)) + node(notes(TRUE, sid(1)))]
 refuses(2, *(trailed(b, 1) for b in bad_nodes), layouts=(LINES,))
-refuses(2, trailed(b'\x0f', 1), trailed(sized(12, node(TRUE) + node(TRUE)), 1), layouts=(COMPACT, PRETTY))
-for v in (NULL, TRUE, int_(1), NAN, dec(1, 1), at(0), sym('ab'), sid(1), string('ab'), clob(b'ab'), list_(TRUE), sexp(TRUE), struct_(('a', TRUE)),
+refuses(2, trailed(b'\x10', 1), trailed(sized(12, node(TRUE) + node(TRUE)), 1), layouts=(COMPACT, PRETTY))
+for v in (NULL, TRUE, int_(1), NAN, dec(1, 1), at(0), sym('ab'), sid(1), string('ab'), clob(b'ab'), blob(b'ab'), list_(TRUE), sexp(TRUE), struct_(('a', TRUE)),
           notes(TRUE, sid(1))):
     n = node(v)
     refuses(2, *(trailed(n[:cut], 1) for cut in sorted({1, len(n) // 2, len(n) - 1})), layouts=(COMPACT,))
@@ -259,7 +267,7 @@ for values in [list_(TRUE)], [FIELDS, MARKER, string('é\n')], [dec(116, -9), at
             assert row(layout, tape(values), room) == expected
 
 # "Order: 7, 1, then nodes in tape order (header 2, then 3, then 4), top-level count, 5, 6."
-bad, finite, noted, deep = b'\x0f', node(ONE_AND_A_HALF), node(notes(TRUE, sid(1))), node(nest('list', 65, TRUE))
+bad, finite, noted, deep = b'\x10', node(ONE_AND_A_HALF), node(notes(TRUE, sid(1))), node(nest('list', 65, TRUE))
 refuses(7, b'', trailed(bad, 1), trailed(finite, 1), trailed(deep, 1), trailed(noted, 1), layouts=(3, 255), rooms=(0, 5))
 refuses(1, trailed(bad, 1, 0), trailed(finite, 1, 0), trailed(noted, 1, 0), rooms=(0, 5))
 refuses(4, trailed(finite + bad, 2), trailed(finite + deep, 2), rooms=(0, 5))

@@ -12,6 +12,10 @@
 //! let tape = to_tape(b"[1, 2] {peak: 61.25}")?;
 //! assert_eq!(to_text(Layout::Lines, &tape)?, b"[1, 2, ]\n{peak: 61.25, }\n");
 //!
+//! // A finder image is a blob.
+//! let field = to_tape(b"{field: m31, finder: jpeg::{{/9j/4AAQ}}}")?;
+//! assert_eq!(to_tree_text(&field)?, b"{field: m31, finder: jpeg::{{/9j/4AAQ}}}");
+//!
 //! // A damaged text: the lines around the damage are read as they were written.
 //! let read: Vec<_> = lines(b"[1, 2, ]\n{pe###.25, }\n3\n").map(|line| line.tape).collect();
 //! assert_eq!(to_tree_text(read[0].as_ref().unwrap())?, b"[1, 2]");

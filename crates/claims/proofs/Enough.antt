@@ -15,14 +15,15 @@ use Rattle.text_rules.specs.Text.{Sym}
 use Rattle.text_rules.specs.declared.words.Kind.{Kind}
 use Rattle.text_rules.specs.declared.words.Kind.the-variants.{Null, True, False, Nan, Marker, Number, Text, Refused}
 use Rattle.tokens.specs.Quoted.{string, clob}
+use Rattle.tokens.specs.Blob.{blob}
 use Rattle.tokens.specs.Token.{symbol, nullBehind, float}
-use Rattle.tokens.proofs.Shorter.{Left, unread, fewer, left-more, left-all, left-if, left-then, left-after, left-on, left-or, strip-long, word-some, string-left, clob-left, symbol-left, null-left, float-left}
+use Rattle.tokens.proofs.Shorter.{Left, unread, fewer, left-more, left-all, left-if, left-then, left-after, left-on, left-or, strip-long, word-some, string-left, clob-left, blob-left, symbol-left, null-left, float-left}
 use Rattle.numbers.specs.Numeral.{numeral}
 use Rattle.numbers.specs.TimestampRead.{timestamp}
 use Rattle.tape.specs.Tree.{Head, Node, Nodes}
 use Rattle.tape.specs.declared.Frame.{Frame}
 use Rattle.tape.specs.declared.Frame.the-variants.{Top, List as ListF, Sexp, Struct}
-use Rattle.reader.specs.Grammar.{taken, skip, opens, closes, comma, gap, note, notes, field, name, head, free, byKind, words, numeralNode, numbers, numeric, scalar, within, headed, body, value, sequence, meaning}
+use Rattle.reader.specs.Grammar.{taken, skip, opens, closes, comma, gap, note, notes, field, name, head, free, byKind, words, numeralNode, numbers, numeric, braces, scalar, within, headed, body, value, sequence, meaning}
 use Rattle.reader.proofs.Shorter.{timestamp-left, numeral-left}
 use Rattle.reader.proofs.Reading.{opens-some, body-nest, body-deep, body-scalar, body-nothing, value-headless, value-head, sequence-end, further, further-none, further-some, sequence-child}
 
@@ -125,13 +126,17 @@ numbers-left t =
     left-or (taken _ (float t)) _ (left-taken _ (float t) (float-left t))
     (left-or (taken _ (timestamp t)) _ (left-taken _ (timestamp t) (timestamp-left t)) (left-taken numeralNode (numeral t) (numeral-left t)))
 
+braces-left : (t : List ℕ) → Left (length t) (braces t)
+unfolding braces
+braces-left t = left-if (starts (byte "\"") (drop 2 t)) (λ _. left-taken _ (clob t) (clob-left t)) (λ _. left-taken _ (blob t) (blob-left t))
+
 scalar-left : (m : Bool) (t : List ℕ) → Left (length t) (scalar m t)
 unfolding scalar
 scalar-left m [] = unread
 scalar-left m (c ∷ t) =
     left-if (eqb c (byte "\"")) (λ _. left-taken _ (string (c ∷ t)) (string-left (c ∷ t))) (λ _.
     left-if (eqb c (byte "'")) (λ _. left-taken _ (symbol (c ∷ t)) (symbol-left (c ∷ t))) (λ _.
-    left-if (eqb c (byte "{")) (λ _. left-taken _ (clob (c ∷ t)) (clob-left (c ∷ t))) (λ _.
+    left-if (eqb c (byte "{")) (λ _. braces-left (c ∷ t)) (λ _.
     left-if (numeric c) (λ _. numbers-left (c ∷ t)) (λ _. words-left m (c ∷ t)))))
 
 -- a container, by what is left inside it

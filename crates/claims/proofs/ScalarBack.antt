@@ -9,7 +9,7 @@ use lib.Dec.{eqb, T}
 use borrow.Author.Tests.{ne-eqb}
 use lib.IntN.{ℤ}
 use lib.Ieee.{Float, nan, inf, fin, binary64, fits, toBits, isNan}
-use lib.ListN.{length, length-append}
+use lib.ListN.{length, drop, length-append}
 use mir.Syntax.{w32, w64}
 use mir.Val.{SFits}
 use Rattle.output.specs.Logic.{if, then, byte, ascii}
@@ -18,10 +18,11 @@ use Rattle.text_rules.specs.Texts.{starts, strip, same, ended}
 use Rattle.text_rules.specs.Words.{isStart, isPart, word, behindWord, kindOf, isIdentifier, isKeyword, resemblesSymbolId, resemblesVersionMarker, version, allDigits}
 use Rattle.text_rules.specs.WordSteps.{isBare}
 use Rattle.text_rules.specs.Utf8.{valid}
-use Rattle.text_rules.specs.Text.{Sym, marked, symbolText, symbolIdText, stringText, clobText, typeName, nullText, boolText, bitsText, floatText}
+use Rattle.text_rules.specs.Text.{Sym, marked, symbolText, symbolIdText, stringText, clobText, blobText, typeName, nullText, boolText, bitsText, floatText}
 use Rattle.text_rules.specs.declared.words.Kind.{Kind}
 use Rattle.text_rules.specs.declared.words.Kind.the-variants.{Null, True, False, Nan, Marker, Refused}
 use Rattle.tokens.specs.Quoted.{string, clob}
+use Rattle.tokens.specs.Blob.{blob}
 use Rattle.tokens.specs.Token.{wordSymbol, bareSymbol, symbol, nullBehind, null as nullToken, float as floatToken}
 use Rattle.numbers.specs.Decimal.{intText, decimalText}
 use Rattle.numbers.specs.declared.timestamp.Timestamp.{Timestamp}
@@ -31,7 +32,7 @@ use Rattle.numbers.specs.TimestampRead.{timestamp as timestampToken}
 use Rattle.tape.specs.Tree.{Scalar, Node}
 use Rattle.tape.specs.Tree.{null, bool, int, float, decimal, timestamp}
 use Rattle.tape.specs.Fine.{FineBytes, FineFloat, FineScalar}
-use Rattle.reader.specs.Grammar.{taken, opener, opens, byKind, words, numeralNode, numbers, numeric, scalar}
+use Rattle.reader.specs.Grammar.{taken, opener, opens, byKind, words, numeralNode, numbers, numeric, braces, scalar}
 use Rattle.writer.specs.Text.{symText, scalarText}
 use Rattle.text_rules.proofs.DigitLaws.{never}
 use Rattle.text_rules.proofs.WordsLaws.{kind-nothing}
@@ -42,6 +43,7 @@ use Rattle.tokens.proofs.NullBack.{null-back, null-kind}
 use Rattle.tokens.proofs.WordsOther.{nan-kind}
 use Rattle.tokens.proofs.QuotedBack.{string-back}
 use Rattle.tokens.proofs.ClobBack.{clob-back}
+use Rattle.tokens.proofs.BlobBack.{blob-back, blob-unquoted}
 use Rattle.tokens.proofs.FloatBack.{float-back}
 use Rattle.numbers.proofs.DecimalBack.{decimal-back, int-back}
 use Rattle.numbers.proofs.TimestampBack.{timestamp-back}
@@ -223,7 +225,7 @@ symbol-told m s r h e = go (isBare s) refl
     go true i = rw (symbol-bare s i) (word-told m (Scalar.symbol (Sym.text s)) s r (some (Sym.text s)) (bare-first s i) (bare-words m s r i e) (rw (symbol-bare s i) at (symbol-back s r h e)))
     go false i = rw (symbol-marked s i) (quoted (symbol-marked s i))
 
--- ---- strings and clobs
+-- ---- strings, clobs and blobs
 
 string-scalar : (m : Bool) (s r : List ℕ) → string (stringText s ++ r) ≡ some (s, r) → scalar m (stringText s ++ r) ≡ some (Node.scalar (Scalar.string s), r)
 unfolding stringText scalar
@@ -240,13 +242,28 @@ string-told m s r h = record {
 }
 
 clob-scalar : (m : Bool) (s r : List ℕ) → clob (clobText s ++ r) ≡ some (s, r) → scalar m (clobText s ++ r) ≡ some (Node.scalar (Scalar.clob s), r)
-unfolding clobText scalar
+unfolding clobText scalar braces starts
 clob-scalar m s r h = rw h
 
 clob-told : (m : Bool) (s r : List ℕ) → FineBytes s → Told m (Scalar.clob s) (clobText s) r
 unfolding clobText
 clob-told m s r h = record {
   reads = clob-scalar m s r (clob-back s r (h .bytes));
+  no-bracket = unfold opens starts in refl;
+  begins = record { byte₀ = byte "{"; rest = _; is = refl; tells = unfold leads numeric isDigit isStart in refl };
+  as-symbol = none;
+  symbol-is = no-symbol (byte "{") _ (unfold isStart in refl) refl;
+}
+
+-- behind `{{` no quote mark stands
+blob-scalar : (m : Bool) (s r : List ℕ) → starts (byte "\"") (drop 2 (blobText s ++ r)) ≡ false → blob (blobText s ++ r) ≡ some (s, r) → scalar m (blobText s ++ r) ≡ some (Node.scalar (Scalar.blob s), r)
+unfolding blobText scalar braces
+blob-scalar m s r q h = rw (q, h)
+
+blob-told : (m : Bool) (s r : List ℕ) → FineBytes s → Told m (Scalar.blob s) (blobText s) r
+unfolding blobText
+blob-told m s r h = record {
+  reads = blob-scalar m s r (blob-unquoted s r (h .bytes)) (blob-back s r (h .bytes));
   no-bracket = unfold opens starts in refl;
   begins = record { byte₀ = byte "{"; rest = _; is = refl; tells = unfold leads numeric isDigit isStart in refl };
   as-symbol = none;
@@ -326,6 +343,7 @@ scalar-told m (Scalar.symbol (Sym.text s)) r h e = symbol-told m s r (h .utf8) e
 scalar-told m (Scalar.symbol (Sym.id n)) r h e = word-told m (Scalar.symbol (Sym.id n)) (symbolIdText n) r (some (Sym.id n)) (id-first n) (id-words m n r h e) (symbol-id-back n r h e)
 scalar-told m (Scalar.string s) r h e = string-told m s r (h .utf8)
 scalar-told m (Scalar.clob s) r h e = clob-told m s r h
+scalar-told m (Scalar.blob s) r h e = blob-told m s r h
 
 -- a written scalar has a byte at least
 pub scalar-long : (s : Scalar) → FineScalar s → 1 ≤ length (scalarText s)

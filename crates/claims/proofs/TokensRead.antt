@@ -20,6 +20,7 @@ use Rattle.text_rules.specs.Text.{Sym}
 use Rattle.text_rules.specs.declared.words.Kind.{Kind}
 use Rattle.text_rules.specs.declared.words.Kind.the-variants.{Null, True, False, Nan, Marker, Number, Text, Refused}
 use Rattle.tokens.specs.Quoted.{character, quoted, string, clob}
+use Rattle.tokens.specs.Blob.{blob}
 use Rattle.tokens.specs.Token.{wordSymbol, bareSymbol, quotedSymbol, symbol, typeOf, nullBehind, nanWord, spelled, float}
 use Rattle.numbers.specs.Timestamp.{wellFormed}
 use Rattle.numbers.specs.Numeral.{Numeral, numeral}
@@ -34,6 +35,7 @@ use Rattle.text_rules.proofs.WordsBack.{word-all}
 use Rattle.text_rules.proofs.WordsLaws.{behind-word}
 use Rattle.tokens.proofs.QuotedMany.{characters-many}
 use Rattle.tokens.proofs.Utf8Back.{many-all, character-char, valid-nothing, quoted-valid, clob-bytes}
+use Rattle.tokens.proofs.BlobBack.{blob-bytes}
 use Rattle.numbers.proofs.DecimalBack.{decimal-range, int-range}
 use Rattle.numbers.proofs.TimestampBack.{timestamp-well}
 use Rattle.tape.proofs.Reading.{if-all}
@@ -244,6 +246,13 @@ clob-scalar s b l = record { bytes = b; short = omega (arith, sized-long s) }
 
 pub clob-got : (t : List ℕ) → Got Bytes (clob t)
 clob-got t = got-of Bytes (clob t) (clob-bytes t)
+
+pub blob-scalar : (s : List ℕ) → Bytes s → ScalarP (Scalar.blob s)
+unfolding encodeScalar
+blob-scalar s b l = record { bytes = b; short = omega (arith, sized-long s) }
+
+pub blob-got : (t : List ℕ) → Got Bytes (blob t)
+blob-got t = got-of Bytes (blob t) (blob-bytes t)
 
 -- the type of a null is 12 at most
 abbrev Type12 : Option ℕ → Type 0

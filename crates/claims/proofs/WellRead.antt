@@ -17,6 +17,7 @@ use Rattle.text_rules.specs.Text.{Sym}
 use Rattle.text_rules.specs.declared.words.Kind.{Kind}
 use Rattle.text_rules.specs.declared.words.Kind.the-variants.{Null, True, False, Nan, Marker, Number, Text, Refused}
 use Rattle.tokens.specs.Quoted.{string, clob}
+use Rattle.tokens.specs.Blob.{blob}
 use Rattle.tokens.specs.Token.{symbol, nullBehind, float}
 use Rattle.numbers.specs.Numeral.{Numeral, numeral}
 use Rattle.numbers.specs.Timestamp.{wellFormed}
@@ -25,10 +26,10 @@ use Rattle.tape.specs.Tree.{Scalar, Head, Node, Nodes, nest, marker, nil, more,
 use Rattle.tape.specs.Fine.{Bytes, FineSyms, FineScalar, FineName, FineHead, FineMarker, FineFloat, Inner, Fine, Fines}
 use Rattle.tape.specs.declared.Frame.{Frame}
 use Rattle.tape.specs.declared.Frame.the-variants.{Top, List as ListF, Sexp, Struct}
-use Rattle.reader.specs.Grammar.{taken, skip, opener, opens, closes, gap, note, notes, field, name, head, free, byKind, words, numeralNode, numbers, numeric, scalar, within, headed, body, sequence, meaning}
+use Rattle.reader.specs.Grammar.{taken, skip, opener, opens, closes, gap, note, notes, field, name, head, free, byKind, words, numeralNode, numbers, numeric, braces, scalar, within, headed, body, sequence, meaning}
 use Rattle.tape.proofs.Reading.{if-all}
 use Rattle.claims.specs.InRange.{Got, got-none, got, IsText, SymInRange, NumeralInRange}
-use Rattle.claims.proofs.TokensRead.{got-then, got-after, got-taken, got-or, ScalarP, KindP, kind-fits, word-text, string-text, symbol-got, symbol-scalar, string-scalar, clob-scalar, text-sym, clob-got, null-got, float-got, timestamp-got, numeral-got}
+use Rattle.claims.proofs.TokensRead.{got-then, got-after, got-taken, got-or, ScalarP, KindP, kind-fits, word-text, string-text, symbol-got, symbol-scalar, string-scalar, clob-scalar, blob-scalar, text-sym, clob-got, blob-got, null-got, float-got, timestamp-got, numeral-got}
 
 -- ---- heads
 
@@ -143,13 +144,20 @@ module _ (d : ℕ) (k : Frame) (ss : List Sym) where
       go Text p = got (scalar-node (Scalar.symbol (Sym.text (word t))) (symbol-scalar (Sym.text (word t)) (text-sym (word t) (word-text t))))
       go Refused p = got-none
 
+  braces-got : (t : List ℕ) → Got (NodeP d k ss) (braces t)
+  unfolding braces
+  braces-got t =
+      if-all (Got (NodeP d k ss)) {b = starts (byte "\"") (drop 2 t)}
+      (λ _. got-taken Bytes (NodeP d k ss) (λ s. Node.scalar (Scalar.clob s)) (λ s p. scalar-node (Scalar.clob s) (clob-scalar s p)) (clob t) (clob-got t))
+      (λ _. got-taken Bytes (NodeP d k ss) (λ s. Node.scalar (Scalar.blob s)) (λ s p. scalar-node (Scalar.blob s) (blob-scalar s p)) (blob t) (blob-got t))
+
   scalar-got : (m : Bool) (t : List ℕ) → (m ≡ true → FineMarker k ss) → Got (NodeP d k ss) (scalar m t)
   unfolding scalar
   scalar-got m [] h = got-none
   scalar-got m (c ∷ t) h =
       if-all (Got (NodeP d k ss)) {b = eqb c (byte "\"")} (λ _. got-taken IsText (NodeP d k ss) (λ s. Node.scalar (Scalar.string s)) (λ s p. scalar-node (Scalar.string s) (string-scalar s p)) (string (c ∷ t)) (string-text (c ∷ t))) (λ _.
       if-all (Got (NodeP d k ss)) {b = eqb c (byte "'")} (λ _. got-taken SymInRange (NodeP d k ss) (λ s. Node.scalar (Scalar.symbol s)) (λ s p. scalar-node (Scalar.symbol s) (symbol-scalar s p)) (symbol (c ∷ t)) (symbol-got (c ∷ t))) (λ _.
-      if-all (Got (NodeP d k ss)) {b = eqb c (byte "{")} (λ _. got-taken Bytes (NodeP d k ss) (λ s. Node.scalar (Scalar.clob s)) (λ s p. scalar-node (Scalar.clob s) (clob-scalar s p)) (clob (c ∷ t)) (clob-got (c ∷ t))) (λ _.
+      if-all (Got (NodeP d k ss)) {b = eqb c (byte "{")} (λ _. braces-got (c ∷ t)) (λ _.
       if-all (Got (NodeP d k ss)) {b = numeric c} (λ _. number-got (c ∷ t)) (λ _. words-got m (c ∷ t) h))))
 
 -- ---- trees

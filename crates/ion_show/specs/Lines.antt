@@ -17,10 +17,10 @@ unfoldable pub nth : ℕ → List ℕ → List ℕ
 nth zero l = take (distance (byte " ") l) l
 nth (suc k) l = nth k (drop (distance (byte " ") l + 1) l)
 
--- the names of the kinds 0 to 14, then of a symbol that is a name and of one that is an annotation
+-- the names of the kinds 0 to 15, then of a symbol that is a name and of one that is an annotation
 unfoldable pub kindName : ℕ → List ℕ
 kindName k =
-    nth k (ascii "null bool int float decimal timestamp symbol identifier string clob list sexp struct annotated marker name annotation")
+    nth k (ascii "null bool int float decimal timestamp symbol identifier string clob list sexp struct annotated marker blob name annotation")
 
 -- the number, the offset and the length of a line
 unfoldable pub placeText : ℕ → ℕ → ℕ → List ℕ

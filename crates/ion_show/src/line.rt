@@ -7,9 +7,9 @@ ghost use Rattle.output.specs.Wrote.{Wrote, limit};
 ghost use Rattle.ion_show.specs.Lines.{column, nth, kindName, placeText, clippedText};
 
 // Beside the kinds of nodes: a symbol that is a name or an annotation.
-pub const NAME: u8 = 15;
+pub const NAME: u8 = 16;
 
-pub const ANNOTATION: u8 = 16;
+pub const ANNOTATION: u8 = 17;
 
 // What is wanting to seven columns.
 fn wanting(n: usize) -> usize
@@ -56,7 +56,7 @@ pub fn put_kind(line: &mut [u8], pos: usize, kind: u8) -> usize
         line,
         pos,
         kind,
-        b"null bool int float decimal timestamp symbol identifier string clob list sexp struct annotated marker name annotation",
+        b"null bool int float decimal timestamp symbol identifier string clob list sexp struct annotated marker blob name annotation",
     )
 }
 

@@ -1,16 +1,17 @@
 -- Laws of words as bytes side by side: no operation used here carries from one byte to the next. Assumes nothing.
 use mathlib.Core.Path.{_≡_, refl, ap, ap₂, _∙_}
 use mathlib.Core.Bool.{Bool, true, false, _&&_, and-true}
+use mathlib.Core.List.{List, _∷_, map}
 use Prim.Native.Nat.{ℕ, zero, suc, _+_, _-_, _*_, _/_, _%_, _^_, _≤_, _<_}
-use native.Mathlib.Nat.{pow-suc}
+use native.Mathlib.Nat.{pow-suc, add-mul, mul-right-comm}
 use native.Mathlib.Omega.{arith}
-use lib.Bits.{bitAnd, bitOr, bitXor, and-block, or-block, xor-block, and-lt, or-lt, xor-lt, and-comm, and-le-l, and-le-r, and-zero-r, or-add-and}
+use lib.Bits.{bitAnd, bitOr, bitXor, and-block, or-block, xor-block, and-lt, or-lt, xor-lt, and-comm, and-le-l, and-le-r, and-zero-r, and-high, or-add-and}
 use lib.Dec.{eqb}
 use borrow.Author.Tests.{eqb-true, eqb-false, eq-eqb, ne-eqb}
 use Rattle.output.specs.Wrote.{leBytes}
 use Rattle.lanes.specs.Lanes.{lanes, rep, Lane, every, unmarkedBy, low, otherMark}
 
-byte-lt : (x : ℕ) → x % 256 < 256
+pub byte-lt : (x : ℕ) → x % 256 < 256
 byte-lt x = omega arith
 
 -- ---- the operations, of any number of bytes
@@ -45,6 +46,38 @@ lanes-self (suc w) x h =
     let l : x < 256 ^ w * 256 = rw (pow-suc 256 w) at h in
     omega (arith, lanes-self w (x / 256) (omega arith))
 
+lanes-le : (f g : ℕ → ℕ) → ((b : ℕ) → b < 256 → g b ≤ f b) → (w x : ℕ) → lanes w g x ≤ lanes w f x
+unfolding lanes
+lanes-le f g h zero x = omega arith
+lanes-le f g h (suc w) x = omega (arith, lanes-le f g h w (x / 256), h (x % 256) (byte-lt x))
+
+lanes-sub : (f g : ℕ → ℕ) → ((b : ℕ) → b < 256 → g b ≤ f b) → (w x : ℕ) → lanes w f x - lanes w g x ≡ lanes w (λ b. f b - g b) x
+unfolding lanes
+lanes-sub f g h zero x = refl
+lanes-sub f g h (suc w) x = omega (arith, lanes-sub f g h w (x / 256), lanes-le f g h w (x / 256), h (x % 256) (byte-lt x))
+
+lanes-times : (k : ℕ) (f : ℕ → ℕ) (w x : ℕ) → lanes w f x * k ≡ lanes w (λ b. f b * k) x
+unfolding lanes
+lanes-times k f zero x = omega arith
+lanes-times k f (suc w) x =
+    add-mul (lanes w f (x / 256) * 256) (f (x % 256)) k
+    ∙ ap (λ (i : ℕ). i + f (x % 256) * k) (mul-right-comm (lanes w f (x / 256)) 256 k ∙ ap (λ (i : ℕ). i * 256) (lanes-times k f w (x / 256)))
+
+lanes-high : (f : ℕ → ℕ) (w x : ℕ) → lanes w (λ b. bitAnd (f b) 128) x ≡ lanes w (λ b. bitAnd (f b) 128 / 128) x * 128
+unfolding lanes
+lanes-high f zero x = refl
+lanes-high f (suc w) x = omega (arith, lanes-high f w (x / 256), and-high (f (x % 256)) 1 7)
+
+lanes-bytes : (f : ℕ → ℕ) → ((b : ℕ) → b < 256 → f b < 256) → (w n x : ℕ) → n ≤ w → leBytes n (lanes w f x) ≡ map f (leBytes n x)
+unfolding lanes leBytes
+lanes-bytes f h w zero x l = refl
+lanes-bytes f h zero (suc n) x l = absurd (omega arith)
+lanes-bytes f h (suc w) (suc n) x l =
+    let s = h (x % 256) (byte-lt x) in
+    let q : (lanes w f (x / 256) * 256 + f (x % 256)) / 256 ≡ lanes w f (x / 256) = omega arith in
+    let r : (lanes w f (x / 256) * 256 + f (x % 256)) % 256 ≡ f (x % 256) = omega arith in
+    rw (q, r, lanes-bytes f h w n (x / 256) (omega arith))
+
 -- ---- of a word
 
 pub lane-self : (x : ℕ) → x < 2 ^ 64 → Lane (λ b. b) x x
@@ -69,16 +102,37 @@ module _ {f g : ℕ → ℕ} {x v u : ℕ} where
   pub lane-add : ((b : ℕ) → b < 256 → f b + g b < 256) → Lane f x v → Lane g x u → Lane (λ b. f b + g b) x (v + u)
   lane-add h a e = record { is = ap₂ (λ (i j : ℕ). i + j) (a .is) (e .is) ∙ lanes-add f g 8 x; small = h }
 
+  -- no byte is less than what is taken from it
+  pub lane-le : ((b : ℕ) → b < 256 → g b ≤ f b) → Lane f x v → Lane g x u → u ≤ v
+  lane-le h a e = rw (a .is, e .is) (lanes-le f g h 8 x)
+
+  pub lane-sub : ((b : ℕ) → b < 256 → g b ≤ f b) → Lane f x v → Lane g x u → Lane (λ b. f b - g b) x (v - u)
+  lane-sub h a e = record { is = ap₂ (λ (i j : ℕ). i - j) (a .is) (e .is) ∙ lanes-sub f g h 8 x; small = λ b l. omega (arith, a .small b l) }
+
 module _ {f : ℕ → ℕ} {x v : ℕ} where
   pub lane-not : Lane f x v → Lane (λ b. 255 - f b) x (18446744073709551615 - v)
   lane-not a = record { is = ap (λ (i : ℕ). 18446744073709551615 - i) (a .is) ∙ lanes-not f (a .small) 8 x; small = λ b l. omega arith }
 
+  pub lane-times : (k : ℕ) → ((b : ℕ) → b < 256 → f b * k < 256) → Lane f x v → Lane (λ b. f b * k) x (v * k)
+  lane-times k h a = record { is = ap (λ (i : ℕ). i * k) (a .is) ∙ lanes-times k f 8 x; small = h }
+
+  -- the high bit of each byte, as 0 or 1
+  pub lane-high : Lane f x v → Lane (λ b. bitAnd (f b) 128 / 128) x (bitAnd v 0x8080808080808080 / 128)
+  unfolding rep
+  lane-high a =
+      let marks = lane-and a (lane-rep x 128 (omega arith)) in
+      record { is = omega (arith, marks .is, lanes-high f 8 x); small = λ b l. omega (arith, and-le-r (f b) 128) }
+
   pub lane-lt : Lane f x v → v < 18446744073709551616
   lane-lt a = rw (a .is) (lanes-lt f (a .small) 8 x)
 
+  -- the bytes themselves
+  pub lane-bytes : Lane f x v → (n : ℕ) → n ≤ 8 → leBytes n v ≡ map f (leBytes n x)
+  lane-bytes a n l = rw (a .is) (lanes-bytes f (a .small) 8 n x l)
+
 -- ---- sums whose bytes stay bytes: both sides are below hex 80
 
-low-lt : (b : ℕ) → low b < 128
+pub low-lt : (b : ℕ) → low b < 128
 low-lt b = omega (arith, and-le-r b 127)
 
 pub lane-low : (x : ℕ) → x < 2 ^ 64 → Lane low x (bitAnd x 0x7F7F7F7F7F7F7F7F)

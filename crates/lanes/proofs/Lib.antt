@@ -1,3 +1,4 @@
 pub mod Table
 pub mod LaneLaws
 pub mod DigitArith
+pub mod SextetLaws

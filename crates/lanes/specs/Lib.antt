@@ -1,2 +1,3 @@
 pub mod Lanes
 pub mod DigitLanes
+pub mod Sextets

@@ -1,5 +1,6 @@
 // Tests of the bytes of a word side by side: up to eight bytes at once, the lowest first. A mark is the high bit of a byte's place, and a test
-// says yes where none of the n lowest bytes is marked. Which bytes those are is said by the crates that use it, in their own words.
+// says yes where none of the n lowest bytes is marked. Which bytes those are is said by the crates that use it, in their own words,
+// but for `sextets`, whose rule is base64's.
 ghost use Prim.Native.Nat.{_%_, _≤_};
 ghost use mathlib.Core.Path.{_≡_};
 ghost use mathlib.Core.Bool.{not};
@@ -7,6 +8,7 @@ ghost use Rattle.output.specs.Wrote.{leBytes};
 ghost use Rattle.lanes.specs.Lanes.{rep, Lane, every, unmarkedBy, letterMark, noLetter, noPart, noRaw};
 
 pub mod digit_words;
+pub mod sextets;
 
 // Hex 80 in each of the n lowest bytes. The compiler makes a table of the arms, which has all eight where the last is not the default.
 pub fn high_bits(n: usize) -> u64

@@ -17,7 +17,7 @@ use Rattle.text_rules.specs.Text.{Sym, stringText, clobText, typeName, nullText
 use Rattle.numbers.specs.declared.timestamp.Timestamp.{Timestamp}
 use Rattle.numbers.specs.Timestamp.{wellFormed}
 use Rattle.tape.specs.Bytes.{first}
-use Rattle.tape.specs.Tree.{Scalar, Head, Node, Nodes, null, bool, int, float, decimal, timestamp, symbol, string, clob, scalar, nest, marker, nil, more, size, sized, encodeTimestamp, encodeSym, encodeScalar, encodeSyms, encodeName, encodeNotes, encodeHead, encode, encodes, tape}
+use Rattle.tape.specs.Tree.{Scalar, Head, Node, Nodes, null, bool, int, float, decimal, timestamp, symbol, string, clob, blob, scalar, nest, marker, nil, more, size, sized, encodeTimestamp, encodeSym, encodeScalar, encodeSyms, encodeName, encodeNotes, encodeHead, encode, encodes, tape}
 use Rattle.tape.specs.Tape.{scalarFault, nodesOf}
 use Rattle.tape.specs.Fine.{Bytes, FineScalar, Fine, Fines}
 use Rattle.tape.specs.Verdict.{verdict}
@@ -31,7 +31,7 @@ use Rattle.writer.specs.Text.{symText, scalarText, nameText, notesText, opening
 use Rattle.writer.specs.Outcome.{refusal, answered}
 use Rattle.measure.specs.Sums.{frontLength, contentsOf, contents, separatorLength, separatorsOf, separators, indentsOf, indents}
 use Rattle.measure.specs.Outcome.{textLength, longest}
-use Rattle.measure.proofs.EscapeLengths.{quoted-most, symbol-most, clob-body-most}
+use Rattle.measure.proofs.EscapeLengths.{quoted-most, symbol-most, clob-body-most, blob-text-length}
 use Rattle.measure.proofs.NumberLengths.{int-most, decimal-most, timestamp-most, id-most}
 use Rattle.measure.proofs.TextSums.{length-3, stream-sums}
 
@@ -106,6 +106,7 @@ scalar-most (timestamp x) f = let a = timestamp-most x (f x refl) in omega arith
 scalar-most (symbol s) f = let a = sym-most s in omega arith
 scalar-most (string s) f = let a = quoted-most (byte "\"") s in let b = sized-long s in omega arith
 scalar-most (clob s) f = let a = clob-most s in let b = sized-long s in omega arith
+scalar-most (blob s) f = let a = blob-text-length s in let b = sized-long s in omega arith
 
 pub sound-most : (s : Scalar) → scalarFault s ≡ 0 → length (scalarText s) + 2 ≤ longest (length (encodeScalar s))
 unfolding scalarFault

@@ -1,4 +1,4 @@
--- How long the bodies of texts and clobs are. Assumes nothing.
+-- How long the bodies of texts, clobs and blobs are. Assumes nothing.
 use mathlib.Core.Path.{_≡_, refl}
 use mathlib.Core.Bool.{Bool, true, false, _&&_, _||_}
 use mathlib.Core.List.{List, [], _∷_, _++_}
@@ -11,9 +11,11 @@ use Rattle.output.specs.Logic.{if, byte, ascii}
 use Rattle.output.specs.Wrote.{leBytes}
 use Rattle.lanes.specs.Lanes.{every, unmarkedBy, noRaw}
 use Rattle.lanes.proofs.Table.{same as agree}
+use Rattle.text_rules.specs.Base64.{base64}
 use Rattle.text_rules.specs.Escapes.{letterOf, hasLetter, hexDigit, textEscape, textBody, clobEscape, clobBody}
 use Rattle.text_rules.specs.Words.{isKeyword, resemblesSymbolId, resemblesVersionMarker, isIdentifier}
-use Rattle.text_rules.specs.Text.{symbolText, marked, clobText}
+use Rattle.text_rules.specs.Text.{symbolText, marked, clobText, blobText}
+use Rattle.text_rules.proofs.Base64Laws.{base64-length}
 use Rattle.text_rules.proofs.EscapesLaws.{escape-short, body-part}
 use Rattle.text_rules.proofs.LaneTests.{raw-word, word-part}
 use Rattle.measure.specs.MarkSteps.{escapeMark, markedCount}
@@ -113,3 +115,10 @@ clob-body-most (c ∷ s) = omega (arith, clob-short c, clob-body-most s, length-
 pub clob-text-length : (s : List ℕ) → length (clobText s) ≡ length (clobBody s) + 6
 unfolding clobText
 clob-text-length s = omega (arith, length-append (ascii "{{\"" ++ clobBody s) (ascii "\"}}"))
+
+-- ---- blobs
+
+-- with its marks
+pub blob-text-length : (s : List ℕ) → length (blobText s) ≡ (length s + 2) / 3 * 4 + 4
+unfolding blobText
+blob-text-length s = omega (arith, base64-length s, length-append (ascii "{{" ++ base64 s) (ascii "}}"))

@@ -8,21 +8,21 @@ use native.Mathlib.Omega.{arith}
 use native.Mathlib.Decide.{decLe}
 use lib.Dec.{eqb, leb, ltb}
 use lib.IntN.{ℤ, pos, negsuc}
-use lib.ListN.{length, getD, take, drop, replicate, length-append, length-take}
-use lib.Seq.{getD-take}
+use lib.ListN.{length, getD, take, drop, replicate, length-append, length-take, length-drop}
+use lib.Seq.{getD-take, length-take-le}
 use borrow.Author.Tests.{eqb-true, ne-eqb}
 use Rattle.output.specs.Logic.{if, byte, ascii}
 use Rattle.text_rules.specs.Digits.{digits}
-use Rattle.text_rules.specs.Text.{Sym, symbolText, symbolIdText, stringText, clobText, typeName, nullText, boolText}
+use Rattle.text_rules.specs.Text.{Sym, symbolText, symbolIdText, stringText, clobText, blobText, typeName, nullText, boolText}
 use Rattle.text_rules.proofs.DigitLaws.{digits-some}
 use Rattle.numbers.specs.Decimal.{intText, pointed, scientific, above, below, form, sign, decimalText}
 use Rattle.numbers.specs.Timestamp.{timestampText}
 use Rattle.numbers.specs.declared.timestamp.Timestamp.{Timestamp}
 use Rattle.tape.specs.Bytes.{part, leNumber, signed}
-use Rattle.tape.specs.Tree.{Scalar, Head, null, bool, int, decimal, timestamp, symbol, string, clob, encodeSym, encodeScalar}
+use Rattle.tape.specs.Tree.{Scalar, Head, null, bool, int, decimal, timestamp, symbol, string, clob, blob, encodeSym, encodeScalar}
 use Rattle.tape.specs.Tape.{reading, kind, lengthOf, textOf, symOf, symsOf, nameOf, notesOf, headOf, byteOf, intOf, floatAs, floatOf, decimalOf, timestampAs, timestampOf, symbolOf, sizedOf, scalarOf, textFault, symFault, scalarFault}
 use Rattle.tape.specs.Steps.{placeOf, headAt}
-use Rattle.tape.specs.CheckSteps.{codeOf, scalarCode, symsFront, notesFront}
+use Rattle.tape.specs.CheckSteps.{codeOf, scalarCode, spanOf, symsFront, notesFront}
 use Rattle.tape.specs.Fine.{Bytes}
 use Rattle.tape.specs.declared.Frame.{Frame}
 use Rattle.tape.specs.declared.Frame.the-variants.{Struct}
@@ -30,8 +30,8 @@ use Rattle.tape.specs.declared.Place.the-variants.{Bad as Nowhere, At}
 use Rattle.tape.proofs.Numbers.{bytes-drop, bytes-take}
 use Rattle.tape.proofs.Reading.{Sound, something, sym-sound, scalar-sound}
 use Rattle.tape.proofs.Parts.{part-length, part-first, part-byte, part-number, part-drop}
-use Rattle.tape.proofs.CodeFacts.{part-text, Read, code-read, read-within, sym-read, code-text, code-symbol, code-string, front-notes}
-use Rattle.tape.proofs.CodeReading.{notes-some, byte-short, byte-over, byte-some, float-short, float-some, decimal-short, timestamp-short, length-over, length-some, text-by, sym-id, sym-short, scalar-null, scalar-bool, scalar-int, scalar-float, scalar-decimal, scalar-timestamp, scalar-symbol, scalar-string, scalar-clob, scalar-empty}
+use Rattle.tape.proofs.CodeFacts.{part-text, Read, code-read, read-within, sym-read, code-text, code-symbol, code-string, front-notes, span-is, span-text}
+use Rattle.tape.proofs.CodeReading.{notes-some, byte-short, byte-over, byte-some, float-short, float-some, decimal-short, timestamp-short, length-over, length-some, text-by, sym-id, sym-short, scalar-null, scalar-bool, scalar-int, scalar-float, scalar-decimal, scalar-timestamp, scalar-symbol, scalar-string, scalar-clob, scalar-blob, scalar-empty}
 use Rattle.writer.specs.Text.{symText, scalarText, nameText, notesText}
 use Rattle.writer.specs.Steps.{nameIn, notesIn, sizeTaken, front}
 use Rattle.writer.proofs.Leaves.{LeafAt, NameAt, text-name, id-name, int-leaf, decimal-leaf, timestamp-leaf, symbol-leaf}
@@ -362,6 +362,13 @@ module _ (s : List ℕ) (at e : ℕ) (w : at ≤ e) (i : e ≤ length s) (z : 2 
     where
       go : 0 < n → Sound encodeScalar l (some (x, n)) → getD s at 0 ≡ getD (encodeScalar x) 0 0
       go p (something h t) = sym first-byte ∙ sym (getD-take n l 0 0 p) ∙ ap (λ (u : List ℕ). getD u 0 0) (sym (t (bytes-take (e - at) (drop at s) (bytes-drop at s all))))
+
+-- a blob of z bytes, by the length n that its text has whatever its bytes are
+pub blob-told : (l : List ℕ) → kind l ≡ 15 → (z n : ℕ) → z ≡ spanOf l → (z ≡ 0 → ⊥) → ((s : List ℕ) → length s ≡ z - 5 → n ≡ length (blobText s)) → n ≡ leafLength l
+unfolding sizedOf scalarText
+blob-told l k z n e nz f =
+    let i = span-is l z e nz in
+    f (take (z - 5) (drop 5 l)) (length-take-le (z - 5) (drop 5 l) (omega (arith, length-drop 5 l, i .0, i .1))) ∙ rw (scalar-blob l k, span-text l z e nz) refl
 
 -- ---- what `leaf_at` says of a scalar: its size z as validation has it, the length n of its text or 0
 

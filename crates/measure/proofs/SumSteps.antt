@@ -27,9 +27,9 @@ use Rattle.tape.proofs.Numbers.{bytes-drop, bytes-take}
 use Rattle.tape.proofs.Parts.{part-length, part-first, trailed}
 use Rattle.tape.proofs.Reading.{if-all, Sound, something, Counted, counted, syms-count, name-sound, notes-sound, scalar-sound}
 use Rattle.tape.proofs.Walking.{walk-end}
-use Rattle.tape.proofs.CodeReading.{notes-none, scalar-clob, value-scalar, value-marker}
+use Rattle.tape.proofs.CodeReading.{notes-none, scalar-clob, scalar-blob, value-scalar, value-marker}
 use Rattle.tape.proofs.CodeChild.{child-is}
-use Rattle.tape.proofs.CodeFacts.{Read, code-read, read-within, Ended, code-clob, number-other, scalar-number, span-is}
+use Rattle.tape.proofs.CodeFacts.{Read, code-read, read-within, Ended, code-clob, code-blob, number-other, scalar-number, span-is}
 use Rattle.tape.proofs.CodeWalk.{join-fault}
 use Rattle.tape.proofs.Turns.{TreeTurn, HeadSeen, Refused, single-step, notes-turn, size-refused, span-refused}
 use Rattle.writer.specs.Text.{scalarText, nameText, notesText, opening, closing, separator, broken, deeper}
@@ -547,7 +547,7 @@ module _ {s : List ℕ} {from e : ℕ} {k : Frame} {d : ℕ} {sums₀ seen₀ su
       single-step d k s at e (v .body .opened) (v .left) inside x (p + j) (omega arith) (child-is k s at e p (f .head .behind) (f .head .place) (leaf x j) q ∙ ap (single head x) u)
 
   -- a scalar of z bytes
-  module _ (low : getD s p 0 < 10) {z : ℕ} (code : z ≡ scalarCode (scalarOf value)) (two : 2 ≤ z) where
+  module _ {z : ℕ} (code : z ≡ scalarCode (scalarOf value)) (two : 2 ≤ z) where
     read : Read scalarFault (scalarOf value) z
     read = code-read scalarFault (scalarOf value) z code two
 
@@ -569,41 +569,58 @@ module _ {s : List ℕ} {from e : ℕ} {k : Frame} {d : ℕ} {sums₀ seen₀ su
     told-most zero g = omega (arith, front-most)
     told-most (suc x) g = omega (arith, front-most, scalar-short, g two (omega arith))
 
-    pub scalar-on : {u : ℕ} {b₂ : List ℕ} → u ≡ m + leafLength value → Flags b₂ (getD seen₁ 0 0) (flagged (getD seen₁ 1 0) (numberIn value)) → Walking s from e k d sums₀ seen₀ sums b₂ (p + z) u (c + 1)
+    -- its kind is no container's, no annotation's and no marker's
+    pub scalar-on : {u : ℕ} {b₂ : List ℕ} → (10 ≤ getD s p 0 → getD s p 0 ≡ 15) → u ≡ m + leafLength value → Flags b₂ (getD seen₁ 0 0) (flagged (getD seen₁ 1 0) (numberIn value)) → Walking s from e k d sums₀ seen₀ sums b₂ (p + z) u (c + 1)
     unfolding noted numbered
-    scalar-on {b₂ = b₂} w q =
+    scalar-on {b₂ = b₂} h w q =
         let y = leaf-length in
         let o = scalar-short in
         let i = kind-is in
+        let g : (j : ℕ) → 10 ≤ j → j < 15 → kind value ≡ j → ⊥ = λ j a b r. omega (arith, h (omega arith)) in
         passed (scalar (read .it))
-        (leaf-step (scalar (read .it)) z (omega arith) (value-scalar (freeAt k (part s at e)) value (λ q. omega arith) (λ q. omega arith) (λ q. omega arith) (λ q. omega arith)
+        (leaf-step (scalar (read .it)) z (omega arith) (value-scalar (freeAt k (part s at e)) value (g 10 (omega arith) (omega arith)) (g 11 (omega arith) (omega arith)) (g 12 (omega arith) (omega arith)) (g 14 (omega arith) (omega arith))
         ∙ ap (λ (o : Option (Scalar × ℕ)). reading o absent (λ x j. leaf (scalar x) j)) (read .is)))
         (read .sound) (omega arith) scalar-within (single-on (scalar-single (read .it)) (omega arith)) (single-adds (omega arith) (omega arith))
         (subst (λ (t : Bool). Flags b₂ (getD seen₁ 0 0) (flagged (getD seen₁ 1 0) t)) (sym (scalar-number value (read .it) z (read .is))) q)
 
-  clob-is : getD s p 0 ≡ 9 → spanOf value ≡ scalarCode (scalarOf value)
-  clob-is h = code-clob value ∙ ap scalarCode (sym (scalar-clob value (kind-is ∙ h)))
+  -- a node with a length, of z bytes
+  pub span-room : {z : ℕ} → z ≡ spanOf value → (z ≡ 0 → ⊥) → (5 ≤ z) × (p + z ≤ e)
+  span-room {z = z} q nz =
+      let i = span-is value z q nz in
+      let l = part-length s p e inside in
+      (omega (arith, i .0), omega (arith, i .0, i .1, f .more))
+
+  -- a clob or a blob
+  sized-is : 9 ≤ getD s p 0 → (10 ≤ getD s p 0 → getD s p 0 ≡ 15) → spanOf value ≡ scalarCode (scalarOf value)
+  sized-is i j = go (decLe (getD s p 0) 9)
+    where
+      go : Dec (getD s p 0 ≤ 9) → spanOf value ≡ scalarCode (scalarOf value)
+      go (yes l) = code-clob value ∙ ap scalarCode (sym (scalar-clob value (omega (arith, kind-is))))
+      go (no l) = code-blob value ∙ ap scalarCode (sym (scalar-blob value (kind-is ∙ j (omega arith))))
 
   -- a clob or a container whose bytes are not there
   pub span-missed : 9 ≤ getD s p 0 → getD s p 0 < 13 → 0 ≡ spanOf value → Refused d k s at e 2
   span-missed i j z = go (decLe (getD s p 0) 9)
     where
       go : Dec (getD s p 0 ≤ 9) → Refused d k s at e 2
-      go (yes l) = let x = kind-is in size-refused d k s at e (v .body .opened) (v .left) inside (f .head) (omega arith) 0 (z ∙ clob-is (omega arith)) (omega arith)
+      go (yes l) = let x = kind-is in size-refused d k s at e (v .body .opened) (v .left) inside (f .head) (omega arith) 0 (z ∙ sized-is i (λ h. omega arith)) (omega arith)
       go (no l) = let x = kind-is in span-refused d k s at e (v .body .opened) (v .left) inside (f .head) (omega arith) (omega arith) z
 
-  -- a clob of z bytes
-  module _ (nine : getD s p 0 ≡ 9) {z : ℕ} (span : z ≡ spanOf value) (some : z ≡ 0 → ⊥) where
-    pub clob-code : z ≡ scalarCode (scalarOf value)
-    clob-code = span ∙ clob-is nine
+  -- a clob or a blob of z bytes
+  module _ (nine : 9 ≤ getD s p 0) (other : 10 ≤ getD s p 0 → getD s p 0 ≡ 15) {z : ℕ} (span : z ≡ spanOf value) (some : z ≡ 0 → ⊥) where
+    pub sized-code : z ≡ scalarCode (scalarOf value)
+    sized-code = span ∙ sized-is nine other
 
-    pub clob-two : 2 ≤ z
-    clob-two = omega (arith, span-is value z span some .0)
+    pub sized-two : 2 ≤ z
+    sized-two = omega (arith, span-room span some .0)
 
-    pub clob-on : {u : ℕ} → u ≡ m + leafLength value → Walking s from e k d sums₀ seen₀ sums seen₁ (p + z) u (c + 1)
-    clob-on w =
+    pub sized-most : m + leafLength value ≤ 200 * (p + z)
+    sized-most = omega (arith, front-most, scalar-short sized-code sized-two)
+
+    pub sized-on : {u : ℕ} → u ≡ m + leafLength value → Walking s from e k d sums₀ seen₀ sums seen₁ (p + z) u (c + 1)
+    sized-on w =
         let y : numberIn value ≡ false = number-other value (λ q. omega (arith, kind-is)) in
-        scalar-on (omega arith) clob-code clob-two w (rw y (record { long = f .flags .long; notes = refl; numbers = refl }))
+        scalar-on sized-code sized-two other w (rw y (record { long = f .flags .long; notes = refl; numbers = refl }))
 
   -- a version marker
   module _ (is : getD s p 0 ≡ 14) (free : freeAt k (part s at e) ≡ true) where

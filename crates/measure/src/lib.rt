@@ -4,6 +4,7 @@ ghost use Rattle.tape.specs.Answer.{outcome};
 ghost use Rattle.measure.specs.Outcome.{textLength};
 use tape::answer::Answer;
 
+pub mod blobs;
 pub mod clobs;
 pub mod decimal;
 pub mod escapes;

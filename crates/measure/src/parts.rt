@@ -235,7 +235,7 @@ fn symbol_leaf(tape: &[u8], at: usize, end: usize) -> Leaf
     }
 }
 
-// The scalar at a place, which is no clob.
+// The scalar at a place, which is no clob and no blob.
 pub fn leaf_at(tape: &[u8], at: usize, end: usize) -> Leaf
     requires { ⌜ at < end ⌝ }
     requires { ⌜ end + 8 ≤ length (now tape) ⌝ }

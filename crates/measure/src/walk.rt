@@ -139,14 +139,23 @@ fn measure_nodes(
                 }
                 at = p + size;
             } else {
-                if k != 14 {
-                    return 2;
-                }
-                if check::is_free(tape, at, end, frame) {
-                    n = n + 8;
-                    at = p + 1;
+                if k == 15 {
+                    let size = check::span(tape, p, end);
+                    if size == 0 {
+                        return 2;
+                    }
+                    n = n + crate::blobs::blob_length(size - 5);
+                    at = p + size;
                 } else {
-                    return 2;
+                    if k != 14 {
+                        return 2;
+                    }
+                    if check::is_free(tape, at, end, frame) {
+                        n = n + 8;
+                        at = p + 1;
+                    } else {
+                        return 2;
+                    }
                 }
             }
         }

@@ -5,7 +5,8 @@ use mathlib.Core.List.{List, _∷_}
 use mathlib.Core.Bool.{Bool, true, false}
 use mathlib.Core.Option.{Option, none, some}
 use native.Mathlib.Omega.{arith}
-use lib.ListN.{length, drop, getD}
+use lib.ListN.{length, drop, getD, drop-of-length-le}
+use lib.Seq.{drop-drop}
 use borrow.Author.Tests.{eq-eqb, ne-eqb}
 use Rattle.output.specs.Logic.{byte, ascii}
 use Rattle.output.specs.Wrote.{Wrote, limit, leBytes}
@@ -19,6 +20,7 @@ use Rattle.text_rules.specs.declared.words.Word.{Word}
 use Rattle.text_rules.proofs.Places.{byte-at, end-at, next}
 use Rattle.text_rules.proofs.DigitLaws.{never}
 use Rattle.tokens.specs.Quoted.{quoted, string, clob}
+use Rattle.tokens.specs.Blob.{blob}
 use Rattle.tokens.specs.Steps.{Copies}
 use Rattle.tokens.specs.Token.{symbol, nullBehind, nanWord, spelled, float}
 use Rattle.tokens.specs.declared.quoted.Step.{Step}
@@ -28,8 +30,8 @@ use Rattle.numbers.specs.Numeral.{numeral}
 use Rattle.numbers.specs.TimestampRead.{timestamp}
 use Rattle.numbers.specs.declared.timestamp.Timestamp.{Timestamp}
 use Rattle.tape.specs.Tree.{Scalar, Node, sized, encodeSym, encodeScalar, encode}
-use Rattle.reader.specs.Grammar.{taken, byKind, words, numeralNode, numbers, numeric, scalar}
-use Rattle.reader.specs.Steps.{Laid, Read, stringNode, clobNode, nullNode, timedNumber}
+use Rattle.reader.specs.Grammar.{taken, byKind, words, numeralNode, numbers, numeric, braces, scalar}
+use Rattle.reader.specs.Steps.{Laid, Read, stringNode, clobNode, blobNode, nullNode, timedNumber}
 use Rattle.reader.proofs.Laying.{laid, laid-sized}
 
 -- ---- what was read, as a node
@@ -50,6 +52,29 @@ copied {p = p} {e = e} {b = b} {b2 = b2} k f same m c w =
 pub copied-clob : {text : List ℕ} {lo s p a e z : ℕ} {o : Option (List ℕ × List ℕ)} {b b1 b2 : List ℕ} → s ≡ min (p + 5) limit → Copies text lo b b1 s o (Next a e) → Wrote b1 b2 p z (9 ∷ leBytes 4 (e - s)) → Read encode text lo b b2 p (taken clobNode o) (Next a e)
 unfolding encode encodeScalar
 copied-clob m c w = copied 9 clobNode (λ x. refl) m c w
+
+pub copied-blob : {text : List ℕ} {lo s p a e z : ℕ} {o : Option (List ℕ × List ℕ)} {b b1 b2 : List ℕ} → s ≡ min (p + 5) limit → Copies text lo b b1 s o (Next a e) → Wrote b1 b2 p z (15 ∷ leBytes 4 (e - s)) → Read encode text lo b b2 p (taken blobNode o) (Next a e)
+unfolding encode encodeScalar
+copied-blob m c w = copied 15 blobNode (λ x. refl) m c w
+
+-- ---- what starts with `{{`
+
+module _ (text : List ℕ) (at : ℕ) where
+  behind-braces : drop 2 (drop at text) ≡ drop (at + 2) text
+  behind-braces = drop-drop 2 at text
+
+  pub braces-clob : at + 2 < length text → getD text (at + 2) 0 ≡ byte "\"" → braces (drop at text) ≡ taken clobNode (clob (drop at text))
+  unfolding braces starts
+  braces-clob j h = rw (behind-braces, byte-at text (at + 2) j, eq-eqb _ _ h)
+
+  pub braces-other : at + 2 < length text → (getD text (at + 2) 0 ≡ byte "\"" → ⊥) → braces (drop at text) ≡ taken blobNode (blob (drop at text))
+  unfolding braces starts
+  braces-other j n = rw (behind-braces, byte-at text (at + 2) j, ne-eqb _ _ n)
+
+  -- nothing stands behind them
+  pub braces-end : length text ≤ at + 2 → braces (drop at text) ≡ taken blobNode (blob (drop at text))
+  unfolding braces starts
+  braces-end j = rw (behind-braces, drop-of-length-le text {i = at + 2} j)
 
 -- ---- strings
 
@@ -178,9 +203,9 @@ module _ (m : Bool) (text : List ℕ) (at : ℕ) (i : at < length text) where
     scalar-quoted p b b' Bad h g = (scalar-symbol h ∙ rw (g .0), g .1)
 
     module _ (q : getD text at 0 ≡ byte "'" → ⊥) where
-      pub scalar-clob : getD text at 0 ≡ byte "{" → scalar m (drop at text) ≡ taken clobNode (clob (drop at text))
+      pub scalar-braces : getD text at 0 ≡ byte "{" → scalar m (drop at text) ≡ braces (drop at text)
       unfolding scalar
-      scalar-clob h = rw (byte-at text at i, ne-eqb _ _ s, ne-eqb _ _ q, eq-eqb _ _ h)
+      scalar-braces h = rw (byte-at text at i, ne-eqb _ _ s, ne-eqb _ _ q, eq-eqb _ _ h)
 
       module _ (z : getD text at 0 ≡ byte "{" → ⊥) where
         pub scalar-number : numeric (getD text at 0) ≡ true → scalar m (drop at text) ≡ numbers (drop at text)

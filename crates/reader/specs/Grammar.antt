@@ -14,6 +14,7 @@ use Rattle.text_rules.specs.Texts.{starts, strip, blank}
 use Rattle.text_rules.specs.Words.{word, behindWord, kindOf}
 use Rattle.text_rules.specs.Text.{Sym}
 use Rattle.tokens.specs.Quoted.{string, clob}
+use Rattle.tokens.specs.Blob.{blob}
 use Rattle.tokens.specs.Token.{symbol, nullBehind, float}
 use Rattle.text_rules.specs.declared.words.Kind.{Kind}
 use Rattle.text_rules.specs.declared.words.Kind.the-variants.{Null, True, False, Nan, Marker, Number, Text, Refused}
@@ -126,16 +127,23 @@ numbers t =
 unfoldable pub numeric : ℕ → Bool
 numeric c = isDigit c || eqb c (byte "-") || eqb c (byte "+")
 
+-- `{{` and a quote mark is a clob, any other `{{` a blob
+unfoldable pub braces : List ℕ → Option (Node × List ℕ)
+braces t =
+    if (starts (byte "\"") (drop 2 t))
+    (taken (λ s. Node.scalar (Scalar.clob s)) (clob t))
+    (taken (λ s. Node.scalar (Scalar.blob s)) (blob t))
+
 -- a value that is no container, told by its first byte
 unfoldable pub scalar : Bool → List ℕ → Option (Node × List ℕ)
 scalar m [] = none
 scalar m (c ∷ t) =
     if (eqb c (byte "\"")) (taken (λ s. Node.scalar (Scalar.string s)) (string (c ∷ t)))
     (if (eqb c (byte "'")) (taken (λ s. Node.scalar (Scalar.symbol s)) (symbol (c ∷ t)))
-    (if (eqb c (byte "{")) (taken (λ s. Node.scalar (Scalar.clob s)) (clob (c ∷ t)))
+    (if (eqb c (byte "{")) (braces (c ∷ t))
     (if (numeric c) (numbers (c ∷ t)) (words m (c ∷ t)))))
 
--- `{{` opens a clob, and no struct: a name does not start with `{`
+-- `{{` opens a clob or a blob, and no struct: a name does not start with `{`
 unfoldable pub opens : List ℕ → Option Frame
 opens [] = none
 opens (c ∷ t) = if (eqb c (byte "{") && starts (byte "{") t) none (opener c)

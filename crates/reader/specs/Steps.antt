@@ -103,6 +103,9 @@ stringNode s = Node.scalar (Scalar.string s)
 abbrev pub clobNode : List ℕ → Node
 clobNode s = Node.scalar (Scalar.clob s)
 
+abbrev pub blobNode : List ℕ → Node
+blobNode s = Node.scalar (Scalar.blob s)
+
 abbrev pub nullNode : ℕ → Node
 nullNode t = Node.scalar (Scalar.null t)
 

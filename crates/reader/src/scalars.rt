@@ -12,11 +12,12 @@ ghost use Prim.Native.Nat.{suc, _≤_, _<_};
 ghost use lib.ListN.{length, drop, getD};
 ghost use Rattle.output.specs.Wrote.{limit};
 ghost use Rattle.tokens.specs.Quoted.{string, clob};
+ghost use Rattle.tokens.specs.Blob.{blob};
 ghost use Rattle.tokens.specs.Token.{nullBehind};
 ghost use Rattle.numbers.specs.Numeral.{numeral};
 ghost use Rattle.tape.specs.Tree.{encode};
-ghost use Rattle.reader.specs.Grammar.{taken, words, numeralNode, numbers, numeric, scalar};
-ghost use Rattle.reader.specs.Steps.{Read, stringNode, clobNode, nullNode, timedNumber};
+ghost use Rattle.reader.specs.Grammar.{taken, words, numeralNode, numbers, numeric, braces, scalar};
+ghost use Rattle.reader.specs.Steps.{Read, stringNode, clobNode, blobNode, nullNode, timedNumber};
 
 // A string: its text is written first, its length before it then.
 fn string_at(text: &[u8], at: usize, buf: &mut [u8], pos: usize) -> Step
@@ -43,6 +44,32 @@ fn clob_at(text: &[u8], at: usize, buf: &mut [u8], pos: usize) -> Step
     };
     nodes::put_header(buf, pos, 9, e - s);
     Step::Next { at: a, pos: e }
+}
+
+// A blob, in the same way.
+fn blob_at(text: &[u8], at: usize, buf: &mut [u8], pos: usize) -> Step
+    requires { ⌜ (at ≤ length (now text)) × (pos ≤ limit) ⌝ }
+    ensures { λ r. ⌜ Read encode (now (text .entry)) (suc at) (now (buf .entry)) (now (buf .exit)) pos (taken blobNode (blob (drop at (now (text .entry))))) r ⌝ }
+{
+    let s = output::ahead(pos, 5);
+    let Step::Next { at: a, pos: e } = tokens::blobs::blob_at(text, at, buf, s) else {
+        return Step::Bad;
+    };
+    nodes::put_header(buf, pos, 15, e - s);
+    Step::Next { at: a, pos: e }
+}
+
+// `{{` and a quote mark is a clob, any other `{{` a blob.
+fn braces_at(text: &[u8], at: usize, buf: &mut [u8], pos: usize) -> Step
+    requires { ⌜ (at ≤ length (now text)) × (pos ≤ limit) ⌝ }
+    ensures { λ r. ⌜ Read encode (now (text .entry)) (suc at) (now (buf .entry)) (now (buf .exit)) pos (braces (drop at (now (text .entry)))) r ⌝ }
+{
+    if 2 < text.len() - at {
+        if text[at + 2] == b'"' {
+            return clob_at(text, at, buf, pos);
+        }
+    }
+    blob_at(text, at, buf, pos)
 }
 
 // The type behind `null`, and a null of it.
@@ -180,7 +207,7 @@ pub fn scalar_at(text: &[u8], at: usize, m: bool, buf: &mut [u8], pos: usize) ->
         return heads::symbol_at(text, at, buf, pos);
     }
     if b == b'{' {
-        return clob_at(text, at, buf, pos);
+        return braces_at(text, at, buf, pos);
     }
     if is_numeric(b) {
         return number_at(text, at, buf, pos);

@@ -19,7 +19,7 @@ use Rattle.text_rules.specs.Text.{Sym}
 use Rattle.numbers.specs.Timestamp.{wellFormed}
 use Rattle.numbers.specs.declared.timestamp.Timestamp.{Timestamp}
 use Rattle.tape.specs.Bytes.{leNumber, signed, bits, first}
-use Rattle.tape.specs.Tree.{Scalar, Head, Node, Nodes, null, bool, int, float, decimal, timestamp, symbol, string, clob, scalar, nest, marker, nil, more, size, bit, tag, floatBits, sized, encodeTimestamp, encodeSym, encodeScalar, encodeSyms, encodeName, encodeNotes, encodeHead, encode, encodes, tape}
+use Rattle.tape.specs.Tree.{Scalar, Head, Node, Nodes, null, bool, int, float, decimal, timestamp, symbol, string, clob, blob, scalar, nest, marker, nil, more, size, bit, tag, floatBits, sized, encodeTimestamp, encodeSym, encodeScalar, encodeSyms, encodeName, encodeNotes, encodeHead, encode, encodes, tape}
 use Rattle.tape.specs.Tape.{reading, kind, lengthOf, textOf, symOf, symsOf, nameOf, notesOf, headOf, byteOf, intOf, floatAs, floatOf, decimalOf, timestampAs, timestampOf, symbolOf, sizedOf, scalarOf, Value, absent, leaf, body, openOf, valueOf, bad, freeAt, headedChild, childOf, textFault, symFault, symsFault, nameFault, headFault, finiteFault, floatFault, scalarFault, Walked, fault, join, walk, bodyOf, nodesOf}
 use Rattle.tape.specs.Fine.{FineText, FineSym, FineSyms, FineFloat, FineScalar, FineName, FineHead, FineMarker, Inner, Fine, Fines}
 use Rattle.tape.specs.Verdict.{misfit, countFault, verdict}
@@ -29,6 +29,7 @@ use Rattle.tape.proofs.Numbers.{le-number, bits-bound, signed-bits}
 use Rattle.numbers.proofs.Calendar.{same-fields}
 use Rattle.tape.proofs.Ranges.{well-ranges}
 use Rattle.tape.proofs.Walking.{walk-end, walk-leaf, walk-tree}
+use Rattle.tape.proofs.CodeReading.{value-scalar}
 
 -- ---- texts and symbols
 
@@ -181,6 +182,7 @@ scalar-as (symbol (Sym.text s)) r h = rw (sym-as (Sym.text s) r h)
 scalar-as (symbol (Sym.id n)) r h = rw (sym-as (Sym.id n) r h)
 scalar-as (string s) r h = rw (text-as 8 s r (h .plain .short))
 scalar-as (clob s) r h = rw (text-as 9 s r (h .short))
+scalar-as (blob s) r h = rw (text-as 15 s r (h .short))
 
 -- ---- nothing is wrong with well-formed contents
 
@@ -219,41 +221,41 @@ scalar-right (timestamp x) h = rw h
 scalar-right (symbol s) h = sym-right s h
 scalar-right (string s) h = text-right s h
 scalar-right (clob s) h = refl
+scalar-right (blob s) h = refl
 
 -- ---- values
 
-scalar-kind : (s : Scalar) (r : List ℕ) → kind (encodeScalar s ++ r) ≤ 9
+-- a scalar's kind is no container's, no annotation's and no marker's
+scalar-kind : (s : Scalar) (r : List ℕ) → (k : ℕ) → 10 ≤ k → k ≤ 14 → kind (encodeScalar s ++ r) ≡ k → ⊥
 unfolding encodeScalar encodeSym
-scalar-kind (null t) r = omega arith
-scalar-kind (bool b) r = omega arith
-scalar-kind (int n) r = omega arith
-scalar-kind (float x) r = omega arith
-scalar-kind (decimal neg m e) r = omega arith
-scalar-kind (timestamp x) r = omega arith
-scalar-kind (symbol (Sym.text s)) r = omega arith
-scalar-kind (symbol (Sym.id n)) r = omega arith
-scalar-kind (string s) r = omega arith
-scalar-kind (clob s) r = omega arith
+scalar-kind (null t) r k h g q = omega arith
+scalar-kind (bool b) r k h g q = omega arith
+scalar-kind (int n) r k h g q = omega arith
+scalar-kind (float x) r k h g q = omega arith
+scalar-kind (decimal neg m e) r k h g q = omega arith
+scalar-kind (timestamp x) r k h g q = omega arith
+scalar-kind (symbol (Sym.text s)) r k h g q = omega arith
+scalar-kind (symbol (Sym.id n)) r k h g q = omega arith
+scalar-kind (string s) r k h g q = omega arith
+scalar-kind (clob s) r k h g q = omega arith
+scalar-kind (blob s) r k h g q = omega arith
 
 -- a value's kind is no annotation's
 kind-as : (n : Node) (r : List ℕ) → kind (encode n ++ r) ≡ 13 → ⊥
 unfolding encode
-kind-as (scalar s) r e = let h = scalar-kind s r in omega arith
+kind-as (scalar s) r e = scalar-kind s r 13 (omega arith) (omega arith) e
 kind-as (nest Top ns) r e = omega arith
 kind-as (nest ListF ns) r e = omega arith
 kind-as (nest Sexp ns) r e = omega arith
 kind-as (nest Struct ns) r e = omega arith
 kind-as marker r e = omega arith
 
-value-scalar : (f : Bool) (l : List ℕ) → kind l ≤ 9 → valueOf f l ≡ reading (scalarOf l) absent (λ s n. leaf (scalar s) n)
-unfolding valueOf
-value-scalar f l h =
-    rw (ne-eqb (kind l) 10 (λ e. omega arith), ne-eqb (kind l) 11 (λ e. omega arith), ne-eqb (kind l) 12 (λ e. omega arith), ne-eqb (kind l) 14 (λ e. omega arith))
-
 value-as : (f : Bool) (s : Scalar) (r : List ℕ) → FineScalar s → valueOf f (encode (scalar s) ++ r) ≡ leaf (scalar s) (length (encode (scalar s)))
 unfolding encode
 value-as f s r h =
-    value-scalar f (encodeScalar s ++ r) (scalar-kind s r) ∙ ap (λ (o : Option (Scalar × ℕ)). reading {B = Value} o absent (λ s n. leaf (scalar s) n)) (scalar-as s r h)
+    let n = scalar-kind s r in
+    value-scalar f (encodeScalar s ++ r) (n 10 (omega arith) (omega arith)) (n 11 (omega arith) (omega arith)) (n 12 (omega arith) (omega arith)) (n 14 (omega arith) (omega arith))
+    ∙ ap (λ (o : Option (Scalar × ℕ)). reading {B = Value} o absent (λ s n. leaf (scalar s) n)) (scalar-as s r h)
 
 nest-as : (f : Bool) (k : Frame) (ns : Nodes) (r : List ℕ) → Inner k → length (encodes ns) < 2 ^ 32 → valueOf f (encode (nest k ns) ++ r) ≡ body k (length (encodes ns))
 unfolding encode valueOf openOf
@@ -360,6 +362,7 @@ node-long (scalar (symbol (Sym.text s))) = omega arith
 node-long (scalar (symbol (Sym.id n))) = omega arith
 node-long (scalar (string s)) = omega arith
 node-long (scalar (clob s)) = omega arith
+node-long (scalar (blob s)) = omega arith
 node-long (nest k ns) = omega arith
 node-long marker = omega arith
 

@@ -17,7 +17,7 @@ use Rattle.text_rules.specs.Text.{Sym}
 use Rattle.text_rules.specs.Utf8.{valid}
 use Rattle.numbers.specs.Timestamp.{wellFormed}
 use Rattle.tape.specs.Bytes.{leNumber, part, first}
-use Rattle.tape.specs.Tree.{Scalar, Head, null, bool, int, float, decimal, timestamp, symbol, string, clob}
+use Rattle.tape.specs.Tree.{Scalar, Head, null, bool, int, float, decimal, timestamp, symbol, string, clob, blob}
 use Rattle.tape.specs.Tape.{reading, kind, lengthOf, textOf, symOf, symsOf, nameOf, notesOf, headOf, byteOf, intOf, floatAs, floatOf, decimalOf, timestampAs, timestampOf, symbolOf, sizedOf, scalarOf, absent, body, openOf, valueOf, textFault, symFault, symsFault, nameFault, headFault, finiteFault, floatFault, scalarFault}
 use Rattle.tape.specs.Refusal.{annotated, symNumbered, symsNumbered, nameNumbered, headNumbered, scalarNumbered}
 use Rattle.tape.specs.CheckSteps.{coded, codeOf, scalarCode, spanOf, numberIn, nameNumberIn, ends, endOf, frameOf, frontOf, symsFront, notesFront}
@@ -233,13 +233,21 @@ module _ (l : List ℕ) where
   unfolding sizedOf scalarFault
   code-string = code-map scalarFault string (textOf l)
 
-  pub code-clob : spanOf l ≡ scalarCode (sizedOf clob l)
-  unfolding spanOf sizedOf textOf scalarFault
-  code-clob = go (leb (5 + lengthOf l) (length l))
+  code-span : (f : List ℕ → Scalar) → ((s : List ℕ) → scalarFault (f s) ≡ 0) → spanOf l ≡ scalarCode (sizedOf f l)
+  unfolding spanOf sizedOf textOf
+  code-span f z = go (leb (5 + lengthOf l) (length l))
     where
-      go : (b : Bool) → if b (5 + lengthOf l) 0 ≡ scalarCode (reading (if b (some (take (lengthOf l) (drop 5 l), 5 + lengthOf l)) none) none (λ s n. some (clob s, n)))
-      go true = refl
+      go : (b : Bool) → if b (5 + lengthOf l) 0 ≡ scalarCode (reading (if b (some (take (lengthOf l) (drop 5 l), 5 + lengthOf l)) none) none (λ s n. some (f s, n)))
+      go true = sym (ap (λ (p : ℕ). coded p (5 + lengthOf l)) (z _))
       go false = refl
+
+  pub code-clob : spanOf l ≡ scalarCode (sizedOf clob l)
+  unfolding scalarFault
+  code-clob = code-span clob (λ s. refl)
+
+  pub code-blob : spanOf l ≡ scalarCode (sizedOf blob l)
+  unfolding scalarFault
+  code-blob = code-span blob (λ s. refl)
 
   pub code-timestamp : (b : Bool) → 16 ≤ length l → b ≡ wellFormed (timestampAs l) → coded (if b 0 2) 16 ≡ scalarCode (timestampOf l)
   unfolding scalarFault
@@ -266,7 +274,8 @@ module _ (l : List ℕ) where
       if-all Same {b = eqb (kind l) 6} (λ e. symbol-number) (λ _.
       if-all Same {b = eqb (kind l) 7} (λ e. symbol-number) (λ n.
       if-all Same {b = eqb (kind l) 8} (λ e. sized string (λ s. refl) ∙ no (eqb-true _ _ e) (λ z. omega arith)) (λ _.
-      if-all Same {b = eqb (kind l) 9} (λ e. sized clob (λ s. refl) ∙ no (eqb-true _ _ e) (λ z. omega arith)) (λ _. sym (number-other l (eqb-false _ _ n))))))))))))
+      if-all Same {b = eqb (kind l) 9} (λ e. sized clob (λ s. refl) ∙ no (eqb-true _ _ e) (λ z. omega arith)) (λ _.
+      if-all Same {b = eqb (kind l) 15} (λ e. sized blob (λ s. refl) ∙ no (eqb-true _ _ e) (λ z. omega arith)) (λ _. sym (number-other l (eqb-false _ _ n)))))))))))))
     where
       Same : Option (Scalar × ℕ) → Type 0
       Same o = numberOf o ≡ numberIn l
@@ -319,6 +328,7 @@ scalar-problem (symbol (Sym.text s)) = text-problem s
 scalar-problem (symbol (Sym.id n)) = no-problem
 scalar-problem (string s) = text-problem s
 scalar-problem (clob s) = no-problem
+scalar-problem (blob s) = no-problem
 
 -- ---- a node with a length
 

@@ -18,7 +18,7 @@ use borrow.Author.Tests.{le-leb, lt-leb, leb-true, eq-eqb, ne-eqb}
 use Rattle.output.specs.Logic.{if}
 use Rattle.text_rules.specs.Text.{Sym}
 use Rattle.tape.specs.Bytes.{leNumber, signed, part}
-use Rattle.tape.specs.Tree.{Scalar, Head, null, bool, int, decimal, timestamp, string, clob, scalar, marker}
+use Rattle.tape.specs.Tree.{Scalar, Head, null, bool, int, decimal, timestamp, string, clob, blob, scalar, marker}
 use Rattle.tape.specs.Tape.{reading, kind, lengthOf, textOf, symOf, symsOf, nameOf, notesOf, headOf, byteOf, intOf, floatAs, floatOf, decimalOf, timestampAs, timestampOf, symbolOf, sizedOf, scalarOf, absent, leaf, openOf, valueOf}
 use Rattle.tape.specs.Steps.{placeOf, lengthIn}
 use Rattle.tape.specs.declared.Frame.{Frame}
@@ -267,11 +267,15 @@ module _ (l : List ℕ) where
   unfolding scalarOf
   scalar-clob h = rw h
 
-  pub scalar-other : 7 < kind l → (kind l ≡ 8 → ⊥) → (kind l ≡ 9 → ⊥) → scalarOf l ≡ none
+  pub scalar-blob : kind l ≡ 15 → scalarOf l ≡ sizedOf blob l
   unfolding scalarOf
-  scalar-other h g i =
+  scalar-blob h = rw h
+
+  pub scalar-other : 7 < kind l → (kind l ≡ 8 → ⊥) → (kind l ≡ 9 → ⊥) → (kind l ≡ 15 → ⊥) → scalarOf l ≡ none
+  unfolding scalarOf
+  scalar-other h g i q =
       let n : (j : ℕ) → j ≤ 7 → eqb (kind l) j ≡ false = λ j m. ne-eqb (kind l) j (λ e. omega arith) in
-      simp (n 0 (omega arith), n 1 (omega arith), n 2 (omega arith), n 3 (omega arith), n 4 (omega arith), n 5 (omega arith), n 6 (omega arith), n 7 (omega arith), ne-eqb (kind l) 8 g, ne-eqb (kind l) 9 i)
+      simp (n 0 (omega arith), n 1 (omega arith), n 2 (omega arith), n 3 (omega arith), n 4 (omega arith), n 5 (omega arith), n 6 (omega arith), n 7 (omega arith), ne-eqb (kind l) 8 g, ne-eqb (kind l) 9 i, ne-eqb (kind l) 15 q)
 
 pub scalar-empty : (l : List ℕ) → length l ≤ 0 → scalarOf l ≡ none
 unfolding scalarOf byteOf

@@ -16,7 +16,7 @@ use Rattle.text_rules.specs.Text.{Sym}
 use Rattle.text_rules.specs.Utf8.{valid}
 use Rattle.numbers.specs.Timestamp.{wellFormed}
 use Rattle.tape.specs.Bytes.{leNumber}
-use Rattle.tape.specs.Tree.{Scalar, Head, Node, symbol, string, clob, scalar, nest, marker}
+use Rattle.tape.specs.Tree.{Scalar, Head, Node, symbol, string, clob, blob, scalar, nest, marker}
 use Rattle.tape.specs.Tape.{reading, kind, lengthOf, textOf, symOf, symsOf, nameOf, notesOf, headOf, byteOf, intOf, floatAs, floatOf, decimalOf, timestampAs, timestampOf, symbolOf, sizedOf, scalarOf, Value, absent, leaf, body, valueOf, Child, bad, single, tree, freeAt, headedChild, childOf, textFault, symFault, symsFault, nameFault, headFault, finiteFault, floatFault, scalarFault, Walked, fault, turn, level, walk, bodyOf, nodesOf}
 use Rattle.tape.specs.Fine.{Bytes, FineBytes, FineText, FineSym, FineSyms, FineFloat, FineScalar, FineName, FineHead, FineMarker, Inner, Fine, Fines}
 use Rattle.tape.specs.Verdict.{verdict}
@@ -210,7 +210,8 @@ scalar-good l b =
     if-all (Good ScalarP) {b = eqb (kind l) 6} (λ _. map-good SymP ScalarP symbol (λ s p. p) (symOf l) (sym-good l b)) (λ _.
     if-all (Good ScalarP) {b = eqb (kind l) 7} (λ _. map-good SymP ScalarP symbol (λ s p. p) (symOf l) (sym-good l b)) (λ _.
     if-all (Good ScalarP) {b = eqb (kind l) 8} (λ _. map-good FineBytes ScalarP string text-fine (textOf l) (text-good l b)) (λ _.
-    if-all (Good ScalarP) {b = eqb (kind l) 9} (λ _. map-good FineBytes ScalarP clob (λ s p _. p) (textOf l) (text-good l b)) (λ _. good-none))))))))))
+    if-all (Good ScalarP) {b = eqb (kind l) 9} (λ _. map-good FineBytes ScalarP clob (λ s p _. p) (textOf l) (text-good l b)) (λ _.
+    if-all (Good ScalarP) {b = eqb (kind l) 15} (λ _. map-good FineBytes ScalarP blob (λ s p _. p) (textOf l) (text-good l b)) (λ _. good-none)))))))))))
 
 -- ---- values
 

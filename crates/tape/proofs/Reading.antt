@@ -15,7 +15,7 @@ use Rattle.output.specs.Logic.{if}
 use Rattle.output.specs.Wrote.{leBytes}
 use Rattle.text_rules.specs.Text.{Sym}
 use Rattle.tape.specs.Bytes.{leNumber, signed, bits}
-use Rattle.tape.specs.Tree.{Scalar, Head, Node, null, bool, int, timestamp, symbol, string, clob, scalar, marker, bit, tag, floatBits, sized, encodeTimestamp, encodeSym, encodeScalar, encodeSyms, encodeName, encodeNotes, encodeHead, encode}
+use Rattle.tape.specs.Tree.{Scalar, Head, Node, null, bool, int, timestamp, symbol, string, clob, blob, scalar, marker, bit, tag, floatBits, sized, encodeTimestamp, encodeSym, encodeScalar, encodeSyms, encodeName, encodeNotes, encodeHead, encode}
 use Rattle.tape.specs.Tape.{reading, kind, lengthOf, textOf, symOf, symsOf, nameOf, notesOf, headOf, byteOf, intOf, floatAs, floatOf, decimalOf, timestampAs, timestampOf, symbolOf, sizedOf, scalarOf, Value, absent, leaf, body, openOf, valueOf, Child, bad, single, tree, freeAt, headedChild, childOf}
 use Rattle.tape.specs.Fine.{Bytes, Inner}
 use Rattle.tape.specs.declared.Frame.{Frame}
@@ -241,7 +241,8 @@ scalar-sound l =
     if-all (Sound encodeScalar l) {b = eqb (kind l) 6} (λ e. symbol-sound l) (λ _.
     if-all (Sound encodeScalar l) {b = eqb (kind l) 7} (λ e. symbol-sound l) (λ _.
     if-all (Sound encodeScalar l) (λ e. sized-sound 8 string l (eqb-true _ _ e) (λ s. refl)) (λ _.
-    if-all (Sound encodeScalar l) (λ e. sized-sound 9 clob l (eqb-true _ _ e) (λ s. refl)) (λ _. nothing))))))))))
+    if-all (Sound encodeScalar l) (λ e. sized-sound 9 clob l (eqb-true _ _ e) (λ s. refl)) (λ _.
+    if-all (Sound encodeScalar l) (λ e. sized-sound 15 blob l (eqb-true _ _ e) (λ s. refl)) (λ _. nothing)))))))))))
 
 -- ---- a scalar takes two bytes at least
 
@@ -300,7 +301,8 @@ scalar-long l =
     if-all Long {b = eqb (kind l) 6} (λ _. map-long symbol (symOf l) (sym-long l)) (λ _.
     if-all Long {b = eqb (kind l) 7} (λ _. map-long symbol (symOf l) (sym-long l)) (λ _.
     if-all Long {b = eqb (kind l) 8} (λ _. map-long string (textOf l) (text-long l)) (λ _.
-    if-all Long {b = eqb (kind l) 9} (λ _. map-long clob (textOf l) (text-long l)) (λ _. no-length))))))))))
+    if-all Long {b = eqb (kind l) 9} (λ _. map-long clob (textOf l) (text-long l)) (λ _.
+    if-all Long {b = eqb (kind l) 15} (λ _. map-long blob (textOf l) (text-long l)) (λ _. no-length)))))))))))
 
 -- ---- values
 

@@ -20,9 +20,9 @@ use Rattle.tape.specs.declared.check.Front.the-variants as F
 use Rattle.tape.proofs.Parts.{part-length, part-drop, part-inner}
 use Rattle.tape.proofs.Reading.{Long, long, scalar-long, value-all, SoundV, a-leaf, a-body, value-sound}
 use Rattle.tape.proofs.Walking.{walk-bad, walk-headed, walk-leaf, walk-tree}
-use Rattle.tape.proofs.CodeReading.{scalar-other, value-empty, value-marker, value-scalar, notes-empty}
+use Rattle.tape.proofs.CodeReading.{scalar-blob, scalar-other, value-empty, value-marker, value-scalar, notes-empty}
 use Rattle.tape.proofs.CodeChild.{head-within, child-headless, child-is}
-use Rattle.tape.proofs.CodeFacts.{head-two, code-read, Ended, Stopped, missed, reached, end-stopped, Problem, no-problem, problem-2, problem-4, scalar-problem, scalar-number, span-is, value-missing, value-body, front-none, headFront, front-nameless, front-head}
+use Rattle.tape.proofs.CodeFacts.{head-two, code-read, Ended, Stopped, missed, reached, end-stopped, Problem, no-problem, problem-2, problem-4, number-other, code-blob, scalar-problem, scalar-number, span-is, value-missing, value-body, front-none, headFront, front-nameless, front-head}
 use Rattle.tape.proofs.CodeWalk.{join-fault}
 
 -- d: how many bodies may be opened, this one of the frame k included; it reaches to the place e, and at is where the child starts
@@ -195,12 +195,9 @@ module _ (d : ℕ) (k : Frame) (s : List ℕ) (at e : ℕ) (nz : d ≡ 0 → ⊥
 
     -- ---- a scalar, by its number
 
-    module _ (below : kind (part s p e) < 10) (c : ℕ) (q : c ≡ scalarCode (scalarOf (part s p e))) where
-      its : valueOf (freeAt k (part s at e)) (part s p e) ≡ reading (scalarOf (part s p e)) absent (λ x j. leaf (scalar x) j)
-      its = value-scalar (freeAt k (part s at e)) (part s p e) (λ z. omega arith) (λ z. omega arith) (λ z. omega arith) (λ z. omega arith)
-
-      pub size-refused : c < 2 → Refused d k s at e (if (eqb c 0) 2 4)
-      size-refused g = go (scalarOf (part s p e)) refl (scalar-long (part s p e)) q
+    module _ (its : valueOf (freeAt k (part s at e)) (part s p e) ≡ reading (scalarOf (part s p e)) absent (λ x j. leaf (scalar x) j)) (c : ℕ) (q : c ≡ scalarCode (scalarOf (part s p e))) where
+      scalar-refused : c < 2 → Refused d k s at e (if (eqb c 0) 2 4)
+      scalar-refused g = go (scalarOf (part s p e)) refl (scalar-long (part s p e)) q
         where
           by : (x : Scalar) (j : ℕ) → scalarOf (part s p e) ≡ some (x, j) → 1 < j → (f : ℕ) → scalarFault x ≡ f → Problem f → c ≡ coded f j → Refused d k s at e (if (eqb c 0) 2 4)
           by x j u v f y no-problem r = absurd (omega arith)
@@ -211,11 +208,38 @@ module _ (d : ℕ) (k : Frame) (s : List ℕ) (at e : ℕ) (nz : d ≡ 0 → ⊥
           go none u v r = rw r (absent-turn (its ∙ rw u))
           go (some (x, j)) u (long v) r = by x j u v (scalarFault x) refl (scalar-problem x) r
 
-      pub size-turn : 2 ≤ c → LeafSeen d k s at e (p + c) (numberIn (part s p e))
+      scalar-turn : 2 ≤ c → LeafSeen d k s at e (p + c) (numberIn (part s p e))
       unfolding numbered
-      size-turn g =
+      scalar-turn g =
           let r = code-read scalarFault (scalarOf (part s p e)) c q g in
           single-turn (scalar (r .it)) c (its ∙ ap (λ (o : Option (Scalar × ℕ)). reading o absent (λ x j. leaf (scalar x) j)) (r .is)) (r .sound) _ (scalar-number (part s p e) (r .it) c (r .is))
+
+    -- the kinds below 10
+    module _ (below : kind (part s p e) < 10) (c : ℕ) (q : c ≡ scalarCode (scalarOf (part s p e))) where
+      below-ten : valueOf (freeAt k (part s at e)) (part s p e) ≡ reading (scalarOf (part s p e)) absent (λ x j. leaf (scalar x) j)
+      below-ten = value-scalar (freeAt k (part s at e)) (part s p e) (λ z. omega arith) (λ z. omega arith) (λ z. omega arith) (λ z. omega arith)
+
+      pub size-refused : c < 2 → Refused d k s at e (if (eqb c 0) 2 4)
+      size-refused g = scalar-refused below-ten c q g
+
+      pub size-turn : 2 ≤ c → LeafSeen d k s at e (p + c) (numberIn (part s p e))
+      size-turn g = scalar-turn below-ten c q g
+
+    -- a blob
+    module _ (fifteen : kind (part s p e) ≡ 15) where
+      blob-is : valueOf (freeAt k (part s at e)) (part s p e) ≡ reading (scalarOf (part s p e)) absent (λ x j. leaf (scalar x) j)
+      blob-is = value-scalar (freeAt k (part s at e)) (part s p e) (λ z. omega arith) (λ z. omega arith) (λ z. omega arith) (λ z. omega arith)
+
+      blob-code : spanOf (part s p e) ≡ scalarCode (scalarOf (part s p e))
+      blob-code = code-blob (part s p e) ∙ sym (ap scalarCode (scalar-blob (part s p e) fifteen))
+
+      pub blob-refused : 0 ≡ spanOf (part s p e) → Refused d k s at e 2
+      blob-refused q = scalar-refused blob-is 0 (q ∙ blob-code) (omega arith)
+
+      pub blob-turn : (c : ℕ) → c ≡ spanOf (part s p e) → (c ≡ 0 → ⊥) → LeafSeen d k s at e (p + c) false
+      blob-turn c q z =
+          let m = span-is (part s p e) c q z .0 in
+          subst (LeafSeen d k s at e (p + c)) (number-other (part s p e) (λ y. omega arith)) (scalar-turn blob-is c (q ∙ blob-code) (omega arith))
 
     -- ---- a container
 
@@ -234,11 +258,11 @@ module _ (d : ℕ) (k : Frame) (s : List ℕ) (at e : ℕ) (nz : d ≡ 0 → ⊥
 
     -- ---- neither
 
-    pub other-refused : 12 < kind (part s p e) → (kind (part s p e) ≡ 14 → ⊥) → Refused d k s at e 2
-    other-refused a b =
+    pub other-refused : 12 < kind (part s p e) → (kind (part s p e) ≡ 14 → ⊥) → (kind (part s p e) ≡ 15 → ⊥) → Refused d k s at e 2
+    other-refused a b c =
         absent-turn
         (value-scalar (freeAt k (part s at e)) (part s p e) (λ z. omega arith) (λ z. omega arith) (λ z. omega arith) b
-        ∙ rw (scalar-other (part s p e) (omega arith) (λ z. omega arith) (λ z. omega arith)))
+        ∙ rw (scalar-other (part s p e) (omega arith) (λ z. omega arith) (λ z. omega arith) c))
 
     pub marker-refused : kind (part s p e) ≡ 14 → freeAt k (part s at e) ≡ false → Refused d k s at e 2
     marker-refused q f = absent-turn (value-marker (freeAt k (part s at e)) (part s p e) q ∙ rw f)

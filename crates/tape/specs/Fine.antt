@@ -13,7 +13,7 @@ use mir.Val.{SFits}
 use Rattle.text_rules.specs.Text.{Sym}
 use Rattle.text_rules.specs.Utf8.{valid}
 use Rattle.numbers.specs.Timestamp.{wellFormed}
-use Rattle.tape.specs.Tree.{Scalar, Head, Node, Nodes, null, bool, int, float, decimal, timestamp, symbol, string, clob, scalar, nest, marker, nil, more, encodes}
+use Rattle.tape.specs.Tree.{Scalar, Head, Node, Nodes, null, bool, int, float, decimal, timestamp, symbol, string, clob, blob, scalar, nest, marker, nil, more, encodes}
 use Rattle.tape.specs.declared.Frame.{Frame}
 use Rattle.tape.specs.declared.Frame.the-variants.{Top, List as ListF, Sexp, Struct}
 
@@ -58,6 +58,7 @@ FineScalar (timestamp x) = wellFormed x ≡ true
 FineScalar (symbol s) = FineSym s
 FineScalar (string s) = FineText s
 FineScalar (clob s) = FineBytes s
+FineScalar (blob s) = FineBytes s
 
 -- ---- where things stand
 

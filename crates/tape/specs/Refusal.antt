@@ -4,7 +4,7 @@ use mathlib.Core.Bool.{Bool, true, false, _||_, not}
 use mathlib.Core.Option.{Option, none, some}
 use lib.Dec.{eqb}
 use Rattle.text_rules.specs.Text.{Sym}
-use Rattle.tape.specs.Tree.{Scalar, Head, Node, Nodes, null, bool, int, float, decimal, timestamp, symbol, string, clob, scalar, nest, marker, nil, more}
+use Rattle.tape.specs.Tree.{Scalar, Head, Node, Nodes, null, bool, int, float, decimal, timestamp, symbol, string, clob, blob, scalar, nest, marker, nil, more}
 
 -- ---- streaming: a kind 13
 
@@ -49,6 +49,7 @@ scalarNumbered (timestamp x) = false
 scalarNumbered (symbol s) = symNumbered s
 scalarNumbered (string s) = false
 scalarNumbered (clob s) = false
+scalarNumbered (blob s) = false
 
 unfoldable mutual
   pub numbered : Node → Bool

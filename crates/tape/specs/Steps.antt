@@ -6,7 +6,7 @@ use lib.ListN.{length, take, drop}
 use lib.Dec.{leb}
 use Rattle.output.specs.Logic.{if}
 use Rattle.text_rules.specs.Text.{Sym}
-use Rattle.tape.specs.Tree.{Scalar, Head, null, bool, int, float, decimal, timestamp, symbol, string, clob}
+use Rattle.tape.specs.Tree.{Scalar, Head, null, bool, int, float, decimal, timestamp, symbol, string, clob, blob}
 use Rattle.tape.specs.Tape.{reading, lengthOf, headOf}
 use Rattle.tape.specs.declared.Frame.{Frame}
 use Rattle.tape.specs.declared.Scalar.{Scalar as ScalarC}
@@ -44,6 +44,7 @@ meantScalar (C.Symbol n) l = symbol (Sym.text (take n (drop 5 l)))
 meantScalar (C.Id i) l = symbol (Sym.id i)
 meantScalar (C.«String» n) l = string (take n (drop 5 l))
 meantScalar (C.Clob n) l = clob (take n (drop 5 l))
+meantScalar (C.Blob n) l = blob (take n (drop 5 l))
 
 -- how many bytes it takes
 abbrev pub sizeOf : ScalarC → ℕ
@@ -57,6 +58,7 @@ sizeOf (C.Symbol n) = 5 + n
 sizeOf (C.Id i) = 5
 sizeOf (C.«String» n) = 5 + n
 sizeOf (C.Clob n) = 5 + n
+sizeOf (C.Blob n) = 5 + n
 
 abbrev pub scanned : Scanned → List ℕ → Option (Scalar × ℕ)
 scanned NoScalar l = none

@@ -13,7 +13,7 @@ use Rattle.text_rules.specs.Utf8.{valid}
 use Rattle.numbers.specs.declared.timestamp.Timestamp.{Timestamp}
 use Rattle.numbers.specs.Timestamp.{wellFormed}
 use Rattle.tape.specs.Bytes.{leNumber, signed, first}
-use Rattle.tape.specs.Tree.{Scalar, Head, Node, Nodes, null, bool, int, float, decimal, timestamp, symbol, string, clob, scalar, nest, marker, nil, more}
+use Rattle.tape.specs.Tree.{Scalar, Head, Node, Nodes, null, bool, int, float, decimal, timestamp, symbol, string, clob, blob, scalar, nest, marker, nil, more}
 use Rattle.tape.specs.declared.Frame.{Frame}
 use Rattle.tape.specs.declared.Frame.the-variants.{Top, List as ListF, Sexp, Struct}
 
@@ -126,7 +126,8 @@ scalarOf l =
     (if (eqb (kind l) 6) (symbolOf l)
     (if (eqb (kind l) 7) (symbolOf l)
     (if (eqb (kind l) 8) (sizedOf string l)
-    (if (eqb (kind l) 9) (sizedOf clob l) none)))))))))
+    (if (eqb (kind l) 9) (sizedOf clob l)
+    (if (eqb (kind l) 15) (sizedOf blob l) none))))))))))
 
 -- ---- values
 
@@ -211,6 +212,7 @@ scalarFault (timestamp x) = if (wellFormed x) 0 2
 scalarFault (symbol s) = symFault s
 scalarFault (string s) = textFault s
 scalarFault (clob s) = 0
+scalarFault (blob s) = 0
 
 abbrev pub fault : Node → ℕ
 fault (scalar s) = scalarFault s

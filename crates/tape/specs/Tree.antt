@@ -15,7 +15,7 @@ use Rattle.tape.specs.declared.Frame.{Frame}
 use Rattle.tape.specs.declared.Frame.the-variants.{Top, List as ListF, Sexp, Struct}
 
 -- a value that is no container: a null of a type, a bool, an int, a float, a decimal by sign, magnitude and exponent, a timestamp, a symbol,
--- a string, a clob
+-- a string, a clob, a blob
 pub data Scalar : Type 0 where
   null : ℕ → Scalar
   bool : Bool → Scalar
@@ -26,6 +26,7 @@ pub data Scalar : Type 0 where
   symbol : Sym → Scalar
   string : List ℕ → Scalar
   clob : List ℕ → Scalar
+  blob : List ℕ → Scalar
 
 -- what stands before a value: the name in a struct, and the annotations
 abbrev pub Head : Type 0
@@ -90,6 +91,7 @@ encodeScalar (timestamp x) = 5 ∷ encodeTimestamp x
 encodeScalar (symbol s) = encodeSym s
 encodeScalar (string s) = 8 ∷ sized s
 encodeScalar (clob s) = 9 ∷ sized s
+encodeScalar (blob s) = 15 ∷ sized s
 
 unfoldable pub encodeSyms : List Sym → List ℕ
 encodeSyms [] = []

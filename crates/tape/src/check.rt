@@ -462,14 +462,23 @@ fn check_nodes(tape: &[u8], from: usize, end: usize, frame: Frame, depth: usize)
                 count += 1;
                 at = p + n;
             } else {
-                if k != 14 {
-                    return refused(2);
-                }
-                if is_free(tape, at, end, frame) {
+                if k == 15 {
+                    let n = span(tape, p, end);
+                    if n == 0 {
+                        return refused(2);
+                    }
                     count += 1;
-                    at = p + 1;
+                    at = p + n;
                 } else {
-                    return refused(2);
+                    if k != 14 {
+                        return refused(2);
+                    }
+                    if is_free(tape, at, end, frame) {
+                        count += 1;
+                        at = p + 1;
+                    } else {
+                        return refused(2);
+                    }
                 }
             }
         }

@@ -8,7 +8,7 @@ ghost use Prim.Native.Nat.{ℕ, _+_, _-_, _<_, _≤_};
 ghost use mathlib.Core.List.{List};
 ghost use lib.ListN.{length, drop};
 ghost use Rattle.tape.specs.Bytes.{leNumber, signed, part};
-ghost use Rattle.tape.specs.Tree.{null, bool, string, clob};
+ghost use Rattle.tape.specs.Tree.{null, bool, string, clob, blob};
 ghost use Rattle.tape.specs.Tape.{symOf, symsOf, nameOf, notesOf, byteOf, intOf, floatAs, floatOf, decimalOf, timestampAs, timestampOf, symbolOf, sizedOf, scalarOf};
 ghost use Rattle.tape.specs.Steps.{placeOf, lengthIn, meantSym, scanned, sizeOf};
 use numbers::timestamp::Timestamp;
@@ -33,6 +33,7 @@ pub enum Scalar {
     Id(u32),
     String(usize),
     Clob(usize),
+    Blob(usize),
 }
 
 // A symbol's node at a place: none; text, with its length; an identifier.
@@ -337,6 +338,17 @@ fn clob_at(tape: &[u8], at: usize, end: usize) -> Scanned
     Scanned::Is(Scalar::Clob(n))
 }
 
+fn blob_at(tape: &[u8], at: usize, end: usize) -> Scanned
+    requires { ⌜ at ≤ end ⌝ }
+    requires { ⌜ end ≤ length (now tape) ⌝ }
+    ensures { λ r. ⌜ scanned r (part (now (tape .entry)) at end) ≡ sizedOf blob (part (now (tape .entry)) at end) ⌝ }
+{
+    let Place::At(n) = length_at(tape, at, end) else {
+        return Scanned::Bad;
+    };
+    Scanned::Is(Scalar::Blob(n))
+}
+
 pub fn scalar_at(tape: &[u8], at: usize, end: usize) -> Scanned
     requires { ⌜ at ≤ end ⌝ }
     requires { ⌜ end ≤ length (now tape) ⌝ }
@@ -373,6 +385,9 @@ pub fn scalar_at(tape: &[u8], at: usize, end: usize) -> Scanned
     if k == 9 {
         return clob_at(tape, at, end);
     }
+    if k == 15 {
+        return blob_at(tape, at, end);
+    }
     Scanned::Bad
 }
 
@@ -392,6 +407,7 @@ pub fn size_of(s: Scalar) -> usize
         Scalar::Id(_) => 5,
         Scalar::String(n) => 5 + n,
         Scalar::Clob(n) => 5 + n,
+        Scalar::Blob(n) => 5 + n,
     }
 }
 

@@ -7,6 +7,7 @@ pub mod Table
 pub mod DigitWords
 pub mod EscapesLaws
 pub mod ClobLaws
+pub mod Base64Laws
 pub mod Utf8Chars
 pub mod Utf8Scalar
 pub mod Utf8View

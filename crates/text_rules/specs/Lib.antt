@@ -5,6 +5,8 @@ pub mod Reading
 pub mod Words
 pub mod Utf8
 pub mod Escapes
+pub mod Base64
 pub mod Text
 pub mod TextSteps
+pub mod BlobSteps
 pub mod WordSteps

@@ -1,4 +1,4 @@
--- What `text_formatter` writes: symbols, strings, clobs, nulls, bools, floats. Assumes nothing: these are definitions.
+-- What `text_formatter` writes: symbols, strings, clobs, blobs, nulls, bools, floats. Assumes nothing: these are definitions.
 use Prim.Native.Nat.{ℕ}
 use mathlib.Core.Bool.{Bool, true, false, _||_}
 use mathlib.Core.List.{List, [], _∷_, _++_}
@@ -8,6 +8,7 @@ use Rattle.output.specs.Logic.{if, byte, ascii}
 use Rattle.text_rules.specs.Digits.{digits}
 use Rattle.text_rules.specs.Words.{isKeyword, resemblesSymbolId, resemblesVersionMarker, isIdentifier}
 use Rattle.text_rules.specs.Escapes.{textBody, clobBody}
+use Rattle.text_rules.specs.Base64.{base64}
 
 -- a symbol: its text, or its number
 pub data Sym : Type 0 where
@@ -34,6 +35,10 @@ stringText s = marked (byte "\"") s
 -- a clob is `{{"`, bytes, `"}}`
 unfoldable pub clobText : List ℕ → List ℕ
 clobText s = ascii "{{\"" ++ clobBody s ++ ascii "\"}}"
+
+-- a blob is `{{`, base64, `}}`
+unfoldable pub blobText : List ℕ → List ℕ
+blobText s = ascii "{{" ++ base64 s ++ ascii "}}"
 
 -- the types in the tape's order; a number past 12 is no type, and what is written for it no text of 01's
 unfoldable pub typeName : ℕ → List ℕ

@@ -261,7 +261,7 @@ fn fractions() {
     }
 }
 
-// ---- nulls, bools, floats, symbols, strings and clobs
+// ---- nulls, bools, floats, symbols, strings, clobs and blobs
 
 fn null(t: u8) {
     let mut buf = [0u8; 32];
@@ -423,6 +423,30 @@ fn clob(s: &[u8]) {
     }
 }
 
+fn reread_blob(text: &[u8]) {
+    let mut content = [0u8; 256];
+    let mut again = [0u8; 1024];
+    let r = tokens::blobs::blob_at(text, 0, &mut content, 0);
+    match r {
+        Step::Next { at, pos } => {
+            if pos <= 256 {
+                let m = text_rules::blobs::format_blob_at(&mut again, 0, &content, 0, pos);
+                back(&again, m, at, text);
+            }
+        }
+        Step::Bad => bad(),
+    }
+}
+
+fn blob(s: &[u8]) {
+    let mut buf = [0u8; 1024];
+    let n = text_rules::blobs::format_blob_at(&mut buf, 0, s, 0, s.len());
+    put(&buf, n, b'\t');
+    if n <= 1024 {
+        reread_blob(&buf[0..n]);
+    }
+}
+
 // Every character of one byte, and some of two, three and four.
 fn strings() {
     let mut b: u8 = 0;
@@ -525,6 +549,17 @@ fn clobs() {
     clob(&all[0..200]);
 }
 
+// Of every length up to 99.
+fn blobs() {
+    let mut all = [0u8; 100];
+    let mut i: usize = 0;
+    while i < 100 {
+        blob(&all[0..i]);
+        all[i] = i as u8;
+        i += 1;
+    }
+}
+
 fn main() {
     ints();
     decimals();
@@ -536,4 +571,5 @@ fn main() {
     strings();
     symbols();
     clobs();
+    blobs();
 }

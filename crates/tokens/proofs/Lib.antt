@@ -2,11 +2,17 @@ pub mod Keeping
 pub mod QuotedSteps
 pub mod QuotedMany
 pub mod ClobSteps
+pub mod BlobChars
+pub mod BlobLanes
+pub mod BlobGroups
+pub mod BlobWrites
+pub mod BlobEnds
 pub mod Shorter
 pub mod Enough
 pub mod QuotedBack
 pub mod ClobBack
 pub mod Utf8Back
+pub mod BlobBack
 pub mod TokensLaws
 pub mod SymbolSteps
 pub mod SymbolBack

@@ -13,10 +13,12 @@ use Rattle.text_rules.specs.Texts.{starts, strip, same}
 use Rattle.text_rules.specs.Words.{isPart, word, behindWord, kindOf}
 use Rattle.text_rules.specs.Utf8.{charAt, isScalar}
 use Rattle.text_rules.specs.Escapes.{letter, hexValue, hex}
+use Rattle.text_rules.specs.Base64.{base64Bytes}
 use Rattle.text_rules.specs.declared.words.Kind.{Kind}
 use Rattle.text_rules.specs.declared.words.Kind.the-variants.{Refused}
 use Rattle.text_rules.proofs.WordsLaws.{same-is, kind-nothing}
 use Rattle.tokens.specs.Quoted.{quote, scalarEscape, letterEscape, escape, isRaw, raw, character, quoted, string, byteEscape, rawByte, clobByte, clobBytes, clob}
+use Rattle.tokens.specs.Blob.{untilBrace, blobRest, blob}
 use Rattle.tokens.specs.Token.{wordSymbol, bareSymbol, quotedSymbol, symbol, typeOf, nullBehind, nanWord, spelled, float}
 use Rattle.tokens.proofs.QuotedMany.{Read, many, characters-many, clob-many}
 
@@ -179,6 +181,15 @@ clob-left t =
     left-after (strip (ascii "{{\"") t) _ (λ u e.
     left-then (clobBytes (suc (length u)) u) _ (clob-bytes-left (suc (length u)) u) (λ v l.
     left-after (strip (ascii "}}") (v .1)) _ (λ r k. fewer (omega (arith, strip-long (ascii "{{\"") t u e, strip-long (ascii "}}") (v .1) r k)))))
+
+-- ---- blobs
+
+pub blob-left : (t : List ℕ) → Left (length t) (blob t)
+unfolding blob blobRest
+blob-left t =
+    left-after (strip (ascii "{{") t) _ (λ u e.
+    left-after (base64Bytes (untilBrace u)) _ (λ s _.
+    left-after (strip (ascii "}}") (drop (length (untilBrace u)) u)) _ (λ r k. fewer (omega (arith, strip-long (ascii "{{") t u e, strip-long (ascii "}}") (drop (length (untilBrace u)) u) r k, length-drop (length (untilBrace u)) u)))))
 
 -- ---- symbols
 

@@ -6,13 +6,15 @@ use mathlib.Core.List.{List, [], _∷_, _++_}
 use mathlib.Core.Option.{none, some}
 use Prim.Native.Nat.{ℕ}
 use Rattle.output.specs.Logic.{byte, ascii}
-use Rattle.text_rules.specs.Text.{Sym}
+use Rattle.text_rules.specs.Text.{Sym, blobText}
 use Rattle.text_rules.specs.Texts.{starts, strip, same}
 use Rattle.text_rules.specs.Digits.{isDigit, run, behindDigits, number, whole}
 use Rattle.text_rules.specs.Words.{isStart, isPart, word, behindWord, allDigits, resemblesSymbolId, version, resemblesVersionMarker, isIdentifier, symbolId, kindOf}
 use Rattle.text_rules.specs.Utf8.{isScalar, utf8, charOf, leadOf, isCont, ok2, ok3, ok4}
+use Rattle.text_rules.specs.Base64.{alphabet, base64Character, characters24, base64, placeFrom, base64Value, bitsOf, bytes24, firstBytes, padded, base64Bytes}
 use Rattle.text_rules.specs.Escapes.{letter, hexValue, hex}
 use Rattle.tokens.specs.Quoted.{quote, scalarEscape, letterEscape, escape, isRaw, raw, character, characters, quoted, string, byteEscape, rawByte, clobByte, clobBytes, clob}
+use Rattle.tokens.specs.Blob.{untilBrace, blobRest, blob}
 use Rattle.tokens.specs.Token.{bareSymbol, quotedSymbol, symbol, typeOf, nullBehind, null, bool}
 
 -- the string `"s"`, read whole
@@ -58,6 +60,29 @@ clobs = refl
 pub clobs-refused : (clob (ascii "{{ \"a\"}}") ≡ none) × (clob (ascii "{{\"a\" }}") ≡ none) × (clob (ascii "{{\"" ++ (0x7F ∷ ascii "\"}}")) ≡ none) × (clob (ascii "{{\"" ++ (9 ∷ ascii "\"}}")) ≡ none) × (clob (ascii "{{\"\\u0041\"}}") ≡ none) × (clob (ascii "{{\"a\"}") ≡ none)
 unfolding clob clobBytes clobByte byteEscape rawByte letterEscape quote letter hexValue hex starts strip
 clobs-refused = (refl, refl, refl, refl, refl, refl)
+
+-- a blob is one token: RFC 4648's test vectors (section 10), both ways
+abbrev BothWays : List ℕ → List ℕ → Type 0
+BothWays t s = (blob t ≡ some (s, [])) × (blobText s ≡ t)
+
+pub blobs : BothWays (ascii "{{}}") [] × BothWays (ascii "{{Zg==}}") (ascii "f") × BothWays (ascii "{{Zm8=}}") (ascii "fo") × BothWays (ascii "{{Zm9v}}") (ascii "foo") × BothWays (ascii "{{Zm9vYg==}}") (ascii "foob") × BothWays (ascii "{{Zm9vYmE=}}") (ascii "fooba") × BothWays (ascii "{{Zm9vYmFy}}") (ascii "foobar")
+unfolding blob blobRest untilBrace base64Bytes padded firstBytes bitsOf bytes24 base64Value placeFrom alphabet blobText base64 characters24 base64Character strip
+blobs = ((refl, refl), (refl, refl), (refl, refl), (refl, refl), (refl, refl), (refl, refl), (refl, refl))
+
+-- `+` and `/` are characters; the text goes on behind `}}`
+pub blob-marks : (blob (ascii "{{+/+/}} ") ≡ some (0xFB ∷ 0xFF ∷ 0xBF ∷ [], ascii " ")) × (blob (ascii "{{AA==}}}") ≡ some (0 ∷ [], ascii "}"))
+unfolding blob blobRest untilBrace base64Bytes padded firstBytes bitsOf bytes24 base64Value placeFrom alphabet strip
+blob-marks = (refl, refl)
+
+-- a blank inside, missing padding, one `=` of two, unused bits that are not zero, the URL alphabet
+pub blobs-refused : (blob (ascii "{{ Zg==}}") ≡ none) × (blob (ascii "{{Zg==\n}}") ≡ none) × (blob (ascii "{{Zm9v YmFy}}") ≡ none) × (blob (ascii "{{Zg}}") ≡ none) × (blob (ascii "{{Zg=}}") ≡ none) × (blob (ascii "{{Zh==}}") ≡ none) × (blob (ascii "{{Zm9=}}") ≡ none) × (blob (ascii "{{-_-_}}") ≡ none)
+unfolding blob blobRest untilBrace base64Bytes padded firstBytes bitsOf bytes24 base64Value placeFrom alphabet strip
+blobs-refused = (refl, refl, refl, refl, refl, refl, refl, refl)
+
+-- padding in the middle, too much of it, one closing brace, a blank between two, a clob
+pub blobs-unclosed : (blob (ascii "{{Zg==Zm8=}}") ≡ none) × (blob (ascii "{{Zm9v====}}") ≡ none) × (blob (ascii "{{Z===}}") ≡ none) × (blob (ascii "{{Zg==}") ≡ none) × (blob (ascii "{{Zg==} }") ≡ none) × (blob (ascii "{{Zg==") ≡ none) × (blob (ascii "{Zg==}}") ≡ none) × (blob (ascii "{{\"") ≡ none) × (blob (ascii "{{\"Zg==\"}}") ≡ none)
+unfolding blob blobRest untilBrace base64Bytes padded firstBytes bitsOf bytes24 base64Value placeFrom alphabet strip
+blobs-unclosed = (refl, refl, refl, refl, refl, refl, refl, refl, refl)
 
 -- symbols: `$` with 0 or digits without leading zero, at most 4,294,967,295; quoted-only spellings are refused bare
 pub symbols : (symbol (ascii "$0 ") ≡ some (Sym.id 0, ascii " ")) × (symbol (ascii "$4294967295") ≡ some (Sym.id 4294967295, [])) × (symbol (ascii "$ion_1_0_0,") ≡ some (Sym.text (ascii "$ion_1_0_0"), ascii ",")) × (symbol (ascii "'$7'") ≡ some (Sym.text (ascii "$7"), [])) × (symbol (ascii "''") ≡ some (Sym.text [], []))

@@ -170,12 +170,12 @@ quoted-valid q t x r e =
 abbrev pub Bytes : List ℕ → Type 0
 Bytes s = (k : ℕ) → getD s k 0 < 256
 
-bytes-append : (v y : List ℕ) → Bytes v → Bytes y → Bytes (v ++ y)
+pub bytes-append : (v y : List ℕ) → Bytes v → Bytes y → Bytes (v ++ y)
 bytes-append [] y b c k = c k
 bytes-append (a ∷ v) y b c zero = b 0
 bytes-append (a ∷ v) y b c (suc k) = bytes-append v y (λ j. b (suc j)) c k
 
-bytes-one : (a : ℕ) → a < 256 → Bytes (a ∷ [])
+pub bytes-one : (a : ℕ) → a < 256 → Bytes (a ∷ [])
 bytes-one a h zero = h
 bytes-one a h (suc k) = omega arith
 

@@ -19,7 +19,7 @@ use Rattle.tape.specs.declared.Frame.{Frame}
 use Rattle.writer.specs.Text.{scalarText, nameText, notesText, opening, closing, separator, broken, deeper, blanks, text, texts}
 use Rattle.tape.proofs.Parts.{part-length, part-first, part-number, part-inner}
 use Rattle.writer.specs.Steps.{sizeTaken, front, ending, isNil, item, items, nodeAt, sizeAt, problemAt}
-use Rattle.writer.proofs.Turning.{OpenHere, some-here, size-some, scalar-here, marker-node, marker-size, open-here, turn-here, left-nil}
+use Rattle.writer.proofs.Turning.{OfScalar, ScalarHere, OpenHere, some-here, size-some, scalar-here, marker-node, marker-size, open-here, turn-here, left-nil}
 
 -- ---- a turn of the walk
 
@@ -67,20 +67,21 @@ module _ (y w d : ℕ) (s : List ℕ) (at e : ℕ) (i : e ≤ length s) (z : pro
   first-byte : kind (part s at e) ≡ getD s at 0
   first-byte = part-first s at e value-place
 
-  pub scalar-text : getD s at 0 < 10 → item y w (nodeAt d (part s at e)) ≡ reading (scalarOf (part s at e)) [] (λ s n. scalarText s)
+  scalar-is : OfScalar (getD s at 0) → ScalarHere d (part s at e)
+  scalar-is h = scalar-here d (part s at e) z (λ j a b q. h j a b (sym first-byte ∙ q))
+
+  pub scalar-text : OfScalar (getD s at 0) → item y w (nodeAt d (part s at e)) ≡ reading (scalarOf (part s at e)) [] (λ s n. scalarText s)
   unfolding item
   scalar-text h =
-      let k = first-byte in
-      let r = scalar-here d (part s at e) z (omega arith) in
+      let r = scalar-is h in
       ap (item y w) (r .node) ∙ sym (ap (λ (o : Option (Scalar × ℕ)). reading o [] (λ s n. scalarText s)) (r .read))
 
-  pub scalar-size : getD s at 0 < 10 → sizeAt (part s at e) ≡ sizeTaken (scalarOf (part s at e))
+  pub scalar-size : OfScalar (getD s at 0) → sizeAt (part s at e) ≡ sizeTaken (scalarOf (part s at e))
   scalar-size h =
-      let k = first-byte in
-      let r = scalar-here d (part s at e) z (omega arith) in
+      let r = scalar-is h in
       r .size ∙ sym (ap (λ (o : Option (Scalar × ℕ)). sizeTaken o) (r .read))
 
-  pub scalar-some : getD s at 0 < 10 → 0 < sizeTaken (scalarOf (part s at e))
+  pub scalar-some : OfScalar (getD s at 0) → 0 < sizeTaken (scalarOf (part s at e))
   scalar-some h = let n = size-some d (part s at e) z in let q = scalar-size h in omega arith
 
   pub marker-text : getD s at 0 ≡ 14 → item y w (nodeAt d (part s at e)) ≡ ascii "$ion_1_0"
@@ -90,9 +91,9 @@ module _ (y w d : ℕ) (s : List ℕ) (at e : ℕ) (i : e ≤ length s) (z : pro
   pub marker-length : getD s at 0 ≡ 14 → sizeAt (part s at e) ≡ 1
   marker-length h = marker-size d (part s at e) z (first-byte ∙ h)
 
-  module _ (h : 10 ≤ getD s at 0) (m : getD s at 0 ≡ 14 → ⊥) where
+  module _ (h : 10 ≤ getD s at 0) (m : getD s at 0 ≡ 14 → ⊥) (l : getD s at 0 ≡ 15 → ⊥) where
     opened : OpenHere d (frameOf (kind (part s at e))) (part s at e)
-    opened = let k = first-byte in open-here d (part s at e) z (omega arith) (λ e. m (sym k ∙ e))
+    opened = let k = first-byte in open-here d (part s at e) z (omega arith) (λ e. m (sym k ∙ e)) (λ e. l (sym k ∙ e))
 
     pub header-room : at + 5 ≤ e
     header-room = let r = opened .room in let n = part-length s at e i in omega arith

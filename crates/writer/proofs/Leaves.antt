@@ -13,7 +13,7 @@ use lib.Seq.{getD-take}
 use Rattle.text_rules.specs.Text.{Sym}
 use Rattle.numbers.specs.declared.timestamp.Timestamp.{Timestamp}
 use Rattle.tape.specs.Bytes.{part, leNumber, signed}
-use Rattle.tape.specs.Tree.{Scalar, int, decimal, timestamp, symbol, string, encodeSym, encodeScalar}
+use Rattle.tape.specs.Tree.{Scalar, int, decimal, timestamp, symbol, string, blob, encodeSym, encodeScalar}
 use Rattle.tape.specs.Tape.{reading, kind, lengthOf, symOf, nameOf, decimalOf, timestampAs, symbolOf, sizedOf, scalarOf}
 use Rattle.tape.specs.Steps.{meantScalar, sizeOf}
 use Rattle.tape.specs.Fine.{Bytes}
@@ -24,7 +24,7 @@ use Rattle.tape.specs.declared.Scalar.the-variants as C
 use Rattle.tape.proofs.Numbers.{bytes-drop, bytes-take}
 use Rattle.tape.proofs.Reading.{Sound, something, scalar-sound}
 use Rattle.tape.proofs.Parts.{part-length, part-first, part-byte, part-number}
-use Rattle.tape.proofs.CodeReading.{int-short, int-some, decimal-short, decimal-over, decimal-some, timestamp-short, timestamp-some, timestamp-part, length-over, length-some, text-by, sym-text, sym-id, sym-none, sym-short, scalar-int, scalar-decimal, scalar-timestamp, scalar-symbol, scalar-string, scalar-empty}
+use Rattle.tape.proofs.CodeReading.{int-short, int-some, decimal-short, decimal-over, decimal-some, timestamp-short, timestamp-some, timestamp-part, length-over, length-some, text-by, sym-text, sym-id, sym-none, sym-short, scalar-int, scalar-decimal, scalar-timestamp, scalar-symbol, scalar-string, scalar-blob, scalar-empty}
 use Rattle.writer.specs.Steps.{Rare, nameIn, sizeTaken}
 
 -- ---- symbols
@@ -132,20 +132,24 @@ module _ (s : List ℕ) (at e : ℕ) (w : at ≤ e) (i : e ≤ length s) (z : 0 
               ∙ ap (λ (m : ℕ). some (symbol (Sym.text (take m (drop 5 l))), 5 + m)) g;
         }
 
-    pub string-leaf : getD s at 0 ≡ 8 → LeafAt s at e (string (take n (drop 5 l))) (5 + n)
+    sized-leaf : (c : List ℕ → Scalar) → scalarOf l ≡ sizedOf c l → LeafAt s at e (c (take n (drop 5 l))) (5 + n)
     unfolding sizedOf
-    string-leaf k =
-        let c : kind l ≡ 8 = first-byte ∙ k in
-        let t : scalarOf l ≡ sizedOf string l = scalar-string l c in
-        let f : 5 + lengthOf l ≤ length l = long (5 + lengthOf l) (λ h. t ∙ ap (λ (o : Option (List ℕ × ℕ)). reading {B = Option (Scalar × ℕ)} o none (λ x m. some (string x, m))) (text-by l Nowhere (sym (length-over l h)))) in
+    sized-leaf c t =
+        let f : 5 + lengthOf l ≤ length l = long (5 + lengthOf l) (λ h. t ∙ ap (λ (o : Option (List ℕ × ℕ)). reading {B = Option (Scalar × ℕ)} o none (λ x m. some (c x, m))) (text-by l Nowhere (sym (length-over l h)))) in
         let len = part-length s at e i in
         let g = length-is (omega arith) in
         record {
           room = omega arith;
           read = t
-              ∙ ap (λ (o : Option (List ℕ × ℕ)). reading {B = Option (Scalar × ℕ)} o none (λ x m. some (string x, m))) (text-by l (At (lengthOf l)) (sym (length-some l f)))
-              ∙ ap (λ (m : ℕ). some (string (take m (drop 5 l)), 5 + m)) g;
+              ∙ ap (λ (o : Option (List ℕ × ℕ)). reading {B = Option (Scalar × ℕ)} o none (λ x m. some (c x, m))) (text-by l (At (lengthOf l)) (sym (length-some l f)))
+              ∙ ap (λ (m : ℕ). some (c (take m (drop 5 l)), 5 + m)) g;
         }
+
+    pub string-leaf : getD s at 0 ≡ 8 → LeafAt s at e (string (take n (drop 5 l))) (5 + n)
+    string-leaf k = sized-leaf string (scalar-string l (first-byte ∙ k))
+
+    pub blob-leaf : getD s at 0 ≡ 15 → LeafAt s at e (blob (take n (drop 5 l))) (5 + n)
+    blob-leaf k = sized-leaf blob (scalar-blob l (first-byte ∙ k))
 
   -- a scalar that is written through `Scalar`, by the kinds that it is not of
   module _ (all : Bytes s) where
@@ -166,6 +170,7 @@ module _ (s : List ℕ) (at e : ℕ) (w : at ≤ e) (i : e ≤ length s) (z : 0 
     rare-leaf (C.Id i) q a b c d f = tt
     rare-leaf (C.«String» n) q a b c d f = f (kind-is (string (take n (drop 5 l))) (5 + n) 8 _ (omega arith) (rw q at (scalar-sound l)) refl)
     rare-leaf (C.Clob n) q a b c d f = tt
+    rare-leaf (C.Blob n) q a b c d f = tt
 
 -- ---- names
 

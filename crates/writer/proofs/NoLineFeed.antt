@@ -8,18 +8,19 @@ use native.Mathlib.Omega.{arith}
 use lib.Dec.{eqb, leb, ltb}
 use lib.IntN.{ℤ, pos, negsuc}
 use lib.Ieee.{Float, binary64, toBits, isNan}
-use lib.ListN.{length, take, drop, replicate}
+use lib.ListN.{length, getD, take, drop, replicate}
 use borrow.Author.Tests.{eqb-true, ne-eqb}
 use Rattle.output.specs.Logic.{if, byte, ascii}
 use Rattle.text_rules.specs.Digits.{isDigit, digits, pad}
 use Rattle.text_rules.specs.Words.{isStart, isPart, behindWord}
 use Rattle.text_rules.specs.WordSteps.{isBare}
 use Rattle.text_rules.specs.Escapes.{hasLetter, letterOf, hexDigit, textEscape, textBody, clobEscape, clobBody}
-use Rattle.text_rules.specs.Text.{Sym, marked, symbolText, symbolIdText, stringText, clobText, typeName, nullText, boolText, bitsText, floatText}
+use Rattle.text_rules.specs.Base64.{alphabet, base64Character, characters24, base64}
+use Rattle.text_rules.specs.Text.{Sym, marked, symbolText, symbolIdText, stringText, clobText, blobText, typeName, nullText, boolText, bitsText, floatText}
 use Rattle.numbers.specs.Decimal.{intText, pointed, scientific, above, below, form, sign, decimalText}
 use Rattle.numbers.specs.declared.timestamp.Timestamp.{Timestamp}
 use Rattle.numbers.specs.Timestamp.{unknown, timestampText, yearAndMonth, date, hourAndMinute, dateHourAndMinute, fractionalSeconds, offsetText}
-use Rattle.tape.specs.Tree.{Scalar, null, bool, int, float, decimal, timestamp, symbol, string, clob}
+use Rattle.tape.specs.Tree.{Scalar, null, bool, int, float, decimal, timestamp, symbol, string, clob, blob}
 use Rattle.tape.specs.declared.Frame.{Frame}
 use Rattle.tape.specs.declared.Frame.the-variants.{Top, List as ListF, Sexp, Struct}
 use Rattle.writer.specs.Text.{symText, scalarText, nameText, opening, closing, blanks, unbroken}
@@ -146,7 +147,26 @@ unfolding clobBody
 unbroken-clob-body [] = unbroken-nil
 unbroken-clob-body (c ∷ s) = unbroken-both (unbroken-clob-byte c) (unbroken-clob-body s)
 
--- ---- symbols, strings, clobs
+-- ---- base64
+
+-- a byte of a text, or 0 past its end
+byte-not : (s : List ℕ) (v : ℕ) → Unbroken s → eqb (getD s v 0) 10 ≡ false
+byte-not [] v u = refl
+byte-not (c ∷ s) zero u = unbroken-first c u .0
+byte-not (c ∷ s) (suc v) u = byte-not s v (unbroken-first c u .1)
+
+unbroken-character : {s : List ℕ} (v : ℕ) → Unbroken s → Unbroken (base64Character v ∷ s)
+unfolding base64Character alphabet unbroken
+unbroken-character v u = unbroken-byte _ (byte-not alphabet v (spelled alphabet refl)) u
+
+unbroken-base64 : (s : List ℕ) → Unbroken (base64 s)
+unfolding base64 characters24 unbroken
+unbroken-base64 [] = unbroken-nil
+unbroken-base64 (a ∷ []) = unbroken-character _ (unbroken-character _ (spelled (ascii "==") refl))
+unbroken-base64 (a ∷ b ∷ []) = unbroken-character _ (unbroken-character _ (unbroken-character _ (spelled (ascii "=") refl)))
+unbroken-base64 (a ∷ b ∷ c ∷ s) = unbroken-character _ (unbroken-character _ (unbroken-character _ (unbroken-character _ (unbroken-base64 s))))
+
+-- ---- symbols, strings, clobs, blobs
 
 unbroken-symbol : (s : List ℕ) → Unbroken (symbolText s)
 unbroken-symbol s = go (isBare s) refl
@@ -168,6 +188,10 @@ unbroken-name (some s) = unbroken-both (unbroken-sym s) record { told = refl }
 unbroken-clob : (s : List ℕ) → Unbroken (clobText s)
 unfolding clobText unbroken
 unbroken-clob s = unbroken-both (unbroken-both (spelled (ascii "{{\"") refl) (unbroken-clob-body s)) (spelled (ascii "\"}}") refl)
+
+unbroken-blob : (s : List ℕ) → Unbroken (blobText s)
+unfolding blobText unbroken
+unbroken-blob s = unbroken-both (unbroken-both (spelled (ascii "{{") refl) (unbroken-base64 s)) (spelled (ascii "}}") refl)
 
 -- ---- nulls and floats, literal spellings
 
@@ -293,6 +317,7 @@ unbroken-scalar (timestamp x) = unbroken-timestamp x
 unbroken-scalar (symbol s) = unbroken-sym s
 unbroken-scalar (string s) = unbroken-marked (byte "\"") s refl
 unbroken-scalar (clob s) = unbroken-clob s
+unbroken-scalar (blob s) = unbroken-blob s
 
 -- ---- blanks, brackets, the marker
 

@@ -42,6 +42,10 @@ free-any false l h = go (eqb (kind l) 10) (eqb (kind l) 11) (eqb (kind l) 12) (e
     go false false false true u v w x h = absurd (h refl)
     go false false false false u v w x h = refl
 
+-- the kind of a scalar, 15 too, is none of 10 to 14
+abbrev pub OfScalar : ℕ → Type 0
+OfScalar k = (j : ℕ) → 10 ≤ j → j ≤ 14 → k ≡ j → ⊥
+
 -- the value is a scalar
 pub record ScalarHere (d : ℕ) (l : List ℕ) : Type 0 where
   pub it : Scalar
@@ -90,8 +94,8 @@ module _ (d : ℕ) (l : List ℕ) (z : problemAt d l ≡ 0) where
           let v : valueOf true l ≡ leaf (scalar s) n = e ∙ ap (λ (o : Option (Scalar × ℕ)). reading o absent (λ s n. leaf (scalar s) n)) q in
           record { it = s; count = n; read = q; node = ap (nodeIs d l) v; size = ap sizeIs v }
 
-  pub scalar-here : kind l < 10 → ScalarHere d l
-  scalar-here h = as-scalar (value-scalar true l (λ e. omega arith) (λ e. omega arith) (λ e. omega arith) (λ e. omega arith))
+  pub scalar-here : OfScalar (kind l) → ScalarHere d l
+  scalar-here h = as-scalar (value-scalar true l (h 10 (omega arith) (omega arith)) (h 11 (omega arith) (omega arith)) (h 12 (omega arith) (omega arith)) (h 14 (omega arith) (omega arith)))
 
   pub marker-node : kind l ≡ 14 → nodeAt d l ≡ marker
   unfolding nodeAt
@@ -115,15 +119,15 @@ module _ (d : ℕ) (l : List ℕ) (z : problemAt d l ≡ 0) where
           let y : problemAt d l ≡ walk d f (take (lengthOf l) (drop 5 l)) .1 = ap (problemIs d l) v in
           record { room = leb-true _ _ q; node = ap (nodeIs d l) v; size = ap sizeIs v; fine = sym y ∙ z }
 
-  pub open-here : 10 ≤ kind l → (kind l ≡ 14 → ⊥) → OpenHere d (frameOf (kind l)) l
-  open-here h m = go (decLe (kind l) 12)
+  pub open-here : 10 ≤ kind l → (kind l ≡ 14 → ⊥) → (kind l ≡ 15 → ⊥) → OpenHere d (frameOf (kind l)) l
+  open-here h m n = go (decLe (kind l) 12)
     where
       go : Dec (kind l ≤ 12) → OpenHere d (frameOf (kind l)) l
       go (yes k) = as-open (frameOf (kind l)) (value-open true l h (omega arith))
       go (no k) =
           let s = as-scalar (value-scalar true l (λ e. omega arith) (λ e. omega arith) (λ e. omega arith) m) in
           let r = s .read in
-          let y = scalar-other l (omega arith) (λ e. omega arith) (λ e. omega arith) in
+          let y = scalar-other l (omega arith) (λ e. omega arith) (λ e. omega arith) n in
           let x : _≡_ {A = ℕ} 0 1 = cc in
           absurd (omega arith)
 

@@ -16,7 +16,7 @@ use Rattle.text_rules.specs.Text.{Sym}
 use Rattle.text_rules.specs.Utf8.{valid}
 use Rattle.numbers.specs.Timestamp.{wellFormed}
 use Rattle.tape.specs.Bytes.{leNumber, part, first}
-use Rattle.tape.specs.Tree.{Scalar, Head, Node, null, bool, int, float, decimal, timestamp, symbol, string, clob, scalar, nest, marker, size}
+use Rattle.tape.specs.Tree.{Scalar, Head, Node, null, bool, int, float, decimal, timestamp, symbol, string, clob, blob, scalar, nest, marker, size}
 use Rattle.tape.specs.Tape.{Child, bad, single, tree, childOf, textFault, symFault, symsFault, nameFault, headFault, finiteFault, floatFault, scalarFault, fault, Walked, turn, level, walk, bodyOf, nodesOf}
 use Rattle.tape.specs.Verdict.{misfit, countFault, verdict}
 use Rattle.tape.specs.Refusal.{noteds}
@@ -80,6 +80,7 @@ scalar-most (timestamp x) = if-most (wellFormed x) 0 2 (omega arith) (omega arit
 scalar-most (symbol s) = sym-most s
 scalar-most (string s) = text-most s
 scalar-most (clob s) = omega arith
+scalar-most (blob s) = omega arith
 
 node-most : (n : Node) → fault n ≤ 4
 node-most (scalar s) = scalar-most s

@@ -17,7 +17,7 @@ use Rattle.tape.specs.declared.Scalar.the-variants as C
 use Rattle.writer.specs.declared.whitespace_config.Separator.{Separator}
 use Rattle.writer.specs.Text.{scalarText, nameText, notesText, opening, closing, separator, broken, deeper, blanks}
 
--- the scalars that go through the code's `Scalar`: a null, a bool, a float, an identifier, a clob. The others are written straight from the tape
+-- the scalars that go through the code's `Scalar`: a null, a bool, a float, an identifier, a clob; and a blob, though the walk takes it from the tape itself. The others are written straight from the tape
 abbrev pub Rare : ScalarC → Type 0
 Rare (C.Null t) = Unit
 Rare (C.«Bool» b) = Unit
@@ -29,6 +29,7 @@ Rare (C.Symbol n) = ⊥
 Rare (C.Id i) = Unit
 Rare (C.«String» n) = ⊥
 Rare (C.Clob n) = Unit
+Rare (C.Blob n) = Unit
 
 -- the name of the child that the bytes l start with, if it has one
 abbrev pub nameIn : Frame → List ℕ → Option Sym

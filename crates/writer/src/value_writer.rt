@@ -14,7 +14,7 @@ ghost use Rattle.tape.specs.Steps.{placeOf, meantScalar, sizeOf, headAt};
 ghost use Rattle.tape.specs.declared.Place.the-variants.{At};
 ghost use Rattle.output.specs.Logic.{if, ascii};
 ghost use Rattle.writer.specs.Text.{scalarText, nameText, notesText, blanks, closing, indented, texts};
-ghost use Rattle.text_rules.specs.Text.{symbolText, stringText, clobText};
+ghost use Rattle.text_rules.specs.Text.{symbolText, stringText, clobText, blobText};
 ghost use Rattle.tape.specs.declared.Frame.the-variants.{Struct};
 ghost use Rattle.writer.specs.Steps.{Rare, nameIn, notesIn, sizeTaken, front, separating, Plain, item, items, nodeAt, sizeAt, problemAt};
 use crate::whitespace_config;
@@ -34,7 +34,7 @@ pub struct Step {
 
 // ---- scalars
 
-// The symbol, string or clob of n bytes whose node stands at a place: its bytes start 5 behind the kind byte. `format_symbol_at` has two callers,
+// The symbol, string, clob or blob of n bytes whose node stands at a place: its bytes start 5 behind the kind byte. `format_symbol_at` has two callers,
 // here and in `write_notes`, so that it is not built into the walk.
 fn write_symbol_text(
     buf: &mut [u8],
@@ -74,7 +74,17 @@ fn write_clob(buf: &mut [u8], pos: usize, tape: &[u8], at: usize, n: usize, end:
     text_rules::clobs::format_clob(buf, pos, &tape[from..to])
 }
 
-// The scalar s, whose node stands at a place: a null, a bool, a float, an identifier or a clob. `write_leaf` writes the other kinds itself.
+fn write_blob(buf: &mut [u8], pos: usize, tape: &[u8], at: usize, n: usize, end: usize) -> usize
+    requires { ⌜ pos ≤ limit ⌝ }
+    requires { ⌜ at + (5 + n) ≤ end ⌝ }
+    requires { ⌜ end ≤ length (now tape) ⌝ }
+    ensures { λ r. ⌜ Wrote (now (buf .entry)) (now (buf .exit)) pos r (blobText (take n (drop 5 (part (now (tape .entry)) at end)))) ⌝ }
+{
+    text_rules::blobs::format_blob_at(buf, pos, tape, at + 5, n)
+}
+
+// The scalar s, whose node stands at a place: a null, a bool, a float, an identifier, a clob, or a blob, for which `write_value` does not ask. `write_leaf` writes the
+// other kinds itself.
 fn write_scalar(buf: &mut [u8], pos: usize, tape: &[u8], at: usize, end: usize, s: Scalar) -> Step
     requires { ⌜ pos ≤ limit ⌝ }
     requires { ⌜ at + sizeOf s ≤ end ⌝ }
@@ -102,6 +112,10 @@ fn write_scalar(buf: &mut [u8], pos: usize, tape: &[u8], at: usize, end: usize, 
         },
         Scalar::Clob(n) => Step {
             pos: write_clob(buf, pos, tape, at, n, end),
+            at: at + (5 + n),
+        },
+        Scalar::Blob(n) => Step {
+            pos: write_blob(buf, pos, tape, at, n, end),
             at: at + (5 + n),
         },
         _ => Step { pos, at },
@@ -376,6 +390,24 @@ fn write_leaf(buf: &mut [u8], pos: usize, tape: &[u8], at: usize, end: usize) ->
     write_scalar(buf, pos, tape, at, end, s)
 }
 
+// The blob at a place. As a function of its own it leaves the walk's other kinds as quick as they were.
+fn write_blob_node(buf: &mut [u8], pos: usize, tape: &[u8], at: usize, end: usize) -> Step
+    requires { ⌜ pos ≤ limit ⌝ }
+    requires { ⌜ at ≤ end ⌝ }
+    requires { ⌜ end + 8 ≤ length (now tape) ⌝ }
+    requires { ⌜ 0 < sizeTaken (scalarOf (part (now tape) at end)) ⌝ }
+    requires { ⌜ getD (now tape) at 0 ≡ 15 ⌝ }
+    ensures text { λ r. ⌜ Wrote (now (buf .entry)) (now (buf .exit)) pos (r .pos) (reading (scalarOf (part (now (tape .entry)) at end)) [] (λ s n. scalarText s)) ⌝ }
+    ensures place { λ r. ⌜ r .at ≡ at + sizeTaken (scalarOf (part (now (tape .entry)) at end)) ⌝ }
+{
+    let n = tape::u32_at(tape, at + 1) as usize;
+    let p = write_blob(buf, pos, tape, at, n, end);
+    Step {
+        pos: p,
+        at: at + (5 + n),
+    }
+}
+
 // The version marker. A literal is stored where its function starts, so it stays out of the walk.
 fn write_marker(buf: &mut [u8], pos: usize) -> usize
     requires { ⌜ pos ≤ limit ⌝ }
@@ -414,7 +446,7 @@ fn write_container(
     requires { ⌜ pos ≤ limit ⌝ }
     requires { ⌜ 2 * depth + width ≤ 256 ⌝ }
     requires { ⌜ problemAt depth (part (now tape) at end) ≡ 0 ⌝ }
-    requires { ⌜ (10 ≤ getD (now tape) at 0) × (getD (now tape) at 0 ≡ 14 → ⊥) ⌝ }
+    requires { ⌜ (10 ≤ getD (now tape) at 0) × (getD (now tape) at 0 ≡ 14 → ⊥) × (getD (now tape) at 0 ≡ 15 → ⊥) ⌝ }
     ensures text { λ r. ⌜ Wrote (now (buf .entry)) (now (buf .exit)) pos (r .pos) (item layout width (nodeAt depth (part (now (tape .entry)) at end))) ⌝ }
     ensures place { λ r. ⌜ r .at ≡ at + sizeAt (part (now (tape .entry)) at end) ⌝ }
 {
@@ -454,6 +486,9 @@ fn write_value(
     if k == 14 {
         let p = write_marker(buf, pos);
         return Step { pos: p, at: at + 1 };
+    }
+    if k == 15 {
+        return write_blob_node(buf, pos, tape, at, end);
     }
     write_container(tape, at, end, depth, layout, width, buf, pos)
 }

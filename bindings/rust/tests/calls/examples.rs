@@ -38,6 +38,7 @@ fn tempting() {
     prints(symbol("a\nb"), r"'a\nb'");
     prints(string("a\nb"), r#""a\nb""#);
     prints(clob(b"a'\"\x80\n"), r#"{{"a'\"\x80\n"}}"#);
+    prints(blob(b"\xfb\xff"), "{{+/8=}}");
 }
 
 #[test]

@@ -59,7 +59,7 @@ impl Random {
             let value = self.value(depth, ids, false);
             return annotated(&[vec![first], more].concat(), value);
         }
-        match self.below(if depth > 0 { 13 } else { 10 }) {
+        match self.below(if depth > 0 { 14 } else { 11 }) {
             0 => null(self.below(13) as u8),
             1 => boolean(self.below(2) == 1),
             2 => int(self.next() as i64 >> self.below(64)),
@@ -69,8 +69,9 @@ impl Random {
             7 => self.name(ids),
             8 => string(&self.text()),
             9 => clob(&self.several(5, |r| r.next() as u8)),
-            10 => list(&self.several(4, |r| r.value(depth - 1, ids, notes))),
-            11 => sexp(&self.several(4, |r| r.value(depth - 1, ids, notes))),
+            10 => blob(&self.several(20, |r| r.next() as u8)),
+            11 => list(&self.several(4, |r| r.value(depth - 1, ids, notes))),
+            12 => sexp(&self.several(4, |r| r.value(depth - 1, ids, notes))),
             _ => structure(&self.several(4, |r| (r.name(ids), r.value(depth - 1, ids, notes)))),
         }
     }

@@ -75,6 +75,7 @@ fn r2_bad_node() {
         &annotated(&[symbol("a")], annotated(&[symbol("b")], int(1))),
         &list(&[marker()]),
         &[15],
+        &[16],
         &[255],
     ];
     for node in nodes {

@@ -59,6 +59,10 @@ pub fn clob(bytes: &[u8]) -> Node {
     sized(9, bytes)
 }
 
+pub fn blob(bytes: &[u8]) -> Node {
+    sized(15, bytes)
+}
+
 pub fn list(children: &[Node]) -> Node {
     sized(10, &children.concat())
 }

@@ -3,7 +3,7 @@ use mathlib.Core.Path.{sym, _∙_}
 use native.Mathlib.Omega.{arith}
 use denote.Ref.{now}
 use Rattle.tape.proofs.Parts.{part-length, part-first}
-use Rattle.tape.proofs.CodeReading.{scalar-empty, scalar-null, scalar-bool, scalar-int, scalar-float, scalar-decimal, scalar-timestamp, scalar-symbol, scalar-string, scalar-clob, scalar-other}
+use Rattle.tape.proofs.CodeReading.{scalar-empty, scalar-null, scalar-bool, scalar-int, scalar-float, scalar-decimal, scalar-timestamp, scalar-symbol, scalar-string, scalar-clob, scalar-blob, scalar-other}
 use borrow.Author.Needs.{needs}
 use Rattle.tape.proofs.scalar_at.Statement.{statement}
 use Rattle.tape.proofs.scalar_at.Tie as tie
@@ -117,13 +117,24 @@ returns-10 c =
     let f = part-first (now (a .tape)) (a .at) (a .end) (omega arith) in
     c .clob-at .ensures ∙ sym (scalar-clob _ (f ∙ c .before .if10 .taken))
 
+blob-at-requires : tie.Need-blob-at-requires
+blob-at-requires c κs = search needs
+
 returns-11 : tie.Need-returns-11
 returns-11 c =
-    let s = c .before .before .before .before .before .before .before .before .before .before .before .before in
+    let s = c .before .before .before .before .before .before .before .before .before .before .before .before .before .before in
     let a = s .args in
     let n = part-length (now (a .tape)) (a .at) (a .end) (s .pre .1) in
     let f = part-first (now (a .tape)) (a .at) (a .end) (omega arith) in
-    sym (scalar-other _ (rw f (c .before .before .if8 .left)) (λ e. c .before .if9 .left (sym f ∙ e)) (λ e. c .if10 .left (sym f ∙ e)))
+    c .blob-at .ensures ∙ sym (scalar-blob _ (f ∙ c .before .if11 .taken))
+
+returns-12 : tie.Need-returns-12
+returns-12 c =
+    let s = c .before .before .before .before .before .before .before .before .before .before .before .before .before in
+    let a = s .args in
+    let n = part-length (now (a .tape)) (a .at) (a .end) (s .pre .1) in
+    let f = part-first (now (a .tape)) (a .at) (a .end) (omega arith) in
+    sym (scalar-other _ (rw f (c .before .before .before .if8 .left)) (λ e. c .before .before .if9 .left (sym f ∙ e)) (λ e. c .before .if10 .left (sym f ∙ e)) (λ e. c .if11 .left (sym f ∙ e)))
 
 pub scalar-at-spec : {M : Type 1} → statement M
 scalar-at-spec =
@@ -149,4 +160,6 @@ scalar-at-spec =
     returns-9
     clob-at-requires
     returns-10
-    returns-11)
+    blob-at-requires
+    returns-11
+    returns-12)

@@ -46,6 +46,12 @@ enum-known-s-3 c = search needs
 add-result-3 : tie.Need-add-result-3
 add-result-3 c = let e : sizeOf (c .before .before .before .args .s) ≡ 5 + c .before .s3 .given .0 .0 = ap sizeOf (c .before .s3 .given .1) in record { fits = omega arith }
 
+enum-known-s-4 : tie.Need-enum-known-s-4
+enum-known-s-4 c = search needs
+
+add-result-4 : tie.Need-add-result-4
+add-result-4 c = let e : sizeOf (c .before .before .before .args .s) ≡ 5 + c .before .s4 .given .0 .0 = ap sizeOf (c .before .s4 .given .1) in record { fits = omega arith }
+
 returns : tie.Need-returns
 returns c = search needs
 
@@ -76,6 +82,9 @@ returns-9 c = sym (ap sizeOf (c .before .s2 .given .1))
 returns-10 : tie.Need-returns-10
 returns-10 c = sym (ap sizeOf (c .before .s3 .given .1))
 
+returns-11 : tie.Need-returns-11
+returns-11 c = sym (ap sizeOf (c .before .s4 .given .1))
+
 pub size-of-spec : {M : Type 1} → statement M
 size-of-spec =
     tie.close
@@ -93,6 +102,8 @@ size-of-spec =
     add-result-2
     enum-known-s-3
     add-result-3
+    enum-known-s-4
+    add-result-4
     returns
     returns-2
     returns-3
@@ -102,4 +113,5 @@ size-of-spec =
     returns-7
     returns-8
     returns-9
-    returns-10)
+    returns-10
+    returns-11)

@@ -25,18 +25,19 @@ use Rattle.measure.proofs.parts.untold_length.Statement.{statement}
 use Rattle.measure.proofs.parts.untold_length.Tie as tie
 
 -- the bits of a float are read as a float
-unreached : (s : Scalar) (k : ℕ) (l : List ℕ) → k ≡ 3 → k ≡ getD (encodeScalar (meantScalar s l)) 0 0 → OneOf (0 ∷ 1 ∷ 2 ∷ 4 ∷ 5 ∷ 6 ∷ 7 ∷ 8 ∷ 9 ∷ []) (tagOf the-type s) → ⊥
+unreached : (s : Scalar) (k : ℕ) (l : List ℕ) → k ≡ 3 → k ≡ getD (encodeScalar (meantScalar s l)) 0 0 → OneOf (0 ∷ 1 ∷ 2 ∷ 4 ∷ 5 ∷ 6 ∷ 7 ∷ 8 ∷ 9 ∷ 10 ∷ []) (tagOf the-type s) → ⊥
 unfolding encodeScalar encodeSym
 unreached (C.Null t) k l h q o = omega arith
 unreached (C.«Bool» b) k l h q o = omega arith
 unreached (C.Int n) k l h q o = omega arith
-unreached (C.«Float» x) k l h q o = miss (0 ∷ 1 ∷ 2 ∷ 4 ∷ 5 ∷ 6 ∷ 7 ∷ 8 ∷ 9 ∷ []) 3 tt o
+unreached (C.«Float» x) k l h q o = miss (0 ∷ 1 ∷ 2 ∷ 4 ∷ 5 ∷ 6 ∷ 7 ∷ 8 ∷ 9 ∷ 10 ∷ []) 3 tt o
 unreached (C.Decimal neg m x) k l h q o = omega arith
 unreached (C.Timestamp x) k l h q o = omega arith
 unreached (C.Symbol n) k l h q o = omega arith
 unreached (C.Id i) k l h q o = omega arith
 unreached (C.«String» n) k l h q o = omega arith
 unreached (C.Clob n) k l h q o = omega arith
+unreached (C.Blob n) k l h q o = omega arith
 
 -- the float of its bits
 read : (c : tie.After-float-of) → let a = c .before .before .before .before .before .args in scalarOf (part (now (a .tape)) (a .at) (a .end)) ≡ floatAs (c .before .u64-at .result)

@@ -14,9 +14,9 @@ use Rattle.tape.specs.Bytes.{part}
 use Rattle.tape.specs.Tape.{kind, notesOf, nameFault}
 use Rattle.tape.specs.CheckSteps.{nameNumberIn, frameOf}
 use Rattle.tape.specs.declared.Frame.{Frame}
-use Rattle.tape.proofs.Parts.{part-length, part-first, trailed}
-use Rattle.tape.proofs.CodeFacts.{end-read, span-is}
-use Rattle.tape.proofs.Turns.{TreeTurn, name-refused, notes-refused, end-refused, size-refused, span-turn, other-refused, marker-refused}
+use Rattle.tape.proofs.Parts.{part-first, trailed}
+use Rattle.tape.proofs.CodeFacts.{end-read}
+use Rattle.tape.proofs.Turns.{TreeTurn, name-refused, notes-refused, end-refused, size-refused, span-turn, blob-refused, other-refused, marker-refused}
 use Rattle.tape.proofs.check.behind_name.Reads as behind-name
 use Rattle.tape.proofs.check.frame_of.Reads as frame-of
 use Rattle.tape.proofs.check.is_free.Reads as is-free
@@ -28,7 +28,9 @@ use Rattle.writer.specs.Text.{notesText}
 use Rattle.writer.specs.Steps.{notesIn}
 use Rattle.measure.specs.Sums.{leafLength}
 use Rattle.measure.specs.Steps.{flagged}
-use Rattle.measure.proofs.SumSteps.{Flags, flags-are, note-set, number-set, number-left, Noted, notes-told, notes-bad, Fronted, Named, name-there, name-within, name-short, notes-short, head-seen, fronted, noted-here, bare-fronted, Body, Walking, walk-start, walk-deep, refusing, sums-fit, ended, Child, end-most, texts-most, children-most, sums-most, refuse, front-most, scalar-within, scalar-short, told-most, scalar-on, span-missed, clob-code, clob-two, clob-on, marker-on, container-refused, container-most, container-on}
+use Rattle.measure.proofs.PartLaws.{blob-told}
+use Rattle.measure.proofs.SumSteps.{Flags, flags-are, note-set, number-set, number-left, Noted, notes-told, notes-bad, Fronted, Named, name-there, name-within, name-short, notes-short, head-seen, fronted, noted-here, bare-fronted, Body, Walking, walk-start, walk-deep, refusing, sums-fit, ended, Child, end-most, texts-most, children-most, sums-most, refuse, front-most, scalar-within, scalar-short, told-most, scalar-on, span-room, span-missed, sized-code, sized-two, sized-most, sized-on, marker-on, container-refused, container-most, container-on}
+use Rattle.measure.proofs.blobs.blob_length.Reads as blob-length
 use Rattle.measure.proofs.parts.field_name_length.Reads as field-name-length
 use Rattle.measure.proofs.parts.leaf_at.Reads as leaf-at
 use Rattle.measure.proofs.parts.notes_at.Reads as notes-at
@@ -73,6 +75,8 @@ callees t = (
   frame-of.Learnt,
   below t,
   own.Post,
+  blob-length.Asked,
+  blob-length.Learnt,
   is-free.Asked,
   is-free.Learnt,
   add-body.Asked,
@@ -238,14 +242,11 @@ module _ (t : ℕ) (c : lts.Else9 (callees t) (at t) own.Post Inv μ-loop) where
   abbrev leaf-size : ℕ
   leaf-size = c .before .before .leaf-at .result .size
 
-  low : getD (tape t (loop t at-leaf)) (value t at-leaf) 0 < 10
-  low = let k = c .before .before .before .if8 .taken in omega arith
-
   leaf-most : (c .before .before .leaf-at .result .length + at-leaf .if4 .n ≤ 200 * (value t at-leaf + leaf-size)) × (value t at-leaf + leaf-size ≤ end t (loop t at-leaf))
   leaf-most =
       let e = c .before .before .leaf-at .ensures in
-      let m = told-most (child t (inside t at-leaf)) (headed t at-leaf) low (e .0) (c .if9 .left) _ (e .1 .0) in
-      (omega arith, scalar-within (child t (inside t at-leaf)) (headed t at-leaf) low (e .0) (c .if9 .left))
+      let m = told-most (child t (inside t at-leaf)) (headed t at-leaf) (e .0) (c .if9 .left) _ (e .1 .0) in
+      (omega arith, scalar-within (child t (inside t at-leaf)) (headed t at-leaf) (e .0) (c .if9 .left))
 
 module _ (t : ℕ) (c : lts.Joined10 (callees t) (at t) own.Post Inv μ-loop) where
   abbrev at-size : lts.Else9 (callees t) (at t) own.Post Inv μ-loop
@@ -272,11 +273,7 @@ module _ (t : ℕ) (c : lts.Else13 (callees t) (at t) own.Post Inv μ-loop) wher
   span-size = c .before .span .result
 
   span-within : (5 ≤ span-size) × (value t at-span + span-size ≤ end t (loop t at-span))
-  span-within =
-      let s = span-is (value-part t at-span) _ (c .before .span .ensures) (c .if13 .left) in
-      let l = part-length (tape t (loop t at-span)) (value t at-span) (end t (loop t at-span)) (trailed (body t (loop t at-span) .trails)) in
-      let m = headed t at-span .more in
-      (omega (arith, s .0), omega (arith, s .0, s .1))
+  span-within = span-room (child t (inside t at-span)) (headed t at-span) (c .before .span .ensures) (c .if13 .left)
 
 module _ (t : ℕ) (c : lts.Else14 (callees t) (at t) own.Post Inv μ-loop) where
   abbrev at-tree : lts.Else13 (callees t) (at t) own.Post Inv μ-loop
@@ -307,6 +304,25 @@ module _ (t : ℕ) (c : lts.After-frame-of (callees t) (at t) own.Post Inv μ-lo
   opens =
       subst (λ (k : Frame). TreeTurn (depth t (loop t body-start)) (frame t (loop t body-start)) (tape t (loop t body-start)) (place t (inside t body-start)) (end t (loop t body-start)) k (value t body-start + 5) (value t body-start + span-size t (at-tree t at-kind)))
       (ap frameOf (kind-is t body-start) ∙ sym (c .frame-of .ensures)) (tree t at-kind)
+
+-- ---- a blob
+
+module _ (t : ℕ) (c : lts.Else17 (callees t) (at t) own.Post Inv μ-loop) where
+  abbrev at-blob : lts.Joined4 (callees t) (at t) own.Post Inv μ-loop
+  at-blob = c .before .before .before .before .before .before
+
+  abbrev blob-size : ℕ
+  blob-size = c .before .span2 .result
+
+  blob-within : (5 ≤ blob-size) × (value t at-blob + blob-size ≤ end t (loop t at-blob))
+  blob-within = span-room (child t (inside t at-blob)) (headed t at-blob) (c .before .span2 .ensures) (c .if17 .left)
+
+module _ (t : ℕ) (c : lts.After-blob-length (callees t) (at t) own.Post Inv μ-loop) where
+  abbrev blob-start : lts.Joined4 (callees t) (at t) own.Post Inv μ-loop
+  blob-start = at-blob t (c .before)
+
+  blob-text : c .blob-length .result ≡ leafLength (value-part t blob-start)
+  blob-text = let b = c .before .before in blob-told (value-part t blob-start) (kind-is t blob-start ∙ b .before .if16 .taken) _ _ (b .span2 .ensures) (c .before .if17 .left) (c .blob-length .ensures)
 
 -- ---- the needs
 
@@ -423,7 +439,7 @@ module _ (t : ℕ) where
       let v = child t (inside t (at-leaf t i)) in
       let h = headed t (at-leaf t i) in
       let l = i .before .before .leaf-at .ensures .0 in
-      record { fits = omega (arith, front-most v h, scalar-short v h (low t i) l (i .if9 .left), scalar-within v h (low t i) l (i .if9 .left), end-most v, c .before .if10 .taken, c .untold-length .ensures) }
+      record { fits = omega (arith, front-most v h, scalar-short v h l (i .if9 .left), scalar-within v h l (i .if9 .left), end-most v, c .before .if10 .taken, c .untold-length .ensures) }
 
   is-number-requires : lts.Need-is-number-requires (callees t) (at t) own.Post Inv μ-loop
   is-number-requires c κs = (headed t (leaf-start t c) .more, trailed (body t (loop t (leaf-start t c)) .trails))
@@ -445,7 +461,7 @@ module _ (t : ℕ) where
       let i = at-size t j in
       let g = flags-are (headed t (at-leaf t i) .flags .long) in
       let n = c .before .before .before .is-number .ensures in
-      scalar-on (child t (inside t (at-leaf t i))) (headed t (at-leaf t i)) (low t i) (i .before .before .leaf-at .ensures .0) (i .if9 .left) (leaf-text t j)
+      scalar-on (child t (inside t (at-leaf t i))) (headed t (at-leaf t i)) (i .before .before .leaf-at .ensures .0) (i .if9 .left) (λ h. let k = i .before .before .before .if8 .taken in omega arith) (leaf-text t j)
       (⊎-elim (λ w. number-set g (sym n ∙ w .0 .taken) (w .1)) (λ w. number-left g (sym n ∙ w .0 .left) (w .1)) (c .before .before .if11 .came))
 
   span-requires : lts.Need-span-requires (callees t) (at t) own.Post Inv μ-loop
@@ -463,8 +479,8 @@ module _ (t : ℕ) where
       let j = at-span t i in
       let v = child t (inside t j) in
       let m = headed t j .more in
-      let s = clob-code v (headed t j) (c .if14 .taken) (i .before .span .ensures) (i .if13 .left) in
-      let z = clob-two v (headed t j) (c .if14 .taken) (i .before .span .ensures) (i .if13 .left) in
+      let s = sized-code v (headed t j) (omega arith) (λ h. omega arith) (i .before .span .ensures) (i .if13 .left) in
+      let z = sized-two v (headed t j) (omega arith) (λ h. omega arith) (i .before .span .ensures) (i .if13 .left) in
       (omega arith, (body t (loop t j) .trails, (omega arith, rw (c .if14 .taken) refl)))
 
   add-n-5 : lts.Need-add-n-5 (callees t) (at t) own.Post Inv μ-loop
@@ -473,11 +489,9 @@ module _ (t : ℕ) where
       let i = k .before in
       let j = at-span t i in
       let v = child t (inside t j) in
-      let h = headed t j in
       let g = k .if14 .taken in
-      let s = clob-code v h g (i .before .span .ensures) (i .if13 .left) in
-      let z = clob-two v h g (i .before .span .ensures) (i .if13 .left) in
-      record { fits = omega (arith, front-most v h, scalar-short v h (omega arith) s z, scalar-within v h (omega arith) s z, end-most v, c .before .untold-length2 .ensures) }
+      let m = sized-most v (headed t j) (omega arith) (λ h. omega arith) (i .before .span .ensures) (i .if13 .left) in
+      record { fits = omega (arith, m, span-within t i .1, end-most v, c .before .untold-length2 .ensures) }
 
   add-measure-nodes : lts.Need-add-measure-nodes (callees t) (at t) own.Post Inv μ-loop
   add-measure-nodes c = let u = tree t (c .before) in record { fits = omega (arith, u .inner, u .within, end-most (child t (inside t (tree-start t (c .before))))) }
@@ -551,7 +565,7 @@ module _ (t : ℕ) where
       let v = child t (inside t j) in
       let h = headed t j in
       ⊎-elim
-      (λ w. let r = w .1 .ensures in let n = w .5 in rw (w .3, w .4) (clob-on v h (w .0 .taken) (i .before .span .ensures) (i .if13 .left) (omega arith)))
+      (λ w. let g = w .0 .taken in let r = w .1 .ensures in let n = w .5 in rw (w .3, w .4) (sized-on v h (omega arith) (λ h. omega arith) (i .before .span .ensures) (i .if13 .left) (omega arith)))
       (λ w.
       let k : lts.After-frame-of (callees t) (at t) own.Post Inv μ-loop = record { before = record { before = record { before = i; if14 = w .0 }; row-known4 = w .1 }; frame-of = w .2 } in
       let r = w .5 .ensures in
@@ -559,39 +573,84 @@ module _ (t : ℕ) where
       rw (w .9, w .10, w .11) (container-on v h (opens t k) (k .frame-of .ensures) (sym (r .0) ∙ z) (r .1 .0 z) (r .1 .1 .0 z) (r .1 .1 .1 z)))
       (c .before .if14 .came)
 
+  span-requires-2 : lts.Need-span-requires-2 (callees t) (at t) own.Post Inv μ-loop
+  span-requires-2 c κs = let j = c .before .before .before .before in (omega (arith, headed t j .more), trailed (body t (loop t j) .trails))
+
   returns-8 : lts.Need-returns-8 (callees t) (at t) own.Post Inv μ-loop
   returns-8 c =
-      let j = c .before .before .before .before in
-      let l = loop t j in
-      let v = child t (inside t j) in
-      let f = kind-is t j in
-      let k = c .before .if12 .left in
-      refuse v refl (other-refused (depth t l) (frame t l) (tape t l) (place t (inside t j)) (end t l) (v .body .opened) (v .left) (trailed (v .body .trails)) (headed t j .head) (omega arith) (λ e. c .if16 .taken (sym f ∙ e)))
-
-  is-free-requires : lts.Need-is-free-requires (callees t) (at t) own.Post Inv μ-loop
-  is-free-requires c κs = let v = child t (inside t (c .before .before .before .before)) in (v .left, trailed (v .body .trails))
-
-  add-n-7 : lts.Need-add-n-7 (callees t) (at t) own.Post Inv μ-loop
-  add-n-7 c = let j = c .before .before .before .before .before .before .before in let v = child t (inside t j) in record { fits = omega (arith, front-most v (headed t j), end-most v, headed t j .more) }
-
-  add-at-3 : lts.Need-add-at-3 (callees t) (at t) own.Post Inv μ-loop
-  add-at-3 c = let j = c .before .before .before .before .before .before .before .before in record { fits = omega (arith, end-most (child t (inside t j)), headed t j .more) }
-
-  loop-less-3 : lts.Need-loop-less-3 (callees t) (at t) own.Post Inv μ-loop
-  loop-less-3 c = let j = c .before .before .before .before .before .before .before .before in omega (arith, headed t j .more, headed t j .head .behind)
-
-  loop-again-3 : lts.Need-loop-again-3 (callees t) (at t) own.Post Inv μ-loop
-  loop-again-3 c =
-      let j = c .before .before .before .before .before .before .before .before in
-      let p = c .before .before in
-      marker-on (child t (inside t j)) (headed t j) (p .before .before .if16 .left) (sym (p .before .is-free .ensures) ∙ p .if17 .taken)
-
-  returns-9 : lts.Need-returns-9 (callees t) (at t) own.Post Inv μ-loop
-  returns-9 c =
       let j = c .before .before .before .before .before .before in
       let l = loop t j in
       let v = child t (inside t j) in
-      refuse v refl (marker-refused (depth t l) (frame t l) (tape t l) (place t (inside t j)) (end t l) (v .body .opened) (v .left) (trailed (v .body .trails)) (headed t j .head) (kind-is t j ∙ c .before .before .if16 .left) (sym (c .before .is-free .ensures) ∙ c .if17 .left))
+      refuse v refl (blob-refused (depth t l) (frame t l) (tape t l) (place t (inside t j)) (end t l) (v .body .opened) (v .left) (trailed (v .body .trails)) (headed t j .head) (kind-is t j ∙ c .before .before .if16 .taken) (sym (c .if17 .taken) ∙ c .before .span2 .ensures))
+
+  sub-blob-length : lts.Need-sub-blob-length (callees t) (at t) own.Post Inv μ-loop
+  sub-blob-length c = blob-within t c .0
+
+  blob-length-requires : lts.Need-blob-length-requires (callees t) (at t) own.Post Inv μ-loop
+  blob-length-requires c κs = omega (arith, blob-within t c .1, end-most (child t (inside t (at-blob t c))))
+
+  add-n-7 : lts.Need-add-n-7 (callees t) (at t) own.Post Inv μ-loop
+  add-n-7 c =
+      let i = c .before .before in
+      let b = i .before in
+      let j = at-blob t i in
+      let v = child t (inside t j) in
+      let g = b .before .if16 .taken in
+      let m = sized-most v (headed t j) (omega arith) (λ h. g) (b .span2 .ensures) (i .if17 .left) in
+      record { fits = omega (arith, m, blob-within t i .1, end-most v, blob-text t (c .before)) }
+
+  add-at-3 : lts.Need-add-at-3 (callees t) (at t) own.Post Inv μ-loop
+  add-at-3 c =
+      let i = c .before .before .before in
+      record { fits = omega (arith, blob-within t i .1, end-most (child t (inside t (at-blob t i)))) }
+
+  loop-less-3 : lts.Need-loop-less-3 (callees t) (at t) own.Post Inv μ-loop
+  loop-less-3 c =
+      let i = c .before .before .before in
+      omega (arith, blob-within t i .0, blob-within t i .1, headed t (at-blob t i) .head .behind)
+
+  loop-again-3 : lts.Need-loop-again-3 (callees t) (at t) own.Post Inv μ-loop
+  loop-again-3 c =
+      let l = c .before .before in
+      let b = l .before .before in
+      let j = blob-start t l in
+      let g = b .before .if16 .taken in
+      let e = blob-text t l in
+      sized-on (child t (inside t j)) (headed t j) (omega arith) (λ h. g) (b .span2 .ensures) (l .before .if17 .left) (omega arith)
+
+  returns-9 : lts.Need-returns-9 (callees t) (at t) own.Post Inv μ-loop
+  returns-9 c =
+      let j = c .before .before .before .before .before in
+      let l = loop t j in
+      let v = child t (inside t j) in
+      let f = kind-is t j in
+      let k = c .before .before .if12 .left in
+      refuse v refl (other-refused (depth t l) (frame t l) (tape t l) (place t (inside t j)) (end t l) (v .body .opened) (v .left) (trailed (v .body .trails)) (headed t j .head) (omega arith) (λ e. c .if18 .taken (sym f ∙ e)) (λ e. c .before .if16 .left (sym f ∙ e)))
+
+  is-free-requires : lts.Need-is-free-requires (callees t) (at t) own.Post Inv μ-loop
+  is-free-requires c κs = let v = child t (inside t (c .before .before .before .before .before)) in (v .left, trailed (v .body .trails))
+
+  add-n-8 : lts.Need-add-n-8 (callees t) (at t) own.Post Inv μ-loop
+  add-n-8 c = let j = c .before .before .before .before .before .before .before .before in let v = child t (inside t j) in record { fits = omega (arith, front-most v (headed t j), end-most v, headed t j .more) }
+
+  add-at-4 : lts.Need-add-at-4 (callees t) (at t) own.Post Inv μ-loop
+  add-at-4 c = let j = c .before .before .before .before .before .before .before .before .before in record { fits = omega (arith, end-most (child t (inside t j)), headed t j .more) }
+
+  loop-less-4 : lts.Need-loop-less-4 (callees t) (at t) own.Post Inv μ-loop
+  loop-less-4 c = let j = c .before .before .before .before .before .before .before .before .before in omega (arith, headed t j .more, headed t j .head .behind)
+
+  loop-again-4 : lts.Need-loop-again-4 (callees t) (at t) own.Post Inv μ-loop
+  loop-again-4 c =
+      let j = c .before .before .before .before .before .before .before .before .before in
+      let p = c .before .before in
+      marker-on (child t (inside t j)) (headed t j) (p .before .before .if18 .left) (sym (p .before .is-free .ensures) ∙ p .if19 .taken)
+
+  returns-10 : lts.Need-returns-10 (callees t) (at t) own.Post Inv μ-loop
+  returns-10 c =
+      let j = c .before .before .before .before .before .before .before in
+      let l = loop t j in
+      let v = child t (inside t j) in
+      refuse v refl (marker-refused (depth t l) (frame t l) (tape t l) (place t (inside t j)) (end t l) (v .body .opened) (v .left) (trailed (v .body .trails)) (headed t j .head) (kind-is t j ∙ c .before .before .if18 .left) (sym (c .before .is-free .ensures) ∙ c .if19 .left))
 
   add-body-requires : lts.Need-add-body-requires (callees t) (at t) own.Post Inv μ-loop
   add-body-requires c κs = let l = c .before .before in (l .loop .inv .left .long, sums-fit (body t l) (l .loop .inv))
@@ -599,9 +658,9 @@ module _ (t : ℕ) where
   element-write-seen-5 : lts.Need-element-write-seen-5 (callees t) (at t) own.Post Inv μ-loop
   element-write-seen-5 c = search needs
 
-  returns-10 : lts.Need-returns-10 (callees t) (at t) own.Post Inv μ-loop
-  returns-10 c = let l = c .before .before .before in ended (body t l) (l .loop .inv) (c .before .before .loop-test .left) _ (c .add-body .ensures)
+  returns-11 : lts.Need-returns-11 (callees t) (at t) own.Post Inv μ-loop
+  returns-11 c = let l = c .before .before .before in ended (body t l) (l .loop .inv) (c .before .before .loop-test .left) _ (c .add-body .ensures)
 
 pub +measure-nodes-spec : {M : Type 1} → statement M
 +measure-nodes-spec = close μ λ t. lts.spec (callees t) (at t) own.Post Inv μ-loop
-    (returns t) (mul-width t) (sub-width t) (loop-holds t) (behind-name-requires t) (returns-2 t) (field-name-length-requires t) (add-n t) (name-number-requires t) (element-write-seen t) (shared-slice-read-if4 t) (notes-at-requires t) (returns-3 t) (returns-4 t) (add-n-2 t) (element-write-seen-2 t) (element-write-seen-3 t) (add-count t) (shared-slice-read-k t) (leaf-at-requires t) (size-fault-requires t) (returns-5 t) (add-n-3 t) (untold-length-requires t) (add-n-4 t) (is-number-requires t) (element-write-seen-4 t) (add-at t) (loop-less t) (loop-again t) (span-requires t) (returns-6 t) (untold-length-requires-2 t) (add-n-5 t) (add-measure-nodes t) (add-measure-nodes-2 t) (frame-of-requires t) (sub-measure-nodes t) (measure-nodes-requires t) (returns-7 t) (add-n-6 t) (element-copy-out-sums t) (add-sums t) (add-sums-2 t) (element-write-sums t) (add-at-2 t) (loop-less-2 t) (loop-again-2 t) (returns-8 t) (is-free-requires t) (add-n-7 t) (add-at-3 t) (loop-less-3 t) (loop-again-3 t) (returns-9 t) (add-body-requires t) (element-write-seen-5 t) (returns-10 t)
+    (returns t) (mul-width t) (sub-width t) (loop-holds t) (behind-name-requires t) (returns-2 t) (field-name-length-requires t) (add-n t) (name-number-requires t) (element-write-seen t) (shared-slice-read-if4 t) (notes-at-requires t) (returns-3 t) (returns-4 t) (add-n-2 t) (element-write-seen-2 t) (element-write-seen-3 t) (add-count t) (shared-slice-read-k t) (leaf-at-requires t) (size-fault-requires t) (returns-5 t) (add-n-3 t) (untold-length-requires t) (add-n-4 t) (is-number-requires t) (element-write-seen-4 t) (add-at t) (loop-less t) (loop-again t) (span-requires t) (returns-6 t) (untold-length-requires-2 t) (add-n-5 t) (add-measure-nodes t) (add-measure-nodes-2 t) (frame-of-requires t) (sub-measure-nodes t) (measure-nodes-requires t) (returns-7 t) (add-n-6 t) (element-copy-out-sums t) (add-sums t) (add-sums-2 t) (element-write-sums t) (add-at-2 t) (loop-less-2 t) (loop-again-2 t) (span-requires-2 t) (returns-8 t) (sub-blob-length t) (blob-length-requires t) (add-n-7 t) (add-at-3 t) (loop-less-3 t) (loop-again-3 t) (returns-9 t) (is-free-requires t) (add-n-8 t) (add-at-4 t) (loop-less-4 t) (loop-again-4 t) (returns-10 t) (add-body-requires t) (element-write-seen-5 t) (returns-11 t)

@@ -2,7 +2,7 @@
 use native.Mathlib.Omega.{arith}
 use mathlib.Core.Path.{sym, _∙_}
 use Rattle.tokens.proofs.Keeping.{kept-all}
-use Rattle.reader.proofs.ScalarSteps.{scalar-end, scalar-string, scalar-quoted, scalar-clob, scalar-number, scalar-word}
+use Rattle.reader.proofs.ScalarSteps.{scalar-end, scalar-string, scalar-quoted, scalar-braces, scalar-number, scalar-word}
 use borrow.Author.Needs.{needs}
 use Rattle.reader.proofs.scalars.scalar_at.Statement.{statement}
 use Rattle.reader.proofs.scalars.scalar_at.Tie as tie
@@ -37,8 +37,8 @@ returns-3 c =
     let x = c .before .before .before .before .before .before .before .before .before .before .args in
     scalar-quoted (x .m) (x .text .now) (x .at) (omega (arith, c .before .before .before .before .before .before .before .if1 .left, c .before .before .before .before .before .before .before .before .before .before .pre .0)) (c .before .before .before .before .before .if2 .left) (x .pos) (x .buf .now) (c .before .before .symbol-at .last .1 .1 .0) (c .before .before .symbol-at .result) (c .before .before .before .before .if3 .taken) (c .before .before .symbol-at .ensures)
 
-clob-at-requires : tie.Need-clob-at-requires
-clob-at-requires c κs = search needs
+braces-at-requires : tie.Need-braces-at-requires
+braces-at-requires c κs = search needs
 
 same-length-3 : tie.Need-same-length-3
 same-length-3 c = search needs
@@ -46,7 +46,7 @@ same-length-3 c = search needs
 returns-4 : tie.Need-returns-4
 returns-4 c =
     let x = c .before .before .before .before .before .before .before .before .before .before .before .args in
-    rw (scalar-clob (x .m) (x .text .now) (x .at) (omega (arith, c .before .before .before .before .before .before .before .before .if1 .left, c .before .before .before .before .before .before .before .before .before .before .before .pre .0)) (c .before .before .before .before .before .before .if2 .left) (c .before .before .before .before .before .if3 .left) (c .before .before .before .before .if4 .taken)) (c .before .before .clob-at .ensures)
+    rw (scalar-braces (x .m) (x .text .now) (x .at) (omega (arith, c .before .before .before .before .before .before .before .before .if1 .left, c .before .before .before .before .before .before .before .before .before .before .before .pre .0)) (c .before .before .before .before .before .before .if2 .left) (c .before .before .before .before .before .if3 .left) (c .before .before .before .before .if4 .taken)) (c .before .before .braces-at .ensures)
 
 is-numeric-requires : tie.Need-is-numeric-requires
 is-numeric-requires c κs = search needs
@@ -85,7 +85,7 @@ scalar-at-spec =
     symbol-at-requires
     same-length-2
     returns-3
-    clob-at-requires
+    braces-at-requires
     same-length-3
     returns-4
     is-numeric-requires

@@ -20,7 +20,7 @@ use Rattle.tape.proofs.Parts.{part-length, part-first}
 use Rattle.tape.proofs.Reading.{name-sound}
 use Rattle.tape.proofs.CodeReading.{notes-none}
 use Rattle.tape.proofs.CodeFacts.{Ended, end-read, read-within, front-none}
-use Rattle.tape.proofs.Turns.{HeadSeen, LeafSeen, TreeTurn, name-refused, notes-refused, notes-turn, end-refused, size-refused, size-turn, span-refused, span-turn, other-refused, marker-refused, marker-turn}
+use Rattle.tape.proofs.Turns.{HeadSeen, LeafSeen, TreeTurn, name-refused, notes-refused, notes-turn, end-refused, size-refused, size-turn, blob-refused, blob-turn, span-refused, span-turn, other-refused, marker-refused, marker-turn}
 use Rattle.tape.proofs.CodeWalk.{Passed, passed-none, refuse, refuse-node, refuse-deep, pass, passed-all}
 use Rattle.tape.proofs.Parts.{trailed}
 use borrow.Author.Needs.{needs}
@@ -218,14 +218,42 @@ module _ (t : ℕ) (c : lts.After-frame-of (callees t) (at t) own.Post Inv μ-lo
       subst (λ (k : Frame). TreeTurn (depth t i) (frame t i) (tape t i) (place t i) (end t i) k (value t at-body + 5) (value t at-body + c .before .before .before .span .result))
       (ap frameOf (kind-is t at-body) ∙ sym (c .frame-of .ensures)) (tree t (c .before .before))
 
-module _ (t : ℕ) (c : lts.Then11 (callees t) (at t) own.Post Inv μ-loop) where
+module _ (t : ℕ) (c : lts.Else11 (callees t) (at t) own.Post Inv μ-loop) where
+  abbrev at-blob : lts.Joined3 (callees t) (at t) own.Post Inv μ-loop
+  at-blob = c .before .before .before .before .before .before
+
+  blob : LeafSeen (depth t (it t at-blob)) (frame t (it t at-blob)) (tape t (it t at-blob)) (place t (it t at-blob)) (end t (it t at-blob)) (value t at-blob + c .before .span2 .result) false
+  blob =
+      let i = it t at-blob in
+      blob-turn (depth t i) (frame t i) (tape t i) (place t i) (end t i) (opened t i) (left t i) (fits t i) (headed t at-blob .head) (kind-is t at-blob ∙ c .before .before .if10 .taken) _ (c .before .span2 .ensures) (c .if11 .left)
+
+module _ (t : ℕ) (c : lts.Then13 (callees t) (at t) own.Post Inv μ-loop) where
   abbrev at-marker : lts.Joined3 (callees t) (at t) own.Post Inv μ-loop
-  at-marker = c .before .before .before .before .before .before
+  at-marker = c .before .before .before .before .before .before .before
 
   marker : LeafSeen (depth t (it t at-marker)) (frame t (it t at-marker)) (tape t (it t at-marker)) (place t (it t at-marker)) (end t (it t at-marker)) (value t at-marker + 1) false
   marker =
       let i = it t at-marker in
-      marker-turn (depth t i) (frame t i) (tape t i) (place t i) (end t i) (opened t i) (left t i) (fits t i) (headed t at-marker .head) (kind-is t at-marker ∙ c .before .before .if10 .left) (sym (c .before .is-free .ensures) ∙ c .if11 .taken)
+      marker-turn (depth t i) (frame t i) (tape t i) (place t i) (end t i) (opened t i) (left t i) (fits t i) (headed t at-marker .head) (kind-is t at-marker ∙ c .before .before .if12 .left) (sym (c .before .is-free .ensures) ∙ c .if13 .taken)
+
+-- ---- a leaf that is no identifier but 0 is passed
+
+module _ (t : ℕ) (c : lts.Joined3 (callees t) (at t) own.Post Inv μ-loop) (r : ℕ) (u : LeafSeen (depth t (it t c)) (frame t (it t c)) (tape t (it t c)) (place t (it t c)) (end t (it t c)) r false) where
+  passes : (r ≤ end t (it t c)) × (it t c .before .before .before .before .before .loop .count + 1 ≤ r)
+      × Passed (walk (depth t (it t c)) (frame t (it t c)) (part (tape t (it t c)) (it t c .before .before .before .before .before .before .before .before .args .from) (end t (it t c)))) (walk (depth t (it t c)) (frame t (it t c)) (part (tape t (it t c)) r (end t (it t c))))
+      (it t c .before .before .before .before .before .loop .count + 1) (c .if3 .noted) (c .if3 .numbered)
+  passes =
+      let i = it t c in
+      let h = headed t c .head in
+      let hd = headAt (frame t i) (part (tape t i) (place t i) (end t i)) in
+      let f = u .forth in
+      let g = i .before .before .before .before .before .loop .inv .1 in (
+        u .within,
+        omega arith,
+        pass (passed t i) _ _ _ _ (u .step) _ _ (h .sound) (u .sound)
+            (h .notes ∙ sym (ap (λ (b : Bool). notes₀ t i || annotated (hd .1) || b) (u .notes) ∙ or-false _))
+            (h .numbers ∙ sym (ap (λ (b : Bool). numbers₀ t i || headNumbered hd || b) (u .numbers) ∙ or-false _)),
+      )
 
 -- ---- the needs
 
@@ -459,68 +487,91 @@ module _ (t : ℕ) where
             (c .either4 .ensures ∙ ap (λ (b : Bool). b || x .numbered) (h .numbers) ∙ ap (λ (b : Bool). numbers₀ t i || headNumbered hd || b) (k .numbered)),
       )
 
+  span-requires-2 : lts.Need-span-requires-2 (callees t) (at t) own.Post Inv μ-loop
+  span-requires-2 c κs = let m = headed t (c .before .before .before .before) .more in (omega arith, fits t (c .before .before .before .before .before .before))
+
   refused-requires-8 : lts.Need-refused-requires-8 (callees t) (at t) own.Post Inv μ-loop
   refused-requires-8 c κs = search needs
 
   returns-8 : lts.Need-returns-8 (callees t) (at t) own.Post Inv μ-loop
   returns-8 c =
-      let i = c .before .before .before .before .before .before .before in
-      let f = kind-is t (c .before .before .before .before .before) in
-      let j = c .before .before .if7 .left in
-      let u = other-refused (depth t i) (frame t i) (tape t i) (place t i) (end t i) (opened t i) (left t i) (fits t i) (headed t (c .before .before .before .before .before) .head) (omega arith) (λ e. c .before .if10 .taken (sym f ∙ e)) in
+      let j = c .before .before .before .before .before .before .before in
+      let i = it t j in
+      let u = blob-refused (depth t i) (frame t i) (tape t i) (place t i) (end t i) (opened t i) (left t i) (fits t i) (headed t j .head) (kind-is t j ∙ c .before .before .before .if10 .taken) (sym (c .before .if11 .taken) ∙ c .before .before .span2 .ensures) in
       refuse (passed t i) _ 2 (u .fault) (u .some) (c .refused8 .ensures .fault)
-
-  is-free-requires : lts.Need-is-free-requires (callees t) (at t) own.Post Inv μ-loop
-  is-free-requires c κs = (left t (c .before .before .before .before .before .before), fits t (c .before .before .before .before .before .before))
 
   add-count-3 : lts.Need-add-count-3 (callees t) (at t) own.Post Inv μ-loop
   add-count-3 c =
-      let u = marker t c in
-      let f = u .forth in
+      let u = blob t c in
       let w = u .within in
-      let g = c .before .before .before .before .before .before .before .before .before .before .before .before .before .loop .inv .1 in
+      let g = passes t (at-blob t c) _ u .1 in
       record { fits = omega arith }
 
   add-at-3 : lts.Need-add-at-3 (callees t) (at t) own.Post Inv μ-loop
   add-at-3 c =
-      let u = marker t (c .before) in
+      let u = blob t (c .before) in
       let w = u .within in
-      let g = u .forth in
       record { fits = omega arith }
 
   loop-less-3 : lts.Need-loop-less-3 (callees t) (at t) own.Post Inv μ-loop
   loop-less-3 c =
-      let u = marker t (c .before) in
+      let u = blob t (c .before) in
       let f = u .forth in
       let w = u .within in
       omega arith
 
   loop-again-3 : lts.Need-loop-again-3 (callees t) (at t) own.Post Inv μ-loop
-  loop-again-3 c =
-      let i = c .before .before .before .before .before .before .before .before .before in
-      let h = headed t (c .before .before .before .before .before .before .before) .head in
-      let hd = headAt (frame t i) (part (tape t i) (place t i) (end t i)) in
-      let u = marker t (c .before) in
-      let f = u .forth in
-      let g = c .before .before .before .before .before .before .before .before .before .before .before .before .before .before .loop .inv .1 in (
-        u .within,
-        omega arith,
-        pass (passed t i) _ _ _ _ (u .step) _ _ (h .sound) (u .sound)
-            (h .notes ∙ sym (ap (λ (b : Bool). notes₀ t i || annotated (hd .1) || b) (u .notes) ∙ or-false _))
-            (h .numbers ∙ sym (ap (λ (b : Bool). numbers₀ t i || headNumbered hd || b) (u .numbers) ∙ or-false _)),
-      )
+  loop-again-3 c = passes t (at-blob t (c .before)) _ (blob t (c .before))
 
   refused-requires-9 : lts.Need-refused-requires-9 (callees t) (at t) own.Post Inv μ-loop
   refused-requires-9 c κs = search needs
 
   returns-9 : lts.Need-returns-9 (callees t) (at t) own.Post Inv μ-loop
   returns-9 c =
-      let i = c .before .before .before .before .before .before .before .before .before in
-      let u = marker-refused (depth t i) (frame t i) (tape t i) (place t i) (end t i) (opened t i) (left t i) (fits t i) (headed t (c .before .before .before .before .before .before .before) .head) (kind-is t (c .before .before .before .before .before .before .before) ∙ c .before .before .before .if10 .left) (sym (c .before .before .is-free .ensures) ∙ c .before .if11 .left) in
+      let i = c .before .before .before .before .before .before .before .before in
+      let f = kind-is t (c .before .before .before .before .before .before) in
+      let j = c .before .before .before .if7 .left in
+      let u = other-refused (depth t i) (frame t i) (tape t i) (place t i) (end t i) (opened t i) (left t i) (fits t i) (headed t (c .before .before .before .before .before .before) .head) (omega arith) (λ e. c .before .if12 .taken (sym f ∙ e)) (λ e. c .before .before .if10 .left (sym f ∙ e)) in
       refuse (passed t i) _ 2 (u .fault) (u .some) (c .refused9 .ensures .fault)
+
+  is-free-requires : lts.Need-is-free-requires (callees t) (at t) own.Post Inv μ-loop
+  is-free-requires c κs = (left t (c .before .before .before .before .before .before .before), fits t (c .before .before .before .before .before .before .before))
+
+  add-count-4 : lts.Need-add-count-4 (callees t) (at t) own.Post Inv μ-loop
+  add-count-4 c =
+      let u = marker t c in
+      let w = u .within in
+      let g = passes t (at-marker t c) _ u .1 in
+      record { fits = omega arith }
+
+  add-at-4 : lts.Need-add-at-4 (callees t) (at t) own.Post Inv μ-loop
+  add-at-4 c =
+      let u = marker t (c .before) in
+      let w = u .within in
+      record { fits = omega arith }
+
+  loop-less-4 : lts.Need-loop-less-4 (callees t) (at t) own.Post Inv μ-loop
+  loop-less-4 c =
+      let u = marker t (c .before) in
+      let f = u .forth in
+      let w = u .within in
+      omega arith
+
+  loop-again-4 : lts.Need-loop-again-4 (callees t) (at t) own.Post Inv μ-loop
+  loop-again-4 c = passes t (at-marker t (c .before)) _ (marker t (c .before))
+
+  refused-requires-10 : lts.Need-refused-requires-10 (callees t) (at t) own.Post Inv μ-loop
+  refused-requires-10 c κs = search needs
 
   returns-10 : lts.Need-returns-10 (callees t) (at t) own.Post Inv μ-loop
   returns-10 c =
+      let j = c .before .before .before .before .before .before .before .before in
+      let i = it t j in
+      let u = marker-refused (depth t i) (frame t i) (tape t i) (place t i) (end t i) (opened t i) (left t i) (fits t i) (headed t j .head) (kind-is t j ∙ c .before .before .before .if12 .left) (sym (c .before .before .is-free .ensures) ∙ c .before .if13 .left) in
+      refuse (passed t i) _ 2 (u .fault) (u .some) (c .refused10 .ensures .fault)
+
+  returns-11 : lts.Need-returns-11 (callees t) (at t) own.Post Inv μ-loop
+  returns-11 c =
       let s = c .before .before .before .before in
       let a = s .args in
       let l = c .before .loop in
@@ -530,4 +581,4 @@ module _ (t : ℕ) where
 
 pub +check-nodes-spec : {M : Type 1} → statement M
 +check-nodes-spec = close μ λ t. lts.spec (callees t) (at t) own.Post Inv μ-loop
-    (refused-requires t) (returns t) (loop-holds t) (behind-name-requires t) (refused-requires-2 t) (returns-2 t) (name-number-requires t) (either-requires t) (shared-slice-read-if3 t) (notes-seen-requires t) (enum-known-r t) (enum-told t) (refused-requires-3 t) (returns-3 t) (refused-requires-4 t) (returns-4 t) (shared-slice-read-k t) (scalar-size-requires t) (size-fault-requires t) (refused-requires-5 t) (returns-5 t) (is-number-requires t) (either-requires-2 t) (add-count t) (add-at t) (loop-less t) (loop-again t) (span-requires t) (refused-requires-6 t) (returns-6 t) (add-check-nodes t) (add-check-nodes-2 t) (frame-of-requires t) (sub-check-nodes t) (check-nodes-requires t) (refused-requires-7 t) (returns-7 t) (either-requires-3 t) (either-requires-4 t) (add-count-2 t) (add-at-2 t) (loop-less-2 t) (loop-again-2 t) (refused-requires-8 t) (returns-8 t) (is-free-requires t) (add-count-3 t) (add-at-3 t) (loop-less-3 t) (loop-again-3 t) (refused-requires-9 t) (returns-9 t) (returns-10 t)
+    (refused-requires t) (returns t) (loop-holds t) (behind-name-requires t) (refused-requires-2 t) (returns-2 t) (name-number-requires t) (either-requires t) (shared-slice-read-if3 t) (notes-seen-requires t) (enum-known-r t) (enum-told t) (refused-requires-3 t) (returns-3 t) (refused-requires-4 t) (returns-4 t) (shared-slice-read-k t) (scalar-size-requires t) (size-fault-requires t) (refused-requires-5 t) (returns-5 t) (is-number-requires t) (either-requires-2 t) (add-count t) (add-at t) (loop-less t) (loop-again t) (span-requires t) (refused-requires-6 t) (returns-6 t) (add-check-nodes t) (add-check-nodes-2 t) (frame-of-requires t) (sub-check-nodes t) (check-nodes-requires t) (refused-requires-7 t) (returns-7 t) (either-requires-3 t) (either-requires-4 t) (add-count-2 t) (add-at-2 t) (loop-less-2 t) (loop-again-2 t) (span-requires-2 t) (refused-requires-8 t) (returns-8 t) (add-count-3 t) (add-at-3 t) (loop-less-3 t) (loop-again-3 t) (refused-requires-9 t) (returns-9 t) (is-free-requires t) (add-count-4 t) (add-at-4 t) (loop-less-4 t) (loop-again-4 t) (refused-requires-10 t) (returns-10 t) (returns-11 t)

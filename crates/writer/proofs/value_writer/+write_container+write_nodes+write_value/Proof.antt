@@ -30,6 +30,7 @@ use Rattle.writer.proofs.value_writer.+write_container+write_nodes+writ
 use Rattle.writer.proofs.value_writer.write_value.Reads as value
 use Rattle.writer.proofs.value_writer.write_value.Kinds as value-kinds
 use Rattle.writer.proofs.value_writer.+write_container+write_nodes+write_value.Lts-write_value as value-lts
+use Rattle.writer.proofs.value_writer.write_blob_node.Reads as write-blob-node
 use Rattle.writer.proofs.value_writer.write_close.Reads as write-close
 use Rattle.writer.proofs.value_writer.write_ending.Reads as write-ending
 use Rattle.writer.proofs.value_writer.write_front.Reads as write-front
@@ -76,7 +77,7 @@ abbrev nodes-calls : ℕ → nodes-lts.Claims
 nodes-calls t = (separator-of.Asked, separator-of.Learnt, write-front.Asked, write-front.Learnt, value-below t, value.Post, write-ending.Asked, write-ending.Learnt)
 
 abbrev value-calls : ℕ → value-lts.Claims
-value-calls t = (write-leaf.Asked, write-leaf.Learnt, write-marker.Asked, write-marker.Learnt, container-below t, container-reads.Post)
+value-calls t = (write-leaf.Asked, write-leaf.Learnt, write-marker.Asked, write-marker.Learnt, write-blob-node.Asked, write-blob-node.Learnt, container-below t, container-reads.Post)
 
 abbrev Inv : nodes-lts.InvT-loop
 Inv tape from end frame depth layout width buf₀ pos s at₀ p₀ buf at p =
@@ -194,7 +195,8 @@ module _ (t : ℕ) where
       let a = s .args in
       let i = s .pre .1 .1 .0 in
       let z = s .pre .1 .1 .1 .1 .1 in
-      (s .pre .1 .1 .1 .0, (s .pre .1 .0, (i, scalar-some (a .layout) (a .width) (a .depth) (now (a .tape)) (a .at) (a .end) (trailed i) z (c .before .if1 .taken))))
+      let h = c .before .if1 .taken in
+      (s .pre .1 .1 .1 .0, (s .pre .1 .0, (i, scalar-some (a .layout) (a .width) (a .depth) (now (a .tape)) (a .at) (a .end) (trailed i) z (λ j b d q. omega arith))))
 
   value-same-length : value-lts.Need-same-length (value-calls t) (value-at t) value.Post
   value-same-length c = search needs
@@ -206,7 +208,7 @@ module _ (t : ℕ) where
       let i = s .pre .1 .1 .0 in
       let z = s .pre .1 .1 .1 .1 .1 in
       let h = c .before .before .before .before .if1 .taken in
-      (rw (scalar-text (a .layout) (a .width) (a .depth) (now (a .tape)) (a .at) (a .end) (trailed i) z h) (c .before .before .write-leaf .ensures .0), rw (scalar-size (a .layout) (a .width) (a .depth) (now (a .tape)) (a .at) (a .end) (trailed i) z h) (c .before .before .write-leaf .ensures .1))
+      (rw (scalar-text (a .layout) (a .width) (a .depth) (now (a .tape)) (a .at) (a .end) (trailed i) z (λ j b d q. omega arith)) (c .before .before .write-leaf .ensures .0), rw (scalar-size (a .layout) (a .width) (a .depth) (now (a .tape)) (a .at) (a .end) (trailed i) z (λ j b d q. omega arith)) (c .before .before .write-leaf .ensures .1))
 
   value-write-marker-requires : value-lts.Need-write-marker-requires (value-calls t) (value-at t) value.Post
   value-write-marker-requires c κs = c .before .before .before .before .before .before .pre .1 .1 .1 .0
@@ -233,21 +235,42 @@ module _ (t : ℕ) where
       let h = c .before .before .before .before .if2 .taken in
       (rw (marker-text (a .layout) (a .width) (a .depth) (now (a .tape)) (a .at) (a .end) (trailed i) z h) (c .before .before .write-marker .ensures), rw (marker-length (a .layout) (a .width) (a .depth) (now (a .tape)) (a .at) (a .end) (trailed i) z h))
 
-  value-write-container-requires : value-lts.Need-write-container-requires (value-calls t) (value-at t) value.Post
-  value-write-container-requires c κs =
-      let s = c .before .before .before .before .before .before in
+  value-write-blob-node-requires : value-lts.Need-write-blob-node-requires (value-calls t) (value-at t) value.Post
+  value-write-blob-node-requires c κs =
+      let s = c .before .before .before .before .before .before .before in
       let a = s .args in
       let i = s .pre .1 .1 .0 in
       let z = s .pre .1 .1 .1 .1 .1 in
-      let x = c .before .before .if1 .left in
-      let y = s .pre .0 in
-      (omega arith, (s .pre .1 .0, (i, (s .pre .1 .1 .1 .0, (s .pre .1 .1 .1 .1 .0, (z, (omega arith, c .before .if2 .left)))))))
+      let h = c .before .if3 .taken in
+      (s .pre .1 .1 .1 .0, (s .pre .1 .0, (i, (scalar-some (a .layout) (a .width) (a .depth) (now (a .tape)) (a .at) (a .end) (trailed i) z (λ j b d q. omega arith), h))))
 
   value-same-length-3 : value-lts.Need-same-length-3 (value-calls t) (value-at t) value.Post
   value-same-length-3 c = search needs
 
   value-returns-3 : value-lts.Need-returns-3 (value-calls t) (value-at t) value.Post
-  value-returns-3 c = c .before .before .write-container .ensures
+  value-returns-3 c =
+      let s = c .before .before .before .before .before .before .before .before .before .before in
+      let a = s .args in
+      let i = s .pre .1 .1 .0 in
+      let z = s .pre .1 .1 .1 .1 .1 in
+      let h = c .before .before .before .before .if3 .taken in
+      (rw (scalar-text (a .layout) (a .width) (a .depth) (now (a .tape)) (a .at) (a .end) (trailed i) z (λ j b d q. omega arith)) (c .before .before .write-blob-node .ensures .0), rw (scalar-size (a .layout) (a .width) (a .depth) (now (a .tape)) (a .at) (a .end) (trailed i) z (λ j b d q. omega arith)) (c .before .before .write-blob-node .ensures .1))
+
+  value-write-container-requires : value-lts.Need-write-container-requires (value-calls t) (value-at t) value.Post
+  value-write-container-requires c κs =
+      let s = c .before .before .before .before .before .before .before in
+      let a = s .args in
+      let i = s .pre .1 .1 .0 in
+      let z = s .pre .1 .1 .1 .1 .1 in
+      let x = c .before .before .before .if1 .left in
+      let y = s .pre .0 in
+      (omega arith, (s .pre .1 .0, (i, (s .pre .1 .1 .1 .0, (s .pre .1 .1 .1 .1 .0, (z, (omega arith, c .before .before .if2 .left, c .before .if3 .left)))))))
+
+  value-same-length-4 : value-lts.Need-same-length-4 (value-calls t) (value-at t) value.Post
+  value-same-length-4 c = search needs
+
+  value-returns-4 : value-lts.Need-returns-4 (value-calls t) (value-at t) value.Post
+  value-returns-4 c = c .before .before .write-container .ensures
 
   -- ---- a container
 
@@ -259,7 +282,8 @@ module _ (t : ℕ) where
       let z = s .pre .1 .1 .1 .1 .1 .0 in
       let h = s .pre .1 .1 .1 .1 .1 .1 .0 in
       let m = s .pre .1 .1 .1 .1 .1 .1 .1 in
-      let r = header-room (a .layout) (a .width) (a .depth) (now (a .tape)) (a .at) (a .end) (trailed i) z h m in
+      let n = s .pre .1 .1 .1 .1 .1 .1 .2 in
+      let r = header-room (a .layout) (a .width) (a .depth) (now (a .tape)) (a .at) (a .end) (trailed i) z h m n in
       omega arith
 
   container-frame-of-requires : container-lts.Need-frame-of-requires (container-calls t) (container-at t) container-reads.Post
@@ -273,7 +297,8 @@ module _ (t : ℕ) where
       let z = s .pre .1 .1 .1 .1 .1 .0 in
       let h = s .pre .1 .1 .1 .1 .1 .1 .0 in
       let m = s .pre .1 .1 .1 .1 .1 .1 .1 in
-      let r = header-room (a .layout) (a .width) (a .depth) (now (a .tape)) (a .at) (a .end) (trailed i) z h m in
+      let n = s .pre .1 .1 .1 .1 .1 .1 .2 in
+      let r = header-room (a .layout) (a .width) (a .depth) (now (a .tape)) (a .at) (a .end) (trailed i) z h m n in
       let k = c .before .before .before .shared-slice-known .given in
       omega arith
 
@@ -285,7 +310,8 @@ module _ (t : ℕ) where
       let z = s .pre .1 .1 .1 .1 .1 .0 in
       let h = s .pre .1 .1 .1 .1 .1 .1 .0 in
       let m = s .pre .1 .1 .1 .1 .1 .1 .1 in
-      let r = header-room (a .layout) (a .width) (a .depth) (now (a .tape)) (a .at) (a .end) (trailed i) z h m in
+      let n = s .pre .1 .1 .1 .1 .1 .1 .2 in
+      let r = header-room (a .layout) (a .width) (a .depth) (now (a .tape)) (a .at) (a .end) (trailed i) z h m n in
       let k = c .before .before .before .shared-slice-known .given in
       omega arith
 
@@ -297,7 +323,8 @@ module _ (t : ℕ) where
       let z = s .pre .1 .1 .1 .1 .1 .0 in
       let h = s .pre .1 .1 .1 .1 .1 .1 .0 in
       let m = s .pre .1 .1 .1 .1 .1 .1 .1 in
-      let r = header-room (a .layout) (a .width) (a .depth) (now (a .tape)) (a .at) (a .end) (trailed i) z h m in
+      let n = s .pre .1 .1 .1 .1 .1 .1 .2 in
+      let r = header-room (a .layout) (a .width) (a .depth) (now (a .tape)) (a .at) (a .end) (trailed i) z h m n in
       omega arith
 
   container-add-stop : container-lts.Need-add-stop (container-calls t) (container-at t) container-reads.Post
@@ -308,8 +335,9 @@ module _ (t : ℕ) where
       let z = s .pre .1 .1 .1 .1 .1 .0 in
       let h = s .pre .1 .1 .1 .1 .1 .1 .0 in
       let m = s .pre .1 .1 .1 .1 .1 .1 .1 in
-      let r = header-room (a .layout) (a .width) (a .depth) (now (a .tape)) (a .at) (a .end) (trailed i) z h m in
-      let q = container (a .layout) (a .width) (a .depth) (now (a .tape)) (a .at) (a .end) (trailed i) z h m _ (c .before .frame-of .ensures) _ (c .u32-at .ensures .0) in
+      let n = s .pre .1 .1 .1 .1 .1 .1 .2 in
+      let r = header-room (a .layout) (a .width) (a .depth) (now (a .tape)) (a .at) (a .end) (trailed i) z h m n in
+      let q = container (a .layout) (a .width) (a .depth) (now (a .tape)) (a .at) (a .end) (trailed i) z h m n _ (c .before .frame-of .ensures) _ (c .u32-at .ensures .0) in
       let k = c .before .before .before .before .shared-slice-known .given in
       let o = q .room in
       omega arith
@@ -328,8 +356,9 @@ module _ (t : ℕ) where
       let z = s .pre .1 .1 .1 .1 .1 .0 in
       let h = s .pre .1 .1 .1 .1 .1 .1 .0 in
       let m = s .pre .1 .1 .1 .1 .1 .1 .1 in
-      let r = header-room (a .layout) (a .width) (a .depth) (now (a .tape)) (a .at) (a .end) (trailed i) z h m in
-      let q = container (a .layout) (a .width) (a .depth) (now (a .tape)) (a .at) (a .end) (trailed i) z h m _ (c .before .before .before .before .before .before .before .frame-of .ensures) _ (c .before .before .before .before .before .before .u32-at .ensures .0) in
+      let n = s .pre .1 .1 .1 .1 .1 .1 .2 in
+      let r = header-room (a .layout) (a .width) (a .depth) (now (a .tape)) (a .at) (a .end) (trailed i) z h m n in
+      let q = container (a .layout) (a .width) (a .depth) (now (a .tape)) (a .at) (a .end) (trailed i) z h m n _ (c .before .before .before .before .before .before .before .frame-of .ensures) _ (c .before .before .before .before .before .before .u32-at .ensures .0) in
       let y = s .pre .0 in
       let o = q .room in
       let b = s .pre .1 .1 .1 .1 .0 in
@@ -351,8 +380,9 @@ module _ (t : ℕ) where
       let z = s .pre .1 .1 .1 .1 .1 .0 in
       let h = s .pre .1 .1 .1 .1 .1 .1 .0 in
       let m = s .pre .1 .1 .1 .1 .1 .1 .1 in
-      let r = header-room (a .layout) (a .width) (a .depth) (now (a .tape)) (a .at) (a .end) (trailed i) z h m in
-      let q = container (a .layout) (a .width) (a .depth) (now (a .tape)) (a .at) (a .end) (trailed i) z h m _ (c .before .before .before .before .before .before .before .before .before .before .before .before .before .before .frame-of .ensures) _ (c .before .before .before .before .before .before .before .before .before .before .before .before .before .u32-at .ensures .0) in
+      let n = s .pre .1 .1 .1 .1 .1 .1 .2 in
+      let r = header-room (a .layout) (a .width) (a .depth) (now (a .tape)) (a .at) (a .end) (trailed i) z h m n in
+      let q = container (a .layout) (a .width) (a .depth) (now (a .tape)) (a .at) (a .end) (trailed i) z h m n _ (c .before .before .before .before .before .before .before .before .before .before .before .before .before .before .frame-of .ensures) _ (c .before .before .before .before .before .before .before .before .before .before .before .before .before .u32-at .ensures .0) in
       let b = rw (c .before .before .before .before .before .before .before .before .indentation .ensures) at (c .before .before .before .before .before .before .write-nodes .ensures .0) in
       (rw (q .written) (wrote-then (wrote-then (c .before .before .before .before .before .before .before .before .before .before .before .write-start .ensures) b) (c .before .before .write-close .ensures)), q .place)
 
@@ -362,4 +392,4 @@ pub +write-container+write-nodes+write-value-spec : {M : Type 1} → statement M
     (λ t. nodes-lts.spec (nodes-calls t) (nodes-at t) nodes.Post Inv μ-loop
     (nodes-returns t) (nodes-separator-of-requires t) (nodes-loop-holds t) (nodes-write-front-requires t) (nodes-sub-write-value t) (nodes-write-value-requires t) (nodes-write-ending-requires t) (nodes-loop-less t) (nodes-loop-again t) (nodes-same-length t) (nodes-returns-2 t))
     λ t. value-lts.spec (value-calls t) (value-at t) value.Post
-    (value-shared-slice-read-k t) (value-write-leaf-requires t) (value-same-length t) (value-returns t) (value-write-marker-requires t) (value-add-t18 t) (value-same-length-2 t) (value-returns-2 t) (value-write-container-requires t) (value-same-length-3 t) (value-returns-3 t)
+    (value-shared-slice-read-k t) (value-write-leaf-requires t) (value-same-length t) (value-returns t) (value-write-marker-requires t) (value-add-t18 t) (value-same-length-2 t) (value-returns-2 t) (value-write-blob-node-requires t) (value-same-length-3 t) (value-returns-3 t) (value-write-container-requires t) (value-same-length-4 t) (value-returns-4 t)

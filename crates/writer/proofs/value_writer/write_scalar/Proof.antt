@@ -27,6 +27,7 @@ unreached (C.Symbol n) r k = r
 unreached (C.Id i) r k = miss (2 ∷ 4 ∷ 5 ∷ 6 ∷ 8 ∷ []) 7 tt k
 unreached (C.«String» n) r k = r
 unreached (C.Clob n) r k = miss (2 ∷ 4 ∷ 5 ∷ 6 ∷ 8 ∷ []) 9 tt k
+unreached (C.Blob n) r k = miss (2 ∷ 4 ∷ 5 ∷ 6 ∷ 8 ∷ []) 10 tt k
 
 enum-known-s : tie.Need-enum-known-s
 enum-known-s c = search needs
@@ -34,8 +35,8 @@ enum-known-s c = search needs
 format-null-requires : tie.Need-format-null-requires
 format-null-requires c κs = search needs
 
-add-t16 : tie.Need-add-t16
-add-t16 c = search needs
+add-t17 : tie.Need-add-t17
+add-t17 c = search needs
 
 enum-known-s-2 : tie.Need-enum-known-s-2
 enum-known-s-2 c = search needs
@@ -43,8 +44,8 @@ enum-known-s-2 c = search needs
 format-bool-requires : tie.Need-format-bool-requires
 format-bool-requires c κs = search needs
 
-add-t20 : tie.Need-add-t20
-add-t20 c = search needs
+add-t21 : tie.Need-add-t21
+add-t21 c = search needs
 
 enum-known-s-3 : tie.Need-enum-known-s-3
 enum-known-s-3 c = search needs
@@ -52,8 +53,8 @@ enum-known-s-3 c = search needs
 format-float-requires : tie.Need-format-float-requires
 format-float-requires c κs = search needs
 
-add-t24 : tie.Need-add-t24
-add-t24 c = search needs
+add-t25 : tie.Need-add-t25
+add-t25 c = search needs
 
 enum-known-s-4 : tie.Need-enum-known-s-4
 enum-known-s-4 c = search needs
@@ -61,8 +62,8 @@ enum-known-s-4 c = search needs
 format-symbol-id-requires : tie.Need-format-symbol-id-requires
 format-symbol-id-requires c κs = search needs
 
-add-t28 : tie.Need-add-t28
-add-t28 c = search needs
+add-t29 : tie.Need-add-t29
+add-t29 c = search needs
 
 enum-known-s-5 : tie.Need-enum-known-s-5
 enum-known-s-5 c = search needs
@@ -73,18 +74,43 @@ write-clob-requires c κs =
     let e : sizeOf (s .args .s) ≡ 5 + c .before .before .s5 .given .0 .0 = ap sizeOf (c .before .before .s5 .given .1) in
     (s .pre .0, (omega arith, s .pre .1 .1 .0))
 
-add-t32 : tie.Need-add-t32
-add-t32 c =
+add-t33 : tie.Need-add-t33
+add-t33 c =
     let s = c .before .before .before .before .before .before .before .before .before in
     let e : sizeOf (s .args .s) ≡ 5 + c .before .before .before .before .before .s5 .given .0 .0 = ap sizeOf (c .before .before .before .before .before .s5 .given .1) in
     let h = s .pre .1 .0 in
     let k = s .pre .1 .1 .0 in
     record { fits = omega arith }
 
-add-t33 : tie.Need-add-t33
-add-t33 c =
+add-t34 : tie.Need-add-t34
+add-t34 c =
     let s = c .before .before .before .before .before .before .before .before .before in
     let e : sizeOf (s .args .s) ≡ 5 + c .before .before .before .before .before .s5 .given .0 .0 = ap sizeOf (c .before .before .before .before .before .s5 .given .1) in
+    let h = s .pre .1 .0 in
+    let k = s .pre .1 .1 .0 in
+    record { fits = omega arith }
+
+enum-known-s-6 : tie.Need-enum-known-s-6
+enum-known-s-6 c = search needs
+
+write-blob-requires : tie.Need-write-blob-requires
+write-blob-requires c κs =
+    let s = c .before .before .before .before .before .before in
+    let e : sizeOf (s .args .s) ≡ 5 + c .before .before .s6 .given .0 .0 = ap sizeOf (c .before .before .s6 .given .1) in
+    (s .pre .0, (omega arith, s .pre .1 .1 .0))
+
+add-t38 : tie.Need-add-t38
+add-t38 c =
+    let s = c .before .before .before .before .before .before .before .before .before in
+    let e : sizeOf (s .args .s) ≡ 5 + c .before .before .before .before .before .s6 .given .0 .0 = ap sizeOf (c .before .before .before .before .before .s6 .given .1) in
+    let h = s .pre .1 .0 in
+    let k = s .pre .1 .1 .0 in
+    record { fits = omega arith }
+
+add-t39 : tie.Need-add-t39
+add-t39 c =
+    let s = c .before .before .before .before .before .before .before .before .before in
+    let e : sizeOf (s .args .s) ≡ 5 + c .before .before .before .before .before .s6 .given .0 .0 = ap sizeOf (c .before .before .before .before .before .s6 .given .1) in
     let h = s .pre .1 .0 in
     let k = s .pre .1 .1 .0 in
     record { fits = omega arith }
@@ -124,8 +150,15 @@ returns-5 : tie.Need-returns-5
 unfolding scalarText
 returns-5 c = let g = c .before .before .before .before .before .s5 .given .1 in (rw g (c .before .before .write-clob .ensures), rw g)
 
+same-length-6 : tie.Need-same-length-6
+same-length-6 c = search needs
+
 returns-6 : tie.Need-returns-6
-returns-6 c = let s = c .before .before .before in absurd (unreached (s .args .s) (s .pre .1 .1 .1) (c .match .keys6))
+unfolding scalarText
+returns-6 c = let g = c .before .before .before .before .before .s6 .given .1 in (rw g (c .before .before .write-blob .ensures), rw g)
+
+returns-7 : tie.Need-returns-7
+returns-7 c = let s = c .before .before .before in absurd (unreached (s .args .s) (s .pre .1 .1 .1) (c .match .keys7))
 
 pub write-scalar-spec : {M : Type 1} → statement M
 write-scalar-spec =
@@ -133,20 +166,24 @@ write-scalar-spec =
     (tie.spec
     enum-known-s
     format-null-requires
-    add-t16
+    add-t17
     enum-known-s-2
     format-bool-requires
-    add-t20
+    add-t21
     enum-known-s-3
     format-float-requires
-    add-t24
+    add-t25
     enum-known-s-4
     format-symbol-id-requires
-    add-t28
+    add-t29
     enum-known-s-5
     write-clob-requires
-    add-t32
     add-t33
+    add-t34
+    enum-known-s-6
+    write-blob-requires
+    add-t38
+    add-t39
     same-length
     returns
     same-length-2
@@ -157,4 +194,6 @@ write-scalar-spec =
     returns-4
     same-length-5
     returns-5
-    returns-6)
+    same-length-6
+    returns-6
+    returns-7)
