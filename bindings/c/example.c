@@ -1,4 +1,4 @@
-/* An example in C: a pass list written in every text and read back, then a damaged one read line by line.
+/* An example in C: a pass list written in every text and read back, fields of a pass found by name, then a damaged list read line by line.
 
    From the repository's root:
        rt staticlib ion_c
@@ -121,6 +121,17 @@ static void read_back(const struct tape *t, size_t length) {
     printf("-- %zu bytes of text, read back as the same %zu bytes of tape\n\n", length, count);
 }
 
+/* A field of an index, by its name. */
+static void print_field(const struct tape *t, const ion_entry *index, size_t fields, const char *name) {
+    int64_t place = ion_find(t->bytes, t->length, index, fields, (const uint8_t *)name, strlen(name));
+    if (place == ION_NONE) {
+        printf("%s: no field has this name\n", name);
+    } else {
+        size_t value = (size_t)index[place].value;
+        printf("%s: place %d, a value of kind %d at offset %d\n", name, (int)place, t->bytes[value], (int)value);
+    }
+}
+
 int main(void) {
     static const char *const names[] = {"Compact", "Lines", "Pretty"};
     struct tape three = {{0}, 0}, one = {{0}, 0};
@@ -153,6 +164,21 @@ int main(void) {
         return 1;
     }
     printf("-- the same list in Lines: refused 5, since streaming has no annotations\n\n");
+
+    /* The fields of the first pass, whose struct starts the tape, sorted by name; and some looked up. */
+    ion_entry index[8];
+    size_t fields = counted("ion_index", ion_index(three.bytes, three.length, 0, index, 8));
+    printf("-- the fields of the first pass, sorted by name\n");
+    for (size_t i = 0; i < fields; i++) {
+        /* A name by its text: the kind byte, u32 length, the text; then comes the value. */
+        int name_length = (int)(index[i].value - index[i].name) - 5;
+        printf("%.*s, its value at offset %d\n", name_length, (const char *)three.bytes + index[i].name + 5, (int)index[i].value);
+    }
+    printf("-- and looked up\n");
+    print_field(&three, index, fields, "rise");
+    print_field(&three, index, fields, "norad");
+    print_field(&three, index, fields, "magnitude");
+    putchar('\n');
 
     /* The Lines text again, in exactly as many bytes as it has, which are known before it is written. A relay loses a block of 64 bytes, all of
        them within the second line, and puts ? in their place. */

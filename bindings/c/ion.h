@@ -1,18 +1,20 @@
-/* Ion text for C and C++ (x86-64 Linux): tapes written as text, texts read back as tapes. Link target/staticlib/libion_c.a, which
-   `rt staticlib ion_c` makes and which needs nothing but memset.
+/* Ion text for C and C++ (x86-64 Linux): tapes written as text, texts read back as tapes, the fields of a struct found by name. Link
+   target/staticlib/libion_c.a, which `rt staticlib ion_c` makes and which needs nothing but memset.
 
    A tape is the binary form of a list of values: nodes, then u32 body length and u32 number of top-level nodes, all little-endian.
    docs/FORMAT.md has the nodes byte by byte, the texts, and the grammar of what is read.
 
-   Every call answers a count, of the bytes that it finished at the start of `out`, or for ion_length and ion_tree_length of those that a text will
-   have; or one of the refusals below. Where more than one refusal would do, the first in the list at the function comes. `out` has any length; bytes behind it are never touched, nor is the tape or text.
+   Every call but the lookups answers a count, of the bytes that it finished at the start of `out`, or for ion_length and ion_tree_length of those
+   that a text will have, or for ion_index of a struct's fields; or one of the refusals below. Where more than one refusal would do, the first in the
+   list at the function comes. The lookups, ion_find and ion_find_id, answer a place or ION_NONE. `out` and `entries` have any length; bytes behind
+   them are never touched, nor is the tape or text.
 
    What a caller owes:
    - Each pointer and its length name memory that is there during the call. With length 0 the pointer is not followed, so it may be null.
-   - `out` shares no byte with the tape or the text, and `at` none with either.
-   - Nobody else writes the tape, text, `at` or `out` during the call.
-   The library has no state and keeps no pointer: threads may call it at once, each with its own `out`. It takes no heap, and of the stack
-   less than 64 KiB at the greatest depth, as bindings/c/limits.c measures. */
+   - `out` shares no byte with the tape or the text, and `at` none with either. The entries that ion_index writes share none with the tape.
+   - Nobody else writes the tape, text, name, `at`, `out` or `entries` during the call.
+   The library has no state and keeps no pointer: threads may call it at once, each with its own `out`, or `entries` where they are written. It takes
+   no heap, and of the stack less than 64 KiB at the greatest depth, as bindings/c/limits.c measures. */
 #ifndef LECHUQTA_ION_H
 #define LECHUQTA_ION_H
 
@@ -33,6 +35,9 @@ enum {
 /* The end mark of ion_read_line. ion_write and ion_length answer 0 too, for a tape of no values. */
 enum { ION_END = 0 };
 
+/* What ion_find and ion_find_id answer where no field has the name. They refuse nothing, so it is never ION_MISFIT, which has the same number. */
+enum { ION_NONE = -1 };
+
 /* Refusals, as they are answered: minus the number in the table of docs/FORMAT.md, "Refusals". */
 enum {
     ION_MISFIT = -1,
@@ -44,7 +49,9 @@ enum {
     ION_NO_LAYOUT = -7,
     ION_OUTSIDE_GRAMMAR = -8,
     ION_TAPE_TOO_LONG = -9,
-    ION_PAST_TEXT = -10
+    ION_PAST_TEXT = -10,
+    ION_NO_STRUCT = -11,
+    ION_TOO_MANY_FIELDS = -12
 };
 
 /* The longest tape, in bytes. */
@@ -119,6 +126,43 @@ int64_t ion_read(const uint8_t *text, size_t text_length, uint8_t *out, size_t o
    and with `out` at least as long as the tape written, the lines that end before the run and those that start behind a line feed of the
    untouched rest are read as they were written. `at` is not null, whatever the lengths. */
 int64_t ion_read_line(const uint8_t *text, size_t text_length, uint64_t *at, uint8_t *out, size_t out_length);
+
+/* A field of a struct, by two offsets from the tape's start: those of the kind bytes of its name and of its value. An annotated value starts with
+   its kind 13. */
+typedef struct ion_entry {
+    uint64_t name, value;
+} ion_entry;
+
+/* Makes the index of a struct: an entry for each of its fields, sorted by name. `at` is the offset of the struct's kind byte, the 12, at whatever
+   depth it stands; behind annotations too it is that of the 12.
+
+   Answers, the first that holds:
+     ION_MISFIT           as ion_write
+     ION_BAD_NODE, ION_TOO_DEEP, ION_FINITE_FLOAT by nodes in tape order, then ION_BAD_NODE for the number of nodes: as ion_write
+     ION_NO_STRUCT        no struct node of the tape has its kind byte at the offset
+     ION_TOO_MANY_FIELDS  the struct has more fields than there are entries
+     the count            the number of fields
+   Annotated values may stand anywhere: never ION_UNSUITED.
+
+   Identifiers come first, by number; then texts by their bytes, a proper beginning first. An identifier equals no text. Equal names stand earliest
+   first.
+
+   `entries` behind the count: the index, then the entries that were there. Behind a refusal: untouched. A field takes 7 bytes of the tape or more,
+   so that tape_length / 7 entries are always enough, and 149,794 for every tape.
+
+   Each call validates the whole tape. Of a long list of records each is best indexed on a tape of its own, as ion_read_line gives them. */
+int64_t ion_index(const uint8_t *tape, size_t tape_length, uint64_t at, ion_entry *entries, size_t entries_length);
+
+/* Finds a field by its name: by a text, `name_length` bytes of UTF-8, or by an identifier. `entries` is an index, as many entries as ion_index
+   counted, and the tape is the one that it was made of.
+
+   Answers the place in `entries`, from 0, of the first entry with the name; or ION_NONE, exactly if no field has it. Bytes that are not UTF-8 are no
+   field's name.
+
+   Over any other entries or tape it answers ION_NONE or some place below entries_length; which one is not said. Offsets past the tape are not
+   followed. */
+int64_t ion_find(const uint8_t *tape, size_t tape_length, const ion_entry *entries, size_t entries_length, const uint8_t *name, size_t name_length);
+int64_t ion_find_id(const uint8_t *tape, size_t tape_length, const ion_entry *entries, size_t entries_length, uint32_t id);
 
 #ifdef __cplusplus
 }

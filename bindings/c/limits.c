@@ -1,6 +1,6 @@
 /* The calls at their limits, from C: every answer at least once, and, but for the longest tapes and the
-   deepest, every byte of the buffer and beside it; and how much of the stack they take. Prints what is wrong and ends
-   with 1, or prints how many calls were checked. bindings/rust/tests has many more. */
+   deepest, every byte of the buffer and beside it, or every entry; and how much of the stack they take. Prints what is
+   wrong and ends with 1, or prints how many calls were checked. bindings/rust/tests and tests/index have many more. */
 #define _XOPEN_SOURCE 700
 #include "ion.h"
 
@@ -100,6 +100,119 @@ static void lengths(void) {
     check("tree length: no value", ion_tree_length(BYTES(EMPTY)), ION_UNSUITED, 0, "", 0, KEPT);
 }
 
+/* Entries between guards, which tell their places too. */
+enum { ENTRIES = 8, BESIDE = 2 };
+
+static ion_entry entry_memory[BESIDE + ENTRIES + BESIDE];
+static ion_entry *const entries = entry_memory + BESIDE;
+
+static ion_entry old_entry(size_t i) {
+    ion_entry e = {UINT64_MAX - i, 0xA5A5A5A5A5A5 + i};
+    return e;
+}
+
+static void refill_entries(void) {
+    for (size_t i = 0; i < BESIDE + ENTRIES + BESIDE; i++) entry_memory[i] = old_entry(i);
+}
+
+/* After ion_index: the answer, entries that begin with the index, where it is a count, and go on as they were. */
+static void check_index(const char *what, int64_t answer, int64_t due, const ion_entry *index) {
+    checked++;
+    if (answer != due) {
+        printf("%s: answered %lld, expected %lld\n", what, (long long)answer, (long long)due);
+        wrong++;
+    }
+    for (size_t i = 0; i < BESIDE + ENTRIES + BESIDE; i++) {
+        ion_entry e = old_entry(i);
+        if (due > 0 && i >= BESIDE && i - BESIDE < (size_t)due) e = index[i - BESIDE];
+        if (entry_memory[i].name != e.name || entry_memory[i].value != e.value) {
+            printf("%s: entry %d is not as it must be\n", what, (int)i - BESIDE);
+            wrong++;
+            break;
+        }
+    }
+    refill_entries();
+}
+
+/* {b: true, a: x::{}, $7: null.struct, '$7': "\f", a: false}, and its index. Structs start at 0 and at 27, behind the annotation at 19; a byte 12
+   stands at 38 and at 51, too. */
+#define PASS \
+    "\14\67\0\0\0\6\1\0\0\0b\1\1\6\1\0\0\0a\15\1\6\1\0\0\0x\14\0\0\0\0\7\7\0\0\0\0\14" \
+    "\6\2\0\0\0$7\10\1\0\0\0\14\6\1\0\0\0a\1\0\74\0\0\0\1\0\0\0"
+
+enum { INNER = 27, FIELDS = 5 };
+
+static const ion_entry pass_index[FIELDS] = {{32, 37}, {39, 46}, {13, 19}, {52, 58}, {5, 11}};
+
+static void index_calls(void) {
+    check_index("index: room to spare", ion_index(BYTES(PASS), 0, entries, ENTRIES), FIELDS, pass_index);
+    check_index("index: exactly full", ion_index(BYTES(PASS), 0, entries, FIELDS), FIELDS, pass_index);
+    check_index("index: one entry short", ion_index(BYTES(PASS), 0, entries, FIELDS - 1), ION_TOO_MANY_FIELDS, NULL);
+    check_index("index: no entries", ion_index(BYTES(PASS), 0, NULL, 0), ION_TOO_MANY_FIELDS, NULL);
+    check_index("index: no fields", ion_index(BYTES(PASS), INNER, entries, ENTRIES), 0, NULL);
+    check_index("index: no fields, no entries", ion_index(BYTES(PASS), INNER, NULL, 0), 0, NULL);
+    for (uint64_t at = 1; at < sizeof PASS + 8; at++)
+        if (at != INNER) check_index("index: no struct there", ion_index(BYTES(PASS), at, entries, ENTRIES), ION_NO_STRUCT, NULL);
+    check_index("index: far past the tape", ion_index(BYTES(PASS), UINT64_MAX, entries, ENTRIES), ION_NO_STRUCT, NULL);
+    check_index("index: past the tape by 2 to the 32", ion_index(BYTES(PASS), (uint64_t)1 << 32, entries, ENTRIES), ION_NO_STRUCT, NULL);
+    check_index("index: 11 before 12", ion_index(BYTES(PASS), 1, NULL, 0), ION_NO_STRUCT, NULL);
+    check_index("index: no value", ion_index(BYTES(EMPTY), 0, entries, ENTRIES), ION_NO_STRUCT, NULL);
+    check_index("index: annotated", ion_index(BYTES(NOTED), 0, entries, ENTRIES), ION_NO_STRUCT, NULL);
+    check_index("index: no tape", ion_index(NULL, 0, 0, entries, ENTRIES), ION_MISFIT, NULL);
+    check_index("index: nothing", ion_index(NULL, 0, UINT64_MAX, NULL, 0), ION_MISFIT, NULL);
+    check_index("index: a tape cut short", ion_index((const uint8_t *)PASS, sizeof PASS - 2, 0, entries, ENTRIES), ION_MISFIT, NULL);
+    check_index("index: broken node", ion_index(BYTES(BROKEN), 99, NULL, 0), ION_BAD_NODE, NULL);
+    check_index("index: wrong count", ion_index(BYTES(MISCOUNTED), 99, NULL, 0), ION_BAD_NODE, NULL);
+    check_index("index: 1.0", ion_index(BYTES(FLOAT), 99, NULL, 0), ION_FINITE_FLOAT, NULL);
+}
+
+/* {'': true} */
+#define NAMELESS "\14\7\0\0\0\6\0\0\0\0\1\1\14\0\0\0\1\0\0\0"
+
+static void check_find(const char *what, int64_t answer, int64_t due) { check(what, answer, due, 0, "", 0, KEPT); }
+
+/* Over foreign entries: none, or a place among n. */
+static void check_within(const char *what, int64_t answer, int64_t n) {
+    check_find(what, answer >= ION_NONE && answer < n ? ION_NONE : answer, ION_NONE);
+}
+
+static void lookups(void) {
+    const ion_entry *index = pass_index;
+    check_find("find: an identifier", ion_find_id(BYTES(PASS), index, FIELDS, 7), 0);
+    check_find("find: a text like it", ion_find(BYTES(PASS), index, FIELDS, BYTES("$7")), 1);
+    check_find("find: the first of two", ion_find(BYTES(PASS), index, FIELDS, BYTES("a")), 2);
+    check_find("find: the last", ion_find(BYTES(PASS), index, FIELDS, BYTES("b")), 4);
+    check_find("find: before all texts", ion_find(BYTES(PASS), index, FIELDS, BYTES("!")), ION_NONE);
+    check_find("find: between two", ion_find(BYTES(PASS), index, FIELDS, BYTES("aa")), ION_NONE);
+    check_find("find: behind all", ion_find(BYTES(PASS), index, FIELDS, BYTES("c")), ION_NONE);
+    check_find("find: a proper beginning", ion_find(BYTES(PASS), index, FIELDS, BYTES("$")), ION_NONE);
+    check_find("find: not UTF-8", ion_find(BYTES(PASS), index, FIELDS, BYTES("\377")), ION_NONE);
+    check_find("find: the empty name", ion_find(BYTES(PASS), index, FIELDS, NULL, 0), ION_NONE);
+    check_find("find: another identifier", ion_find_id(BYTES(PASS), index, FIELDS, 6), ION_NONE);
+    check_find("find: the last identifier", ion_find_id(BYTES(PASS), index, FIELDS, UINT32_MAX), ION_NONE);
+    check_find("find: no entries", ion_find(BYTES(PASS), NULL, 0, BYTES("a")), ION_NONE);
+    check_find("find: no entries, an identifier", ion_find_id(BYTES(PASS), NULL, 0, 7), ION_NONE);
+    check_find("find: nothing", ion_find(NULL, 0, NULL, 0, NULL, 0), ION_NONE);
+    static const ion_entry only = {5, 10};
+    check_find("find: the empty name, there", ion_find(BYTES(NAMELESS), &only, 1, NULL, 0), 0);
+
+    /* Entries at the tape's end, past it and far past it; such as ion_index never wrote; an index over no tape; one entry at every offset. */
+    static const ion_entry foreign[] = {{0, 0}, {64, 65}, {67, 68}, {68, 0}, {1 << 20, 1 << 20}, {UINT64_MAX - 4, 0}, {UINT64_MAX, UINT64_MAX}};
+    static const int64_t n = sizeof foreign / sizeof *foreign;
+    check_within("find: foreign entries", ion_find(BYTES(PASS), foreign, (size_t)n, BYTES("a")), n);
+    check_within("find: foreign entries, the empty name", ion_find(BYTES(PASS), foreign, (size_t)n, NULL, 0), n);
+    check_within("find: foreign entries, an identifier", ion_find_id(BYTES(PASS), foreign, (size_t)n, 0), n);
+    check_within("find: entries never written", ion_find(BYTES(PASS), entries, ENTRIES, BYTES("a")), ENTRIES);
+    check_within("find: no tape", ion_find(NULL, 0, index, FIELDS, BYTES("a")), FIELDS);
+    check_within("find: no tape, the empty name", ion_find(NULL, 0, index, FIELDS, NULL, 0), FIELDS);
+    check_within("find: no tape, an identifier", ion_find_id(NULL, 0, index, FIELDS, 7), FIELDS);
+    for (uint64_t at = 0; at <= sizeof PASS; at++) {
+        ion_entry one = {at, at};
+        check_within("find: any offset", ion_find(BYTES(PASS), &one, 1, BYTES("a")), 1);
+        check_within("find: any offset, an identifier", ion_find_id(BYTES(PASS), &one, 1, 7), 1);
+    }
+}
+
 /* Lists within each other, and tapes of the greatest length and one more. */
 static void depth_and_length(void) {
     for (size_t depth = 64; depth <= 65; depth++) {
@@ -116,6 +229,9 @@ static void depth_and_length(void) {
         tape[body + 4] = 1;
         check("depth, length", ion_tree_length(tape, body + 8), depth == 64 ? 128 : ION_TOO_DEEP, 0, "", 0, KEPT);
         check("depth", ion_write_tree(tape, body + 8, text, sizeof text), depth == 64 ? 128 : ION_TOO_DEEP, 0, "", 0, KEPT);
+        tape[body - 5] = 12; /* the innermost is a struct */
+        check_index("depth, index", ion_index(tape, body + 8, body - 5, entries, ENTRIES), depth == 64 ? 0 : ION_TOO_DEEP, NULL);
+        check_index("depth, no struct", ion_index(tape, body + 8, 0, NULL, 0), depth == 64 ? ION_NO_STRUCT : ION_TOO_DEEP, NULL);
         memset(text, '[', depth);
         memset(text + depth, ']', depth);
         check("depth, read", ion_read(text, 2 * depth, tape, sizeof tape), depth == 64 ? 5 * 64 + 8 : ION_OUTSIDE_GRAMMAR, 0, "", 0, KEPT);
@@ -135,6 +251,7 @@ static void depth_and_length(void) {
         int fits = length == ION_TAPE_MAX;
         check("long tape, length", ion_length(ION_LINES, tape, length), fits ? (int64_t)text_length : ION_MISFIT, 0, "", 0, KEPT);
         check("long tape", ion_write(ION_LINES, tape, length, text, text_length), fits ? (int64_t)text_length : ION_MISFIT, 0, "", 0, KEPT);
+        check_index("long tape, index", ion_index(tape, length, 0, entries, ENTRIES), fits ? ION_NO_STRUCT : ION_MISFIT, NULL);
         memset(text, 'c', text_length);
         memcpy(text, "{{\"", 3);
         memcpy(text + text_length - 4, "\"}}\n", 4);
@@ -200,6 +317,8 @@ static void deepest(void) {
         if (n < 318 || n != ion_length(layout, tape, sizeof tape)) exit(2);
     }
     if (ion_write_tree(tape, sizeof tape, room, sizeof room) != 318 || ion_tree_length(tape, sizeof tape) != 318) exit(2);
+    if (ion_index(tape, sizeof tape, 5 * 64, entries, ENTRIES) != ION_NO_STRUCT) exit(2);
+    if (ion_index(BYTES(PASS), 0, entries, ENTRIES) != FIELDS || ion_find(BYTES(PASS), entries, FIELDS, BYTES("b")) != 4) exit(2);
 }
 
 /* They run on a stack of their own, which is filled before, so that what they took of it can be told. */
@@ -228,8 +347,11 @@ static void stack(void) {
 
 int main(void) {
     refill();
+    refill_entries();
     writers();
     lengths();
+    index_calls();
+    lookups();
     depth_and_length();
     readers();
     line_reader();

@@ -4,13 +4,17 @@
 //! [`write()`] and [`write_tree`] turn a tape into text, [`read`] turns a text into its tape, and [`read_line`] does so line by line, going on
 //! behind a damaged line. Each works in a lent buffer of any length and answers the count of bytes that it finished there, or a [`Refusal`].
 //! No input makes a call panic. [`to_text`], [`to_tree_text`], [`to_tape`] and [`lines`] are the same with a buffer of their own. [`length`] and
-//! [`tree_length`] tell how long a text will be, before it is written.
+//! [`tree_length`] tell how long a text will be, before it is written. [`Index`] finds the fields of a struct by name; [`index_into`], [`find`] and
+//! [`find_id`] do so in lent entries.
 //!
 //! ```
-//! use lechuqta::{lines, to_tape, to_text, to_tree_text, Layout, Refusal};
+//! use lechuqta::{lines, to_tape, to_text, to_tree_text, Index, Layout, Refusal};
 //!
 //! let tape = to_tape(b"[1, 2] {peak: 61.25}")?;
 //! assert_eq!(to_text(Layout::Lines, &tape)?, b"[1, 2, ]\n{peak: 61.25, }\n");
+//!
+//! // A field by its name: the struct stands behind the list, at offset 23, and the value of `peak` is a decimal, kind 4.
+//! assert_eq!(Index::new(&tape, 23)?.get("peak").map(|field| tape[field.value]), Some(4));
 //!
 //! // A finder image is a blob.
 //! let field = to_tape(b"{field: m31, finder: jpeg::{{/9j/4AAQ}}}")?;
@@ -29,10 +33,12 @@
 use std::iter::FusedIterator;
 use std::ops::Range;
 
+mod index;
 #[allow(unsafe_code)]
 mod raw;
 mod refusal;
 
+pub use index::{find, find_id, index_into, Entry, Field, Index};
 pub use refusal::Refusal;
 
 /// The longest tape, in bytes.

@@ -30,11 +30,15 @@ pub enum Refusal {
     TapeTooLong,
     /// 10: the offset is past the text.
     PastText,
+    /// 11: no struct node of the tape has its kind byte at the offset.
+    NoStruct,
+    /// 12: the struct has more fields than there are entries.
+    TooManyFields,
 }
 
 impl Refusal {
     /// Every refusal, in the table's order.
-    pub const ALL: [Refusal; 10] = [
+    pub const ALL: [Refusal; 12] = [
         Refusal::Misfit,
         Refusal::BadNode,
         Refusal::TooDeep,
@@ -45,6 +49,8 @@ impl Refusal {
         Refusal::OutsideGrammar,
         Refusal::TapeTooLong,
         Refusal::PastText,
+        Refusal::NoStruct,
+        Refusal::TooManyFields,
     ];
 
     /// Its number in the table.
@@ -69,6 +75,8 @@ impl Refusal {
             Refusal::OutsideGrammar => "the text is outside the grammar",
             Refusal::TapeTooLong => "the tape is longer than the buffer or than 1048576 bytes",
             Refusal::PastText => "the offset is past the text",
+            Refusal::NoStruct => "no struct starts at the offset",
+            Refusal::TooManyFields => "the struct has more fields than there are entries",
         }
     }
 }

@@ -23,7 +23,7 @@ use Rattle.text_rules.specs.Digits.{pad, digits}
 use Rattle.numbers.specs.Decimal.{intText}
 use Rattle.writer.specs.Text.{scalarText, nameText, notesText, opening, closing, separator, text, texts, streamText}
 use Rattle.writer.specs.Outcome.{laid, refusal, measured, answered, left, streamed, leaves}
-use Rattle.writer.proofs.Verdicts.{verdict-most}
+use Rattle.tape.proofs.Verdicts.{verdict-most}
 use Rattle.tree.specs.Text.{lead, element, treeText}
 use Rattle.tree.specs.Outcome as tree
 use Rattle.measure.specs.Outcome.{textLength, longest}

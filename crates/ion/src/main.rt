@@ -1,4 +1,4 @@
-// One program for the command line: `ion WORD [FILE]`, or `ion length WORD [FILE]`. The word says what to do with a tape or a text, which comes from the file or from
+// One program for the command line: `ion WORD [FILE]`, `ion length WORD [FILE]`, or `ion find OFFSET NAME [FILE]`. The word says what to do with a tape or a text, which comes from the file or from
 // standard input. What it gives goes to standard output, and a sentence for each refusal to standard error. The kit has no exit status: the
 // script `ion` of the repository makes it from these sentences.
 mod input;
@@ -7,11 +7,15 @@ mod words;
 ghost use mathlib.Core.Path.{_≡_};
 ghost use Prim.Native.Nat.{_+_, _<_, _≤_};
 ghost use lib.ListN.{length};
+use field_index::Looked;
+use field_index::names::Key;
 use ion_show::line;
 use ion_show::show;
 use libc::STDERR_FILENO;
 use line_reader::Called;
 use tape::answer::Answer;
+use text_rules::digits::Joined;
+use text_rules::words::Kind;
 use words::Word;
 
 // ---- sentences on standard error. The script `ion` tells the exit status by how they start
@@ -58,7 +62,9 @@ fn text_reason(number: u8) {
         7 => say(b"there is no such layout"),
         8 => say(b"the text is outside the grammar (split shows it line by line)"),
         9 => say(b"the tape is longer than 1,048,576 bytes"),
-        _ => say(b"the offset is past the text"),
+        10 => say(b"the offset is past the text"),
+        11 => say(b"no struct starts at the offset (show tells the offsets)"),
+        _ => say(b"the struct has more than 65,536 fields"),
     }
 }
 
@@ -96,7 +102,7 @@ fn refused_lines(refused: usize, lines: usize) {
 fn help(fd: i32) {
     let whole = io::write_all(
         fd,
-        b"use: ion WORD [FILE], or ion length compact|lines|pretty|tree [FILE]
+        b"use: ion WORD [FILE], ion length compact|lines|pretty|tree [FILE], or ion find OFFSET NAME [FILE]
 From a tape, of at most 1,048,576 bytes:
   compact  its Ion text, values parted by blanks
   lines    its Ion text, one value a line
@@ -105,6 +111,7 @@ From a tape, of at most 1,048,576 bytes:
   length   how many bytes one of these four texts has; a second word names it
   check    whether it is a good tape
   show     its nodes, one a line: offset, kind and value
+  find     the field NAME of the struct at OFFSET: where it stands, and its nodes; $7 is an identifier, '$7' a text
 From an Ion text, of at most 4,200,000 bytes:
   read     its tape
   split    its lines: number, offset, length, and what each is
@@ -213,6 +220,78 @@ fn with_tape(word: Word, tape: &[u8], text: &mut [u8], spare: &mut [u8]) {
         Word::Check => check(tape, false, text, spare),
         Word::Show => check(tape, true, text, spare),
         _ => give_text(word, tape, text, spare),
+    }
+}
+
+// ---- a field by its name
+
+// Where a command line says an offset.
+enum Offset {
+    Wrong,
+    At(usize),
+}
+
+// Digits alone.
+fn offset_of(s: &[u8]) -> Offset {
+    if s.len() == 0 {
+        return Offset::Wrong;
+    }
+    let Joined::Digits(n, end) = text_rules::digits::digits_at(s, 0, 0) else {
+        return Offset::Wrong;
+    };
+    if end != s.len() {
+        return Offset::Wrong;
+    }
+    Offset::At(n as usize)
+}
+
+// `$` and a number is an identifier, all else a text.
+fn key_of(name: &[u8]) -> Key {
+    let w = text_rules::words::word_at(name, 0);
+    if w.end != name.len() {
+        return field_index::text_key();
+    }
+    let kind = w.kind;
+    let Kind::Number(i) = kind else {
+        return field_index::text_key();
+    };
+    field_index::id_key(i)
+}
+
+// A name in quote marks is the text between them.
+fn looked_up<'a>(tape: &'a [u8], at: usize, name: &'a [u8]) -> Looked {
+    let n = name.len();
+    if 2 <= n {
+        if name[0] == b'\'' {
+            if name[n - 1] == b'\'' {
+                let text = &name[1..n - 1];
+                return field_index::look_up(tape, at, text, field_index::text_key());
+            }
+        }
+    }
+    field_index::look_up(tape, at, name, key_of(name))
+}
+
+// Where a field's name and value stand.
+fn places(name: usize, value: usize, text: &mut [u8]) {
+    let p = output::put_bytes(text, 0, b"name at offset ");
+    let q = text_rules::digits::put_digits(text, p, name as u64);
+    let r = output::put_bytes(text, q, b", value at offset ");
+    let s = text_rules::digits::put_digits(text, r, value as u64);
+    let e = output::put(text, s, b'\n');
+    line::emit(text, e);
+}
+
+// The field with a name: where it stands, and its nodes as `show` has them; or why there is none.
+fn find<'a>(tape: &'a [u8], at: usize, name: &'a [u8], text: &mut [u8], spare: &mut [u8]) {
+    let found = looked_up(tape, at, name);
+    match found {
+        Looked::Field(e) => {
+            places(e.name, e.value, text);
+            show::field(tape, e.name, text, spare);
+        }
+        Looked::Nothing => say(b"ion: no field of the struct has this name\n"),
+        Looked::Refused(number) => refuse(number, tape, text, spare),
     }
 }
 
@@ -409,6 +488,27 @@ fn on_length(word: Word, name: &[u8], text: &mut [u8], tape: &mut [u8], spare: &
     }
 }
 
+// The field that the words behind `find` name.
+fn on_find(name: &[u8], text: &mut [u8], tape: &mut [u8], spare: &mut [u8]) {
+    let mut digits = [0u8; 32];
+    let d = os::arg(2, &mut digits);
+    let Offset::At(at) = offset_of(&digits[..d]) else {
+        wrong_use(b"find takes an offset, which is digits, and a name");
+        return;
+    };
+    let mut field = io::buffer();
+    let k = os::arg(3, &mut field);
+    if os::errno() != 0 {
+        wrong_use(b"find takes an offset and a name of at most 4,096 bytes");
+        return;
+    }
+    let i = input::read(name, tape);
+    let n = i.count;
+    if i.whole {
+        find(&tape[0..n], at, &field[..k], text, spare);
+    }
+}
+
 fn obey_length(word: Word, name: &[u8], text: &mut [u8], tape: &mut [u8], spare: &mut [u8]) {
     match word {
         Word::Compact => on_length(word, name, text, tape, spare),
@@ -430,6 +530,7 @@ fn obey(
 ) {
     match word {
         Word::Length => obey_length(text_word, name, text, tape, spare),
+        Word::Find => on_find(name, text, tape, spare),
         Word::Unknown => wrong_use(b"no such word"),
         Word::Help => help(libc::STDOUT_FILENO),
         Word::Read => on_text(word, name, text, tape, spare),
@@ -445,12 +546,13 @@ fn word_at(i: usize) -> Word {
     words::word_of(&s[..n])
 }
 
-// The number of the word that is the file's name: `length` has a word of its own before it.
+// The number of the word that is the file's name: `length` has a word of its own before it, `find` two.
 fn name_at(word: Word) -> usize
-    ensures { λ r. ⌜ r ≤ 3 ⌝ }
+    ensures { λ r. ⌜ r ≤ 4 ⌝ }
 {
     match word {
         Word::Length => 3,
+        Word::Find => 4,
         _ => 2,
     }
 }

@@ -11,6 +11,7 @@ pub enum Word {
     Length,
     Check,
     Show,
+    Find,
     Read,
     Split,
     Help,
@@ -40,6 +41,9 @@ pub fn word_of(s: &[u8]) -> Word
     }
     if same_word(s, b"show") {
         return Word::Show;
+    }
+    if same_word(s, b"find") {
+        return Word::Find;
     }
     if same_word(s, b"read") {
         return Word::Read;

@@ -3,12 +3,13 @@ use mathlib.Core.Bool.{Bool, true, false}
 use mathlib.Core.List.{List}
 use mathlib.Core.Option.{Option, none, some}
 use Prim.Native.Nat.{ℕ, zero, suc, _^_, _<_, min}
-use mathlib.Core.Path.{_≡_, refl}
+use mathlib.Core.Path.{_≡_, refl, sym, subst}
 use native.Mathlib.Omega.{arith}
 use lib.Dec.{leb, ltb, eqb}
 use lib.ListN.{length, drop}
 use borrow.Author.Tests.{leb-true}
 use Rattle.output.specs.Logic.{if, on}
+use Rattle.text_rules.specs.Text.{Sym}
 use Rattle.tape.specs.Answer.{Outcome, counted, refused}
 use Rattle.tape.specs.Fine.{Bytes}
 use Rattle.tape.specs.Tree.{Nodes, tape}
@@ -26,7 +27,14 @@ use Rattle.tape.specs.Tape.{nodesOf}
 use Rattle.line_reader.specs.Cut.{toFirst}
 use Rattle.line_reader.specs.Book.{success, failure, endMark, lineTape, room, byBook}
 use Rattle.line_reader.specs.Calls.{pastText, step}
-use Rattle.ion_c.specs.Code.{Small}
+use Rattle.field_index.specs.Index as index
+use Rattle.field_index.specs.Lookup.{Within, Finds}
+use Rattle.field_index.specs.declared.Entry.{Entry}
+use Rattle.field_index.specs.declared.Found.{Found}
+use Rattle.field_index.specs.declared.Found.the-variants.{Nothing, At}
+use Rattle.field_index.specs.declared.Indexed.{Indexed}
+use Rattle.field_index.proofs.IndexLaws.{fields-few}
+use Rattle.ion_c.specs.Code.{Small, Near}
 
 measured-small : (s : List ℕ) (n : ℕ) → n < 2 ^ 63 → Small (measured s n)
 unfolding measured
@@ -99,3 +107,20 @@ step-small text at buf = go (ltb (length text) at) (eqb at (length text))
     go true b = tt
     go false true = tt
     go false false = line-small (toFirst (drop at text)) at buf
+
+-- ---- indexes and places
+
+-- a count is at most the number of the entries
+pub indexed-small : (t : List ℕ) (at : ℕ) (l l′ : List Entry) (i : Indexed) → index.IndexOf t at l l′ i → length l < 2 ^ 63 → Small (index.indexed i)
+indexed-small t at l l′ i f h = subst Small (sym (f .answer)) (go (index.refusal t at (length l)) refl)
+  where
+    go : (k : ℕ) → index.refusal t at (length l) ≡ k → Small (index.answered k (length (index.fieldsAt t at)))
+    go zero e = omega (arith, fields-few t at (length l) e)
+    go (suc k) e = tt
+
+pub found-near : (t : List ℕ) (name : Sym) (l : List Entry) (p : Found) → Finds t name l p → length l < 2 ^ 63 → Near p
+found-near t name l p f h = go p (f .within)
+  where
+    go : (p : Found) → Within (length l) p → Near p
+    go Nothing w = tt
+    go (At k) w = omega arith

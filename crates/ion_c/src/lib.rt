@@ -2,13 +2,18 @@
 // bytes, finished or measured, or minus the number of a refusal of document 01's table.
 ghost use mathlib.Core.Path.{_≡_};
 ghost use lib.ListN.{length};
+ghost use Rattle.text_rules.specs.Text.{Sym};
 ghost use Rattle.tape.specs.Answer.{outcome};
 ghost use Rattle.writer.specs.Outcome.{streamed, leaves};
 ghost use Rattle.measure.specs.Outcome.{textLength};
 ghost use Rattle.tree.specs.Outcome as tree;
 ghost use Rattle.reader.specs.Outcome as read;
 ghost use Rattle.line_reader.specs.Calls.{step};
-ghost use Rattle.ion_c.specs.Code.{code, Small};
+ghost use Rattle.field_index.specs.Index.{indexed};
+ghost use Rattle.ion_c.specs.Code.{code, Small, placeCode, Near, Indexes, Places};
+use field_index::Entry;
+use field_index::Found;
+use field_index::Indexed;
 use tape::answer::Answer;
 
 // An answer as one number.
@@ -29,6 +34,33 @@ fn code_of(a: Answer) -> i64
         Answer::OutsideGrammar => -8,
         Answer::TapeTooLong => -9,
         Answer::PastText => -10,
+    }
+}
+
+// The number of fields, or minus the refusal's number.
+fn index_code(i: Indexed) -> i64
+    requires { ⌜ Small (indexed i) ⌝ }
+    ensures { λ r. ⌜ r ≡ code (indexed i) ⌝ }
+{
+    match i {
+        Indexed::Count(n) => n as i64,
+        Indexed::Misfit => -1,
+        Indexed::BadNode => -2,
+        Indexed::TooDeep => -3,
+        Indexed::FiniteFloat => -4,
+        Indexed::NoStruct => -11,
+        Indexed::TooManyFields => -12,
+    }
+}
+
+// The place, or -1.
+fn place_code(f: Found) -> i64
+    requires { ⌜ Near f ⌝ }
+    ensures { λ r. ⌜ r ≡ placeCode f ⌝ }
+{
+    match f {
+        Found::Nothing => -1,
+        Found::At(p) => p as i64,
     }
 }
 
@@ -91,4 +123,31 @@ pub extern "C" fn ion_read_line(text: &[u8], at: &mut u64, out: &mut [u8]) -> i6
     *at = c.at as u64;
     let a = c.answer;
     code_of(a)
+}
+
+// The index of the struct node at an offset: the number of its fields, or minus the refusal's number.
+#[no_mangle]
+pub extern "C" fn ion_index(tape: &[u8], at: u64, entries: &mut [Entry]) -> i64
+    ensures { λ r. ⌜ Indexes (now (tape .entry)) at (now (entries .entry)) (now (entries .exit)) r ⌝ }
+{
+    let i = field_index::index(tape, at as usize, entries);
+    index_code(i)
+}
+
+// The place of the first entry with a name that is text, or -1.
+#[no_mangle]
+pub extern "C" fn ion_find<'a>(tape: &'a [u8], entries: &[Entry], name: &'a [u8]) -> i64
+    ensures { λ r. ⌜ Places (now (tape .entry)) (Sym.text (now (name .entry))) (now (entries .entry)) r ⌝ }
+{
+    let f = field_index::find_text(tape, entries, name);
+    place_code(f)
+}
+
+// The same for an identifier.
+#[no_mangle]
+pub extern "C" fn ion_find_id(tape: &[u8], entries: &[Entry], id: u32) -> i64
+    ensures { λ r. ⌜ Places (now (tape .entry)) (Sym.id id) (now (entries .entry)) r ⌝ }
+{
+    let f = field_index::find_id(tape, entries, id);
+    place_code(f)
 }

@@ -322,3 +322,22 @@ pub fn walk(tape: &[u8], aloud: bool, text: &mut [u8], spare: &mut [u8]) -> usiz
     };
     nodes(&tape[0..end], 0, how, text, spare)
 }
+
+// The field whose name stands at an offset, a line for each of its nodes. The offset where it stopped.
+pub fn field(tape: &[u8], at: usize, text: &mut [u8], spare: &mut [u8]) -> usize
+    ensures { λ r. ⌜ r ≤ length (now (tape .entry)) ⌝ }
+{
+    let end = body_end(tape);
+    if end < at {
+        return end;
+    }
+    let body = &tape[at..end];
+    let s = span_at(body, 0, Frame::Struct, 0);
+    let next = s.next;
+    let how = How {
+        frame: Frame::Struct,
+        level: 0,
+        aloud: true,
+    };
+    nodes(&body[0..next], at, how, text, spare)
+}

@@ -21,7 +21,7 @@ use Rattle.numbers.specs.declared.timestamp.Timestamp.{Timestamp}
 use Rattle.tape.specs.Bytes.{part, leNumber, signed}
 use Rattle.tape.specs.Tree.{Scalar, Head, null, bool, int, decimal, timestamp, symbol, string, clob, blob, encodeSym, encodeScalar}
 use Rattle.tape.specs.Tape.{reading, kind, lengthOf, textOf, symOf, symsOf, nameOf, notesOf, headOf, byteOf, intOf, floatAs, floatOf, decimalOf, timestampAs, timestampOf, symbolOf, sizedOf, scalarOf, textFault, symFault, scalarFault}
-use Rattle.tape.specs.Steps.{placeOf, headAt}
+use Rattle.tape.specs.Steps.{placeOf, headAt, sizeTaken}
 use Rattle.tape.specs.CheckSteps.{codeOf, scalarCode, spanOf, symsFront, notesFront}
 use Rattle.tape.specs.Fine.{Bytes}
 use Rattle.tape.specs.declared.Frame.{Frame}
@@ -33,7 +33,7 @@ use Rattle.tape.proofs.Parts.{part-length, part-first, part-byte, part-number, 
 use Rattle.tape.proofs.CodeFacts.{part-text, Read, code-read, read-within, sym-read, code-text, code-symbol, code-string, front-notes, span-is, span-text}
 use Rattle.tape.proofs.CodeReading.{notes-some, byte-short, byte-over, byte-some, float-short, float-some, decimal-short, timestamp-short, length-over, length-some, text-by, sym-id, sym-short, scalar-null, scalar-bool, scalar-int, scalar-float, scalar-decimal, scalar-timestamp, scalar-symbol, scalar-string, scalar-clob, scalar-blob, scalar-empty}
 use Rattle.writer.specs.Text.{symText, scalarText, nameText, notesText}
-use Rattle.writer.specs.Steps.{nameIn, notesIn, sizeTaken, front}
+use Rattle.writer.specs.Steps.{nameIn, notesIn, front}
 use Rattle.writer.proofs.Leaves.{LeafAt, NameAt, text-name, id-name, int-leaf, decimal-leaf, timestamp-leaf, symbol-leaf}
 use Rattle.writer.proofs.Notes.{front-parts}
 use Rattle.measure.specs.Sums.{frontLength, leafLength, symLength}

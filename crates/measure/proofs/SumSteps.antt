@@ -15,7 +15,7 @@ use Rattle.text_rules.specs.Text.{Sym}
 use Rattle.tape.specs.Bytes.{part}
 use Rattle.tape.specs.Tree.{Scalar, Head, Node, Nodes, scalar, nest, marker, nil, more, size, encodeScalar, encodeName, encodeNotes}
 use Rattle.tape.specs.Tape.{reading, kind, symsOf, nameOf, notesOf, scalarOf, absent, leaf, valueOf, single, freeAt, symsFault, nameFault, scalarFault, fault, Walked, join, walk}
-use Rattle.tape.specs.Steps.{headAt}
+use Rattle.tape.specs.Steps.{headAt, sizeTaken}
 use Rattle.tape.specs.CheckSteps.{scalarCode, spanOf, numberIn, nameNumberIn, frameOf, notesFront, frontAs}
 use Rattle.tape.specs.Fine.{Bytes}
 use Rattle.tape.specs.Refusal.{annotated, noted, noteds, symsNumbered, headNumbered, numbered, numbereds}
@@ -33,7 +33,7 @@ use Rattle.tape.proofs.CodeFacts.{Read, code-read, read-within, Ended, code-clo
 use Rattle.tape.proofs.CodeWalk.{join-fault}
 use Rattle.tape.proofs.Turns.{TreeTurn, HeadSeen, Refused, single-step, notes-turn, size-refused, span-refused}
 use Rattle.writer.specs.Text.{scalarText, nameText, notesText, opening, closing, separator, broken, deeper}
-use Rattle.writer.specs.Steps.{nameIn, notesIn, sizeTaken, isNil}
+use Rattle.writer.specs.Steps.{nameIn, notesIn, isNil}
 use Rattle.measure.specs.Outcome.{longest}
 use Rattle.measure.specs.Sums.{frontLength, contentsOf, contents, separatorLength, separatorsOf, separators, lastsOf, lasts, indentsOf, indents, summed, leafLength}
 use Rattle.measure.specs.Steps.{plus, lastSeparator, bodyOwn, notesAs, flagged, met, SumsFit, Grown}

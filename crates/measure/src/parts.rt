@@ -11,7 +11,8 @@ ghost use Rattle.tape.specs.Tape.{reading, symOf, symsOf, nameOf, notesOf, scal
 ghost use Rattle.tape.specs.CheckSteps.{codeOf, scalarCode, symsFront, notesFront};
 ghost use Rattle.tape.specs.declared.Frame.the-variants.{Struct};
 ghost use Rattle.writer.specs.Text.{nameText, notesText};
-ghost use Rattle.writer.specs.Steps.{nameIn, notesIn, sizeTaken};
+ghost use Rattle.tape.specs.Steps.{sizeTaken};
+ghost use Rattle.writer.specs.Steps.{nameIn, notesIn};
 ghost use Rattle.measure.specs.Sums.{leafLength, symLength};
 ghost use Rattle.measure.specs.Steps.{isUntold, notesAs};
 use crate::text_formatter;

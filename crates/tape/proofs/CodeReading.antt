@@ -404,6 +404,14 @@ module _ (k : Frame) (s : List ℕ) (p e : ℕ) where
           ∙ ap (λ (l : List ℕ). placeOf (p + n) (notesOf l)) (part-drop s p e n)
           ∙ ap (λ (i : ℕ). placeOf i (notesOf (part s i e))) y
 
+  pub head-none : placeOf p (nameOf k (part s p e)) ≡ Nowhere → placeOf p (headOf k (part s p e)) ≡ Nowhere
+  unfolding headOf
+  head-none z = go (nameOf k (part s p e)) z
+    where
+      go : (o : Option (Option Sym × ℕ)) → placeOf p o ≡ Nowhere → placeOf {A = Head} p (reading o none (λ a n. reading (notesOf (drop n (part s p e))) none (λ ss m. some ((a, ss), n + m)))) ≡ Nowhere
+      go none z = refl
+      go (some (a, n)) z = let y : _≡_ {A = ℕ} 0 1 = cc in absurd (omega arith)
+
 -- what was read, from where it ends
 pub place-read : {A : Type 0} (d : A) (at v : ℕ) (o : Option (A × ℕ)) → placeOf at o ≡ At v → (at ≤ v) × (o ≡ some (reading o d (λ a n. a), v - at))
 place-read d at v none z = let y : _≡_ {A = ℕ} 0 1 = cc in absurd (omega arith)

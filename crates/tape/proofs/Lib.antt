@@ -10,5 +10,8 @@ pub mod CodeFloats
 pub mod CodeChild
 pub mod CodeFacts
 pub mod Turns
+pub mod Turning
+pub mod Sizes
 pub mod CodeWalk
 pub mod CodeVerdict
+pub mod Verdicts

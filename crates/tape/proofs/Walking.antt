@@ -151,6 +151,34 @@ unfolding walk
 walk-back zero k l b z = absurd (omega arith)
 walk-back (suc d) k l b z = level-back (walk d) (walk-back d) k 0 l b z
 
+-- ---- where nothing is wrong, more bodies that may be opened change nothing
+
+abbrev Deeper : (Frame → List ℕ → Walked) → (Frame → List ℕ → Walked) → Type 0
+Deeper inner inner′ = (k : Frame) (l : List ℕ) → inner k l .1 ≡ 0 → inner′ k l ≡ inner k l
+
+turn-deeper : (inner inner′ : Frame → List ℕ → Walked) → Deeper inner inner′ → (c : Child) (l : List ℕ) (rest rest′ : ℕ → Walked) → ((m : ℕ) → rest m .1 ≡ 0 → rest′ m ≡ rest m)
+    → turn inner c l rest .1 ≡ 0 → turn inner′ c l rest′ ≡ turn inner c l rest
+turn-deeper inner inner′ i bad l rest rest′ r z = absurd (omega arith)
+turn-deeper inner inner′ i (single h n m) l rest rest′ r z = ap (join h n (fault n)) (r m (join-zero (headFault h) (fault n) (rest m .1) z .2))
+turn-deeper inner inner′ i (tree h k q m) l rest rest′ r z =
+    let u : List ℕ = take m (drop q l) in
+    let y = join-zero (headFault h) (inner k u .1) (rest (q + m) .1) z in
+    ap (λ (w : Walked). join h (nest k (w .0)) (w .1) (rest′ (q + m))) (i k u (y .1)) ∙ ap (join h (nest k (inner k u .0)) (inner k u .1)) (r (q + m) (y .2))
+
+level-deeper : (inner inner′ : Frame → List ℕ → Walked) → Deeper inner inner′ → (k : Frame) (n : ℕ) (l : List ℕ) → level inner k n l .1 ≡ 0 → level inner′ k n l ≡ level inner k n l
+unfolding level
+level-deeper inner inner′ i k zero [] z = refl
+level-deeper inner inner′ i k (suc n) [] z = refl
+level-deeper inner inner′ i k (suc n) (x ∷ l) z = level-deeper inner inner′ i k n l z
+level-deeper inner inner′ i k zero (x ∷ l) z =
+    turn-deeper inner inner′ i (childOf k (x ∷ l)) (x ∷ l) (λ m. level inner k (m - 1) l) (λ m. level inner′ k (m - 1) l) (λ m y. level-deeper inner inner′ i k (m - 1) l y) z
+
+pub walk-deeper : (d e : ℕ) → d ≤ e → Deeper (walk d) (walk e)
+unfolding walk
+walk-deeper zero e h k l z = absurd (omega arith)
+walk-deeper (suc d) zero h k l z = absurd (not-suc-le-zero h)
+walk-deeper (suc d) (suc e) h k l z = level-deeper (walk d) (walk e) (walk-deeper d e (omega arith)) k 0 l z
+
 -- ---- whole tapes
 
 -- what is known of a tape that is accepted

@@ -1,13 +1,14 @@
 -- What the contracts of the tape's functions say of their answers. Assumes nothing: these are definitions.
 use Prim.Native.Nat.{ℕ, _+_}
 use mathlib.Core.List.{List, []}
+use mathlib.Core.Bool.{true}
 use mathlib.Core.Option.{Option, none, some}
 use lib.ListN.{length, take, drop}
 use lib.Dec.{leb}
 use Rattle.output.specs.Logic.{if}
 use Rattle.text_rules.specs.Text.{Sym}
-use Rattle.tape.specs.Tree.{Scalar, Head, null, bool, int, float, decimal, timestamp, symbol, string, clob, blob}
-use Rattle.tape.specs.Tape.{reading, lengthOf, headOf}
+use Rattle.tape.specs.Tree.{Scalar, Head, Node, null, bool, int, float, decimal, timestamp, symbol, string, clob, blob, nest, marker}
+use Rattle.tape.specs.Tape.{reading, lengthOf, headOf, Value, absent, leaf, body, valueOf, walk}
 use Rattle.tape.specs.declared.Frame.{Frame}
 use Rattle.tape.specs.declared.Scalar.{Scalar as ScalarC}
 use Rattle.tape.specs.declared.Scalar.the-variants as C
@@ -67,3 +68,34 @@ scanned (Is s) l = some (meantScalar s l, sizeOf s)
 -- the head of the child at the start of a list, if it has one that is as it must be
 abbrev pub headAt : Frame → List ℕ → Head
 headAt k l = reading (headOf k l) (none, []) (λ h n. h)
+
+-- how many bytes were read
+abbrev pub sizeTaken : {A : Type 0} → Option (A × ℕ) → ℕ
+sizeTaken o = reading o 0 (λ a n. n)
+
+-- ---- the value that the bytes l start with, where a marker may stand too; d: how many bodies may be opened
+
+abbrev pub nodeIs : ℕ → List ℕ → Value → Node
+nodeIs d l absent = marker
+nodeIs d l (leaf n m) = n
+nodeIs d l (body k m) = nest k (walk d k (take m (drop 5 l)) .0)
+
+abbrev pub sizeIs : Value → ℕ
+sizeIs absent = 0
+sizeIs (leaf n m) = m
+sizeIs (body k m) = 5 + m
+
+-- 2 where no value is whole, else what is wrong in a container
+abbrev pub problemIs : ℕ → List ℕ → Value → ℕ
+problemIs d l absent = 2
+problemIs d l (leaf n m) = 0
+problemIs d l (body k m) = walk d k (take m (drop 5 l)) .1
+
+unfoldable pub nodeAt : ℕ → List ℕ → Node
+nodeAt d l = nodeIs d l (valueOf true l)
+
+unfoldable pub sizeAt : List ℕ → ℕ
+sizeAt l = sizeIs (valueOf true l)
+
+unfoldable pub problemAt : ℕ → List ℕ → ℕ
+problemAt d l = problemIs d l (valueOf true l)

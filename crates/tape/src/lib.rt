@@ -9,8 +9,8 @@ ghost use mathlib.Core.List.{List};
 ghost use lib.ListN.{length, drop};
 ghost use Rattle.tape.specs.Bytes.{leNumber, signed, part};
 ghost use Rattle.tape.specs.Tree.{null, bool, string, clob, blob};
-ghost use Rattle.tape.specs.Tape.{symOf, symsOf, nameOf, notesOf, byteOf, intOf, floatAs, floatOf, decimalOf, timestampAs, timestampOf, symbolOf, sizedOf, scalarOf};
-ghost use Rattle.tape.specs.Steps.{placeOf, lengthIn, meantSym, scanned, sizeOf};
+ghost use Rattle.tape.specs.Tape.{symOf, symsOf, nameOf, notesOf, headOf, byteOf, intOf, floatAs, floatOf, decimalOf, timestampAs, timestampOf, symbolOf, sizedOf, scalarOf};
+ghost use Rattle.tape.specs.Steps.{placeOf, lengthIn, meantSym, scanned, sizeOf, sizeTaken, sizeAt};
 use numbers::timestamp::Timestamp;
 
 // Where nodes stand side by side.
@@ -487,4 +487,50 @@ pub fn name_end(tape: &[u8], at: usize, end: usize, frame: Frame) -> Place
         Frame::List => Place::At(at),
         Frame::Sexp => Place::At(at),
     }
+}
+
+// ---- children of nodes without a problem
+
+// Where the value of the child at a place stands: behind its name and its annotations.
+pub fn value_place(tape: &[u8], at: usize, end: usize, frame: Frame) -> usize
+    requires { ⌜ at ≤ end ⌝ }
+    requires { ⌜ end ≤ length (now tape) ⌝ }
+    ensures { λ r. ⌜ r ≡ at + sizeTaken (headOf frame (part (now (tape .entry)) at end)) ⌝ }
+{
+    let Place::At(notes) = name_end(tape, at, end, frame) else {
+        return at;
+    };
+    let Place::At(value) = notes_end(tape, notes, end) else {
+        return at;
+    };
+    value
+}
+
+// How many bytes the value at a place takes.
+pub fn value_size(tape: &[u8], at: usize, end: usize) -> usize
+    requires { ⌜ at ≤ end ⌝ }
+    requires { ⌜ end ≤ length (now tape) ⌝ }
+    requires { ⌜ 0 < sizeAt (part (now tape) at end) ⌝ }
+    ensures { λ r. ⌜ r ≡ sizeAt (part (now (tape .entry)) at end) ⌝ }
+{
+    let k = tape[at];
+    if k < 2 {
+        return 2;
+    }
+    if k < 4 {
+        return 9;
+    }
+    if k == 4 {
+        return 14;
+    }
+    if k == 5 {
+        return 16;
+    }
+    if k == 7 {
+        return 5;
+    }
+    if k == 14 {
+        return 1;
+    }
+    5 + u32_at(tape, at + 1) as usize
 }

@@ -29,7 +29,8 @@ use Rattle.tape.proofs.CodeReading.{value-marker, notes-none}
 use Rattle.tape.proofs.CodeFacts.{first-inner}
 use Rattle.tape.proofs.FineBack.{tape-fine}
 use Rattle.writer.specs.Steps.{items}
-use Rattle.writer.proofs.Verdicts.{answered-refused, left-kept, wrote-laid, wrote-counted, wrote-clipped, nodes-walked}
+use Rattle.tape.proofs.Verdicts.{nodes-walked}
+use Rattle.writer.proofs.Verdicts.{answered-refused, left-kept, wrote-laid, wrote-counted, wrote-clipped}
 use Rattle.measure.specs.Sums.{contents, separators, lasts}
 use Rattle.measure.proofs.TextSums.{tree-sums}
 use Rattle.measure.proofs.Bound.{tape-most}

@@ -6,22 +6,36 @@ use mathlib.Core.Bool.{Bool, true, false, not}
 use mathlib.Core.Option.{Option}
 use native.Mathlib.Decide.{decLe}
 use native.Mathlib.Omega.{arith}
-use borrow.Author.Tests.{lt-ltb, le-ltb, eq-eqb, ne-eqb}
+use borrow.Author.Tests.{eqb-true, eqb-false, lt-ltb, le-ltb, eq-eqb, ne-eqb}
 use lib.Dec.{ltb, eqb}
 use lib.ListN.{length, getD, take, drop}
 use Rattle.output.specs.Logic.{if, ascii}
 use Rattle.tape.specs.Bytes.{part, leNumber}
 use Rattle.tape.specs.Tree.{Scalar, Head, Node, Nodes, scalar, nest, marker, nil, more}
-use Rattle.tape.specs.Tape.{reading, kind, lengthOf, headOf, scalarOf, walk}
-use Rattle.tape.specs.Steps.{headAt}
+use Rattle.tape.specs.Tape.{reading, kind, lengthOf, headOf, scalarOf, Walked, walk}
+use Rattle.tape.specs.Steps.{headAt, sizeTaken, nodeAt, sizeAt, problemAt}
 use Rattle.tape.specs.CheckSteps.{frameOf}
 use Rattle.tape.specs.declared.Frame.{Frame}
 use Rattle.writer.specs.Text.{scalarText, nameText, notesText, opening, closing, separator, broken, deeper, blanks, text, texts}
 use Rattle.tape.proofs.Parts.{part-length, part-first, part-number, part-inner}
-use Rattle.writer.specs.Steps.{sizeTaken, front, ending, isNil, item, items, nodeAt, sizeAt, problemAt}
-use Rattle.writer.proofs.Turning.{OfScalar, ScalarHere, OpenHere, some-here, size-some, scalar-here, marker-node, marker-size, open-here, turn-here, left-nil}
+use Rattle.writer.specs.Steps.{front, ending, isNil, item, items}
+use Rattle.tape.proofs.Walking.{walk-end}
+use Rattle.tape.proofs.Turning.{OfScalar, ScalarHere, OpenHere, some-here, size-some, scalar-here, marker-node, marker-size, open-here, turn-here}
 
 -- ---- a turn of the walk
+
+-- nothing is left behind the last child, and only there
+left-nil : (d : ℕ) (k : Frame) (s : List ℕ) (at e : ℕ) → (d ≡ 0 → ⊥) → at ≤ e → e ≤ length s → walk d k (part s at e) .1 ≡ 0 → isNil (walk d k (part s at e) .0) ≡ eqb at e
+left-nil d k s at e nz h i z = go (eqb at e) refl
+  where
+    go : (b : Bool) → eqb at e ≡ b → isNil (walk d k (part s at e) .0) ≡ b
+    go true q =
+        let y : at ≡ e = eqb-true _ _ q in
+        let len = part-length s at e i in
+        ap (λ (w : Walked). isNil (w .0)) (walk-end k d (part s at e) nz (omega arith))
+    go false q =
+        let y : at ≡ e → ⊥ = eqb-false _ _ q in
+        ap isNil (turn-here d k s at e nz (omega arith) i z .nodes)
 
 module _ (y : ℕ) (w : ℕ) (d : ℕ) (k : Frame) (s : List ℕ) (at e : ℕ) (nz : d ≡ 0 → ⊥) (h : at < e) (i : e ≤ length s) (z : walk d k (part s at e) .1 ≡ 0) where
   abbrev value : ℕ

@@ -15,7 +15,7 @@ use Rattle.numbers.specs.declared.timestamp.Timestamp.{Timestamp}
 use Rattle.tape.specs.Bytes.{part, leNumber, signed}
 use Rattle.tape.specs.Tree.{Scalar, int, decimal, timestamp, symbol, string, blob, encodeSym, encodeScalar}
 use Rattle.tape.specs.Tape.{reading, kind, lengthOf, symOf, nameOf, decimalOf, timestampAs, symbolOf, sizedOf, scalarOf}
-use Rattle.tape.specs.Steps.{meantScalar, sizeOf}
+use Rattle.tape.specs.Steps.{meantScalar, sizeOf, sizeTaken}
 use Rattle.tape.specs.Fine.{Bytes}
 use Rattle.tape.specs.declared.Frame.the-variants.{Struct}
 use Rattle.tape.specs.declared.Place.the-variants.{Bad as Nowhere, At}
@@ -25,7 +25,7 @@ use Rattle.tape.proofs.Numbers.{bytes-drop, bytes-take}
 use Rattle.tape.proofs.Reading.{Sound, something, scalar-sound}
 use Rattle.tape.proofs.Parts.{part-length, part-first, part-byte, part-number}
 use Rattle.tape.proofs.CodeReading.{int-short, int-some, decimal-short, decimal-over, decimal-some, timestamp-short, timestamp-some, timestamp-part, length-over, length-some, text-by, sym-text, sym-id, sym-none, sym-short, scalar-int, scalar-decimal, scalar-timestamp, scalar-symbol, scalar-string, scalar-blob, scalar-empty}
-use Rattle.writer.specs.Steps.{Rare, nameIn, sizeTaken}
+use Rattle.writer.specs.Steps.{Rare, nameIn}
 
 -- ---- symbols
 

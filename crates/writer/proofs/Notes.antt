@@ -14,7 +14,7 @@ use Rattle.text_rules.specs.Text.{Sym}
 use Rattle.tape.specs.Bytes.{part}
 use Rattle.tape.specs.Tree.{Head, encodeNotes}
 use Rattle.tape.specs.Tape.{reading, kind, symOf, symsOf, nameOf, notesOf, headOf}
-use Rattle.tape.specs.Steps.{placeOf, headAt}
+use Rattle.tape.specs.Steps.{placeOf, headAt, sizeTaken}
 use Rattle.tape.specs.declared.Frame.{Frame}
 use Rattle.tape.specs.declared.Place.{Place}
 use Rattle.tape.specs.declared.Place.the-variants.{At}
@@ -22,7 +22,7 @@ use Rattle.tape.proofs.Parts.{part-drop, part-first}
 use Rattle.tape.proofs.Reading.{if-all, notes-sound, Long, long, sym-long}
 use Rattle.tape.proofs.CodeReading.{place-read, place-within, head-one, notes-none}
 use Rattle.writer.specs.Text.{symText, nameText, notesText, blanks}
-use Rattle.writer.specs.Steps.{nameIn, notesIn, sizeTaken, front}
+use Rattle.writer.specs.Steps.{nameIn, notesIn, front}
 use Rattle.writer.proofs.Texts.{name-head}
 
 -- the same was read

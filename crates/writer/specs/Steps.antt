@@ -10,7 +10,7 @@ use lib.ListN.{length, take, drop}
 use Rattle.output.specs.Logic.{if, byte, ascii}
 use Rattle.text_rules.specs.Text.{Sym, symbolText}
 use Rattle.tape.specs.Tree.{Head, Node, Nodes, scalar, nest, marker, nil, more}
-use Rattle.tape.specs.Tape.{reading, nameOf, notesOf, Value, absent, leaf, body, valueOf, walk}
+use Rattle.tape.specs.Tape.{reading, nameOf, notesOf, body, walk}
 use Rattle.tape.specs.declared.Frame.{Frame}
 use Rattle.tape.specs.declared.Scalar.{Scalar as ScalarC}
 use Rattle.tape.specs.declared.Scalar.the-variants as C
@@ -38,10 +38,6 @@ nameIn k l = reading (nameOf k l) none (λ a n. a)
 -- the annotations that the bytes l start with
 abbrev pub notesIn : List ℕ → List Sym
 notesIn l = reading (notesOf l) [] (λ ss n. ss)
-
--- how many bytes were read
-abbrev pub sizeTaken : {A : Type 0} → Option (A × ℕ) → ℕ
-sizeTaken o = reading o 0 (λ a n. n)
 
 -- the n bytes of s from a place on are a symbol that stands bare, and eight bytes stand there
 pub record Plain (s : List ℕ) (from n : ℕ) : Type 0 where
@@ -75,30 +71,3 @@ unfoldable mutual
   pub items : ℕ → Frame → ℕ → Nodes → List ℕ
   items y k w nil = []
   items y k w (more h n ns) = (front y w h ++ (item y w n ++ ending y k (isNil ns))) ++ items y k w ns
-
--- ---- the value that the bytes l start with, where a marker may stand too; d: how many bodies may be opened
-
-abbrev pub nodeIs : ℕ → List ℕ → Value → Node
-nodeIs d l absent = marker
-nodeIs d l (leaf n m) = n
-nodeIs d l (body k m) = nest k (walk d k (take m (drop 5 l)) .0)
-
-abbrev pub sizeIs : Value → ℕ
-sizeIs absent = 0
-sizeIs (leaf n m) = m
-sizeIs (body k m) = 5 + m
-
--- 2 where no value is whole, else what is wrong in a container
-abbrev pub problemIs : ℕ → List ℕ → Value → ℕ
-problemIs d l absent = 2
-problemIs d l (leaf n m) = 0
-problemIs d l (body k m) = walk d k (take m (drop 5 l)) .1
-
-unfoldable pub nodeAt : ℕ → List ℕ → Node
-nodeAt d l = nodeIs d l (valueOf true l)
-
-unfoldable pub sizeAt : List ℕ → ℕ
-sizeAt l = sizeIs (valueOf true l)
-
-unfoldable pub problemAt : ℕ → List ℕ → ℕ
-problemAt d l = problemIs d l (valueOf true l)

@@ -1,9 +1,10 @@
-//! The calls from Rust: limits, refusals, examples, the round trip, damaged texts. What is expected is written out or built here from
-//! docs/FORMAT.md, node by node; every check compares the answer and the whole buffer, with guard bytes around it.
+//! The calls from Rust: limits, refusals, examples, the round trip, damaged texts, the index. What is expected is written out or built here from
+//! docs/FORMAT.md, node by node; every check compares the answer and the whole buffer, or every entry, with guards around it.
 
 mod check;
 mod damage;
 mod examples;
+mod index;
 mod limits;
 mod random;
 mod refusals;

@@ -1,6 +1,7 @@
-//! Each refusal of the table from 1 to 10, its place in the order, and what it leaves in the buffer.
+//! Each refusal of the table from 1 to 12, its place in the order, and what it leaves in the buffer or the entries.
 
 use crate::check::*;
+use crate::index::check_index;
 use crate::tapes::*;
 use lechuqta::*;
 
@@ -25,9 +26,15 @@ fn refused(writers: &[Writer], tape: &[u8], refusal: Refusal) {
     }
 }
 
+/// And so does the index, wherever a struct is looked for and however many entries there are.
 fn refused_by_all(tape: &[u8], refusal: Refusal) {
     refused(&STREAMS, tape, refusal);
     refused(&TREE, tape, refusal);
+    for at in [0, 1, 5, tape.len(), usize::MAX] {
+        for room in [0, 4] {
+            check_index(tape, at, room, Err(refusal));
+        }
+    }
 }
 
 fn broken(node: &[u8]) -> Vec<u8> {
@@ -239,9 +246,35 @@ fn r10_past_text() {
 }
 
 #[test]
+fn r11_no_struct() {
+    let field = (symbol("a"), structure(&[]));
+    let tapes =
+        [tape(&[]), single(&list(&[])), single(&null(12)), single(&string("\u{c}\0\0\0\0")), single(&annotated(&[id(1)], structure(&[field])))];
+    for tape in tapes {
+        for at in [0, tape.len() - 8, tape.len(), tape.len() + 1, usize::MAX] {
+            // Also where there are no entries: 11 comes before 12.
+            for room in [0, 4] {
+                check_index(&tape, at, room, Err(Refusal::NoStruct));
+            }
+        }
+    }
+}
+
+#[test]
+fn r12_too_many_fields() {
+    let fields = vec![(symbol("a"), annotated(&[symbol("b")], structure(&[]))); 20];
+    let t = single(&structure(&fields));
+    for room in 0..20 {
+        check_index(&t, 0, room, Err(Refusal::TooManyFields));
+    }
+    let index: Vec<_> = (0..20).map(|i| Entry { name: 5 + 19 * i, value: 11 + 19 * i }).collect();
+    check_index(&t, 0, 20, Ok(&index));
+}
+
+#[test]
 fn numbers_and_messages() {
     let numbers = Refusal::ALL.map(Refusal::number);
-    assert_eq!(numbers, [1, 2, 3, 4, 5, 6, 7, 8, 9, 10]);
+    assert_eq!(numbers, [1, 2, 3, 4, 5, 6, 7, 8, 9, 10, 11, 12]);
     for (i, refusal) in Refusal::ALL.into_iter().enumerate() {
         assert_eq!(refusal.to_string(), format!("refused {}: {}", i + 1, refusal.message()));
         for other in &Refusal::ALL[..i] {

@@ -7,7 +7,8 @@ use Rattle.tape.specs.Tape.{bodyOf}
 use Rattle.tape.specs.Verdict.{verdict}
 use Rattle.tape.specs.Refusal.{noteds}
 use Rattle.writer.specs.Outcome.{refusal}
-use Rattle.writer.proofs.Verdicts.{verdict-most, layout-bad, tape-bad, tape-noted, tape-good}
+use Rattle.tape.proofs.Verdicts.{verdict-most}
+use Rattle.writer.proofs.Verdicts.{layout-bad, tape-bad, tape-noted, tape-good}
 use Rattle.measure.proofs.Verdicts.{Summed, sums-told, refused-by, counted-plain, counted-pretty}
 use borrow.Author.Needs.{needs}
 use Rattle.measure.proofs.text_length.Statement.{statement}

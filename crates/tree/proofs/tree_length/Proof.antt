@@ -10,7 +10,7 @@ use Rattle.tape.specs.Fine.{Bytes}
 use Rattle.tape.specs.Verdict.{verdict}
 use Rattle.tape.specs.Refusal.{numbereds}
 use Rattle.tape.proofs.Walking.{verdict-told}
-use Rattle.writer.proofs.Verdicts.{verdict-most}
+use Rattle.tape.proofs.Verdicts.{verdict-most}
 use Rattle.measure.proofs.Verdicts.{Summed, sums-told}
 use Rattle.tree.specs.Outcome.{refusal}
 use Rattle.tree.proofs.Verdicts.{tape-bad, tape-many, tape-numbered, tape-marked, tape-good, length-refused, length-counted}

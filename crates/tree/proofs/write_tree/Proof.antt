@@ -6,7 +6,7 @@ use native.Mathlib.Omega.{arith}
 use Rattle.output.proofs.Laws.{wrote-length}
 use Rattle.tape.proofs.Walking.{verdict-told}
 use Rattle.tape.specs.Fine.{Bytes}
-use Rattle.writer.proofs.Verdicts.{verdict-most, fine-walked}
+use Rattle.tape.proofs.Verdicts.{verdict-most, fine-walked}
 use Rattle.tree.proofs.Verdicts.{tape-bad, tape-many, tape-numbered, tape-marked, tape-good, refused-by, kept-by, laid-by, counted-by, clipped-by}
 use borrow.Author.Needs.{needs}
 use Rattle.tree.proofs.write_tree.Statement.{statement}

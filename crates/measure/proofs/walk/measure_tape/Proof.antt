@@ -15,7 +15,7 @@ use Rattle.tape.specs.declared.Frame.the-variants.{Top}
 use Rattle.tape.specs.declared.check.Checked.{Checked}
 use Rattle.tape.proofs.Walking.{first-zero}
 use Rattle.tape.proofs.CodeVerdict.{misfit-short, misfit-long, misfit-body, refuse-misfit, refuse-nodes, accept}
-use Rattle.writer.proofs.Verdicts.{nodes-walked}
+use Rattle.tape.proofs.Verdicts.{nodes-walked}
 use Rattle.measure.specs.Sums.{contents, separators, lasts, indents, summed}
 use Rattle.measure.specs.Steps.{plus}
 use Rattle.measure.proofs.Verdicts.{met-checks}

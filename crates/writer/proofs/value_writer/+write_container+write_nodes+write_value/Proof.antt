@@ -12,7 +12,7 @@ use Rattle.tape.proofs.Walking.{walk-end}
 use Rattle.tape.proofs.Parts.{part-length}
 use Rattle.writer.specs.Steps.{ending, items}
 use Rattle.writer.proofs.Layouts.{deeper-most}
-use Rattle.writer.proofs.Turning.{head-here, turn-here}
+use Rattle.tape.proofs.Turning.{head-here, turn-here}
 use Rattle.writer.proofs.Indented.{wrote-moved}
 use Rattle.writer.proofs.Items.{last-child, items-turn, value-place, scalar-text, scalar-size, scalar-some, marker-text, marker-length, header-room, container}
 use Rattle.tape.proofs.Parts.{trailed}

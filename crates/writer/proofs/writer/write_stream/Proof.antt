@@ -4,7 +4,8 @@ use mathlib.Core.Path.{sym, _∙_}
 use native.Mathlib.Omega.{arith}
 use Rattle.output.proofs.Laws.{wrote-length}
 use Rattle.tape.proofs.Walking.{verdict-told}
-use Rattle.writer.proofs.Verdicts.{verdict-most, layout-bad, tape-bad, tape-noted, tape-good, fine-walked, refused-by, kept-by, laid-by, counted-by, clipped-by}
+use Rattle.tape.proofs.Verdicts.{verdict-most, fine-walked}
+use Rattle.writer.proofs.Verdicts.{layout-bad, tape-bad, tape-noted, tape-good, refused-by, kept-by, laid-by, counted-by, clipped-by}
 use borrow.Author.Needs.{needs}
 use Rattle.writer.proofs.writer.write_stream.Statement.{statement}
 use Rattle.writer.proofs.writer.write_stream.Tie as tie

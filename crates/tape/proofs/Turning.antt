@@ -5,26 +5,25 @@ use mathlib.Core.List.{List, []}
 use mathlib.Core.Bool.{Bool, true, false}
 use mathlib.Core.Option.{Option, none, some}
 use native.Mathlib.Omega.{arith}
-use borrow.Author.Tests.{leb-true, eqb-true, eqb-false}
+use borrow.Author.Tests.{leb-true}
 use native.Mathlib.Decide.{decLe}
 use lib.Dec.{eqb, leb}
 use lib.ListN.{length, take, drop}
 use Rattle.output.specs.Logic.{if}
 use Rattle.tape.specs.Bytes.{part}
 use Rattle.tape.specs.Tree.{Scalar, Head, Node, scalar, nest, marker, more}
 use Rattle.tape.specs.Tape.{reading, kind, lengthOf, headOf, scalarOf, Value, absent, leaf, body, openOf, valueOf, freeAt, bad, single, childOf, headFault, fault, Walked, walk}
-use Rattle.tape.specs.Steps.{placeOf, headAt}
+use Rattle.tape.specs.Steps.{placeOf, headAt, sizeTaken, nodeIs, sizeIs, problemIs, nodeAt, sizeAt, problemAt}
 use Rattle.tape.specs.CheckSteps.{frameOf}
 use Rattle.tape.specs.declared.Frame.{Frame}
 use Rattle.tape.specs.declared.Place.the-variants.{At}
 use Rattle.tape.proofs.Parts.{part-length, part-inner}
 use Rattle.tape.proofs.Reading.{SoundV, a-leaf, a-body, value-sound}
 use Rattle.tape.proofs.CodeReading.{value-marker, value-scalar, scalar-other}
 use Rattle.tape.proofs.CodeFacts.{value-open}
 use Rattle.tape.proofs.CodeChild.{head-within, child-headless, child-is}
-use Rattle.tape.proofs.Walking.{walk-end, join-zero}
+use Rattle.tape.proofs.Walking.{join-zero}
 use Rattle.tape.proofs.Turns.{bad-turn, single-step, tree-turn}
-use Rattle.writer.specs.Steps.{sizeTaken, isNil, nodeIs, sizeIs, problemIs, nodeAt, sizeAt, problemAt}
 
 -- ---- a value, by its kind
 
@@ -216,16 +215,3 @@ module _ (d : ℕ) (k : Frame) (s : List ℕ) (at e : ℕ) (nz : d ≡ 0 → ⊥
             forth = omega arith;
             behind = omega arith;
           }
-
--- nothing is left behind the last child, and only there
-pub left-nil : (d : ℕ) (k : Frame) (s : List ℕ) (at e : ℕ) → (d ≡ 0 → ⊥) → at ≤ e → e ≤ length s → walk d k (part s at e) .1 ≡ 0 → isNil (walk d k (part s at e) .0) ≡ eqb at e
-left-nil d k s at e nz h i z = go (eqb at e) refl
-  where
-    go : (b : Bool) → eqb at e ≡ b → isNil (walk d k (part s at e) .0) ≡ b
-    go true q =
-        let y : at ≡ e = eqb-true _ _ q in
-        let len = part-length s at e i in
-        ap (λ (w : Walked). isNil (w .0)) (walk-end k d (part s at e) nz (omega arith))
-    go false q =
-        let y : at ≡ e → ⊥ = eqb-false _ _ q in
-        ap isNil (turn-here d k s at e nz (omega arith) i z .nodes)

@@ -1,0 +1,15 @@
+pub mod OrderLaws
+pub mod SortedLaws
+pub mod HeapLaws
+pub mod TurnLaws
+pub mod SortStates
+pub mod SearchLaws
+pub mod NameLaws
+pub mod StructLaws
+pub mod FieldLaws
+pub mod IndexLaws
+pub mod Located
+pub mod LookLaws
+pub mod Claims
+pub mod Again
+pub mod LocalArray

@@ -1,0 +1,315 @@
+-- A lookup over an index gives the first field with the name, and none exactly if no field has it. Assumes nothing.
+use Prim.Native.Nat.{ℕ, zero, suc, _+_, _<_, _≤_}
+use mathlib.Core.Path.{_≡_, refl, sym, ap, subst, _∙_}
+use mathlib.Core.List.{List, [], _∷_, _++_}
+use mathlib.Core.Bool.{Bool, true, false}
+use mathlib.Core.Option.{Option, none, some}
+use native.Mathlib.Omega.{arith}
+use lib.ListN.{length, getD, take, drop, length-append, List·getD-append}
+use lib.Seq.{take-at}
+use Rattle.output.specs.Logic.{if, on}
+use Rattle.output.proofs.Bools.{never}
+use Rattle.text_rules.specs.Text.{Sym}
+use Rattle.tape.specs.Bytes.{part, first}
+use Rattle.tape.specs.Tree.{Head, Node, Nodes, null, bool, int, float, decimal, timestamp, symbol, string, clob, blob, scalar, nest, marker, nil, more, size, encodeSym, encodeScalar, encodeName, encodeHead, encode}
+use Rattle.tape.specs.Steps.{headAt, sizeAt}
+use Rattle.tape.specs.Fine.{Bytes}
+use Rattle.tape.specs.Verdict.{verdict}
+use Rattle.tape.specs.Answer.{Outcome, counted, ended, refused}
+use Rattle.tape.specs.declared.Frame.the-variants.{Struct}
+use Rattle.field_index.specs.declared.Entry.{Entry}
+use Rattle.field_index.specs.declared.Indexed.{Indexed}
+use Rattle.field_index.specs.declared.Indexed.the-variants as I
+use Rattle.field_index.specs.declared.Found.{Found}
+use Rattle.field_index.specs.declared.Found.the-variants.{Nothing, At}
+use Rattle.field_index.specs.declared.Looked.{Looked}
+use Rattle.field_index.specs.declared.Looked.the-variants as L
+use Rattle.field_index.specs.declared.names.Way.{Way}
+use Rattle.field_index.specs.declared.names.Way.the-variants.{Less, Equal, Greater}
+use Rattle.field_index.specs.Names.{noEntry, thenBy, isLess, isEqual, comparedNumbers, comparedNames, nameAt, comparedPlaces, before}
+use Rattle.field_index.specs.Sorted.{many, Same, First, Sorted, sorted}
+use Rattle.field_index.specs.Structs.{structAt, fieldsFrom}
+use Rattle.field_index.specs.Index.{indexed, refusal, fieldsAt, indexAt, answered, left, IndexOf}
+use Rattle.field_index.specs.Lookup.{sought, named, further, firstWith, Within, Finds, isNamed, firstField, lookedBy, lookedUp}
+use Rattle.field_index.specs.IndexSteps.{childrenIn, Body, countOf, placeIn, foundAs, lookedAs}
+use Rattle.field_index.proofs.OrderLaws.{turned, names, greater-is, before-order}
+use Rattle.field_index.proofs.SortedLaws.{same-length, sorted-sorted, sorted-same, only-one}
+use Rattle.field_index.proofs.StructLaws.{node, next-is}
+use Rattle.field_index.proofs.FieldLaws.{its-name, name-long, fields-turn, nextAt, its-turn, body-next, one-less, some-left}
+use Rattle.field_index.proofs.IndexLaws.{no-refusal, fields-few, fields-of}
+use Rattle.field_index.proofs.Located.{held, name-read}
+
+-- ---- the elements that pass a test, in their order
+
+unfoldable pub filter : {A : Type 0} → (A → Bool) → List A → List A
+filter q [] = []
+filter q (x ∷ l) = if (q x) (x ∷ filter q l) (filter q l)
+
+module _ {A : Type 0} (q : A → Bool) where
+  many-filter : (p : A → Bool) (l : List A) → many p (filter q l) ≡ many (λ x. if (q x) (p x) false) l
+  unfolding filter
+  many-filter p [] = refl
+  many-filter p (x ∷ l) = go (q x) (many-filter p l)
+    where
+      go : (b : Bool) → many p (filter q l) ≡ many (λ y. if (q y) (p y) false) l → many p (if b (x ∷ filter q l) (filter q l)) ≡ if (if b (p x) false) 1 0 + many (λ y. if (q y) (p y) false) l
+      go true e = ap (λ (n : ℕ). if (p x) 1 0 + n) e
+      go false e = e ∙ omega arith
+
+  filter-same : (l m : List A) → Same l m → Same (filter q l) (filter q m)
+  filter-same l m s p = many-filter p l ∙ s (λ x. if (q x) (p x) false) ∙ sym (many-filter p m)
+
+  module _ (b : A → A → Bool) where
+    filter-first : (x : A) (l : List A) → First b x l → First b x (filter q l)
+    unfolding filter
+    filter-first x [] f = tt
+    filter-first x (y ∷ l) f = go (q y) (filter-first x l (f .1))
+      where
+        go : (c : Bool) → First b x (filter q l) → First b x (if c (y ∷ filter q l) (filter q l))
+        go true r = (f .0, r)
+        go false r = r
+
+    filter-sorted : (l : List A) → Sorted b l → Sorted b (filter q l)
+    unfolding filter
+    filter-sorted [] s = tt
+    filter-sorted (x ∷ l) s = go (q x) (filter-sorted l (s .1))
+      where
+        go : (c : Bool) → Sorted b (filter q l) → Sorted b (if c (x ∷ filter q l) (filter q l))
+        go true r = (filter-first x l (s .0), r)
+        go false r = r
+
+abbrev headAs : List Entry → Looked
+headAs [] = L.Nothing
+headAs (x ∷ l) = L.Field x
+
+-- the first that passes is the first of these
+first-filter : (q : Entry → Bool) (l : List Entry) → foundAs (firstWith q l) (getD l (placeIn (firstWith q l)) noEntry) ≡ headAs (filter q l)
+unfolding filter firstWith
+first-filter q [] = refl
+first-filter q (x ∷ l) = go (q x) (firstWith q l) (first-filter q l)
+  where
+    go : (b : Bool) (r : Found) → foundAs r (getD l (placeIn r) noEntry) ≡ headAs (filter q l)
+        → foundAs (if b (At 0) (further r)) (getD (x ∷ l) (placeIn (if b (At 0) (further r))) noEntry) ≡ headAs (if b (x ∷ filter q l) (filter q l))
+    go true r e = refl
+    go false Nothing e = e
+    go false (At k) e = e
+
+-- a node has a byte at least
+encoded-some : (n : Node) → 0 < length (encode n)
+unfolding encode encodeScalar encodeSym
+encoded-some (scalar (null x)) = omega arith
+encoded-some (scalar (bool x)) = omega arith
+encoded-some (scalar (int x)) = omega arith
+encoded-some (scalar (float x)) = omega arith
+encoded-some (scalar (decimal x m e)) = omega arith
+encoded-some (scalar (timestamp x)) = omega arith
+encoded-some (scalar (symbol (Sym.text s))) = omega arith
+encoded-some (scalar (symbol (Sym.id i))) = omega arith
+encoded-some (scalar (string s)) = omega arith
+encoded-some (scalar (clob s)) = omega arith
+encoded-some (scalar (blob s)) = omega arith
+encoded-some (nest k ns) = omega arith
+encoded-some marker = omega arith
+
+pub child-some : (h : Head) (n : Node) → 0 < length (encodeHead h ++ encode n)
+child-some h n = let a = length-append (encodeHead h) (encode n) in let s = encoded-some n in omega arith
+
+-- ---- fields with one name stand in the index as they stand in the struct
+
+pub equal-of : (w : Way) → isEqual w ≡ true → w ≡ Equal
+equal-of Less e = never (sym e)
+equal-of Equal e = refl
+equal-of Greater e = never (sym e)
+
+module _ (t : List ℕ) (name : Sym) where
+  -- of two of them the one with the smaller offset comes first
+  not-before : (x y : Entry) → x .name < y .name → named t name x ≡ true → named t name y ≡ true → before t y x ≡ false
+  unfolding before sought
+  not-before x y h p q = ap (λ (w : Way). isLess (thenBy w (comparedPlaces y x))) same ∙ ap (λ (w : Way). isLess (thenBy w (comparedNumbers (y .value) (x .value)))) (greater-is (y .name) (x .name) h)
+    where
+      same : comparedNames (nameAt t (y .name)) (nameAt t (x .name)) ≡ Equal
+      same = names .alike (nameAt t (y .name)) name (nameAt t (x .name)) (equal-of (sought t name y) q) ∙ names .flips (nameAt t (x .name)) name ∙ ap turned (equal-of (sought t name x) p)
+
+  abbrev has : Entry → Bool
+  has e = named t name e
+
+  later-first : (x : Entry) (p : ℕ) (ns : Nodes) → x .name < p → has x ≡ true → First (before t) x (filter has (fieldsFrom p ns))
+  unfolding filter fieldsFrom
+  later-first x p nil h e = tt
+  later-first x p (more g n ns) h e = go (has y) refl (later-first x (p + length (encodeHead g ++ encode n)) ns (omega arith) e)
+    where
+      y : Entry
+      y = record { name = p; value = p + length (encodeName (g .0)) }
+
+      go : (c : Bool) → has y ≡ c → First (before t) x (filter has (fieldsFrom (p + length (encodeHead g ++ encode n)) ns)) → First (before t) x (if c (y ∷ filter has (fieldsFrom (p + length (encodeHead g ++ encode n)) ns)) (filter has (fieldsFrom (p + length (encodeHead g ++ encode n)) ns)))
+      go true q r = (not-before x y h e q, r)
+      go false q r = r
+
+  in-order : (p : ℕ) (ns : Nodes) → Sorted (before t) (filter has (fieldsFrom p ns))
+  unfolding filter fieldsFrom
+  in-order p nil = tt
+  in-order p (more g n ns) = go (has y) refl (in-order (p + length (encodeHead g ++ encode n)) ns)
+    where
+      y : Entry
+      y = record { name = p; value = p + length (encodeName (g .0)) }
+
+      go : (c : Bool) → has y ≡ c → Sorted (before t) (filter has (fieldsFrom (p + length (encodeHead g ++ encode n)) ns)) → Sorted (before t) (if c (y ∷ filter has (fieldsFrom (p + length (encodeHead g ++ encode n)) ns)) (filter has (fieldsFrom (p + length (encodeHead g ++ encode n)) ns)))
+      go true q r = (later-first y (p + length (encodeHead g ++ encode n)) ns (let l = child-some g n in omega arith) q, r)
+      go false q r = r
+
+  pub same-order : (p : ℕ) (ns : Nodes) → filter has (sorted (before t) (fieldsFrom p ns)) ≡ filter has (fieldsFrom p ns)
+  same-order p ns =
+      only-one (before t) (before-order t) (filter has (sorted (before t) (fieldsFrom p ns))) (filter has (fieldsFrom p ns))
+      (filter-sorted has (before t) (sorted (before t) (fieldsFrom p ns)) (sorted-sorted (before t) (before-order t) (fieldsFrom p ns)))
+      (in-order p ns)
+      (filter-same has (sorted (before t) (fieldsFrom p ns)) (fieldsFrom p ns) (sorted-same (before t) (fieldsFrom p ns)))
+
+  -- ---- the first field with the name
+
+  size-none : (ns : Nodes) → size ns ≡ 0 → ns ≡ nil
+  unfolding size
+  size-none nil e = refl
+  size-none (more h n ns) e = absurd (omega arith)
+
+  -- a field, and what stands behind it
+  module _ (p e : ℕ) (b : Body t p e) (h : p < e) where
+    abbrev x : Entry
+    x = record { name = p; value = p + sizeAt (part t p e) }
+
+    abbrev rest : Nodes
+    rest = childrenIn t (nextAt t p e b h) e
+
+    abbrev head : Head
+    head = headAt Struct (part t p e)
+
+    abbrev its-node : Node
+    its-node = node Struct t p e (b .bytes) h (b .inside) (b .fine)
+
+    named-alike : isNamed name (head .0) ≡ has x
+    unfolding sought
+    named-alike =
+        let i = its-name t p e (b .bytes) h (b .inside) (b .fine) in
+        ap (isNamed name) (i .name) ∙ ap (λ (s : Sym). isEqual (comparedNames s name)) (sym (name-read t p e (i .it) (i .count) (i .read)))
+
+    first-turn : firstField name p (childrenIn t p e) ≡ if (has x) (some x) (firstField name (nextAt t p e b h) rest)
+    unfolding firstField
+    first-turn =
+        ap (firstField name p) (its-turn t p e b h .nodes)
+        ∙ ap (λ (c : Bool). if c (some (record { name = p; value = p + length (encodeName (head .0)) })) (firstField name (p + length (encodeHead head ++ encode its-node)) rest)) named-alike
+        ∙ ap (λ (m : ℕ). if (has x) (some (record { name = p; value = p + m })) (firstField name (p + length (encodeHead head ++ encode its-node)) rest)) (name-long t p e (b .bytes) h (b .inside) (b .fine))
+        ∙ ap (λ (m : ℕ). if (has x) (some x) (firstField name m rest)) (next-is Struct t p e (b .bytes) h (b .inside) (b .fine))
+
+    behind : headAs (filter has (fieldsFrom (nextAt t p e b h) rest)) ≡ lookedBy 0 (firstField name (nextAt t p e b h) rest)
+        → headAs (filter has (fieldsFrom p (childrenIn t p e))) ≡ lookedBy 0 (firstField name p (childrenIn t p e))
+    unfolding filter
+    behind i = ap (λ (l : List Entry). headAs (filter has l)) (fields-turn t p e (b .bytes) h (b .inside) (b .fine)) ∙ go (has x) i ∙ ap (lookedBy 0) (sym first-turn)
+      where
+        go : (c : Bool) → headAs (filter has (fieldsFrom (nextAt t p e b h) rest)) ≡ lookedBy 0 (firstField name (nextAt t p e b h) rest)
+            → headAs (if c (x ∷ filter has (fieldsFrom (nextAt t p e b h) rest)) (filter has (fieldsFrom (nextAt t p e b h) rest))) ≡ lookedBy 0 (if c (some x) (firstField name (nextAt t p e b h) rest))
+        go true i = refl
+        go false i = i
+
+  -- by the names on the tape and by those of the nodes alike
+  field-first : (n p e : ℕ) → Body t p e → size (childrenIn t p e) ≡ n → headAs (filter has (fieldsFrom p (childrenIn t p e))) ≡ lookedBy 0 (firstField name p (childrenIn t p e))
+  unfolding filter fieldsFrom firstField size
+  field-first zero p e b z = rw (size-none (childrenIn t p e) z) refl
+  field-first (suc n) p e b z =
+      let h = some-left t p e b (omega arith) in
+      let o = one-less t p e b h in
+      behind p e b h (field-first n (nextAt t p e b h) e (body-next t p e b h) (omega arith))
+
+-- ---- a whole lookup
+
+module _ (t : List ℕ) (at : ℕ) (ns : Nodes) (b : Bytes t) (v : verdict t ≡ 0) (s : structAt t at ≡ some ns) (name : Sym) where
+  index-is : indexAt t at ≡ sorted (before t) (fieldsFrom (at + 5) ns)
+  unfolding indexAt
+  index-is = ap (sorted (before t)) (fields-of t at 0 ns s)
+
+  by-nodes : headAs (filter (named t name) (fieldsFrom (at + 5) ns)) ≡ lookedBy 0 (firstField name (at + 5) ns)
+  by-nodes =
+      let k = held t at ns b v s in
+      subst (λ (m : Nodes). headAs (filter (named t name) (fieldsFrom (at + 5) m)) ≡ lookedBy 0 (firstField name (at + 5) m)) (k .is) (field-first t name (size (childrenIn t (at + 5) (k .stop))) (at + 5) (k .stop) (k .body) refl)
+
+  -- LOOKUP OVER THE INDEX of a struct: the first field with the name, in tape order, or none exactly if no field has it
+  pub lookup-over-index : (r : Found) → Finds t name (indexAt t at) r → foundAs r (getD (indexAt t at) (placeIn r) noEntry) ≡ lookedBy 0 (firstField name (at + 5) ns)
+  lookup-over-index r f =
+      let l : List Entry = sorted (before t) (fieldsFrom (at + 5) ns) in
+      let first : r ≡ firstWith (named t name) l = subst (λ (m : List Entry). Sorted (before t) m → r ≡ firstWith (named t name) m) index-is (f .first) (sorted-sorted (before t) (before-order t) (fieldsFrom (at + 5) ns)) in
+      ap (λ (m : List Entry). foundAs r (getD m (placeIn r) noEntry)) index-is
+      ∙ ap (λ (k : Found). foundAs k (getD l (placeIn k) noEntry)) first
+      ∙ first-filter (named t name) l ∙ ap headAs (same-order t name (at + 5) ns) ∙ by-nodes
+
+-- ---- an index, and a lookup in its entries, as running code does it
+
+-- a count is one of no refusal
+counted-is : (r k n : ℕ) → counted n ≡ answered r k → (r ≡ 0) × (n ≡ k)
+counted-is zero k n e = (refl, ap (λ (o : Outcome). numbered o) e)
+  where
+    numbered : Outcome → ℕ
+    numbered (counted n) = n
+    numbered ended = 0
+    numbered (refused n) = 0
+counted-is (suc r) k n e = let y : _≡_ {A = ℕ} 0 1 = cc in absurd (omega arith)
+
+-- an index's fields are no more than the entries
+pub count-few : (t : List ℕ) (at : ℕ) (l l′ : List Entry) (i : Indexed) → IndexOf t at l l′ i → countOf i ≤ length l
+count-few t at l l′ (I.Count n) x =
+    let c = counted-is (refusal t at (length l)) (length (fieldsAt t at)) n (x .answer) in
+    let f = fields-few t at (length l) (c .0) in
+    omega arith
+count-few t at l l′ I.Misfit x = omega arith
+count-few t at l l′ I.BadNode x = omega arith
+count-few t at l l′ I.TooDeep x = omega arith
+count-few t at l l′ I.FiniteFloat x = omega arith
+count-few t at l l′ I.NoStruct x = omega arith
+count-few t at l l′ I.TooManyFields x = omega arith
+
+-- what was found has a place among them
+pub place-few : (t : List ℕ) (name : Sym) (l : List Entry) (f : Found) (m : ℕ) → Finds t name l f → length l ≤ m → 0 < m → placeIn f < m
+place-few t name l Nothing m x h z = z
+place-few t name l (At k) m x h z = let w = x .within in omega arith
+
+-- where there is no refusal
+module _ (t : List ℕ) (at : ℕ) (name : Sym) (l l′ : List Entry) (b : Bytes t) (z : refusal t at (length l) ≡ 0) (e : l′ ≡ left (refusal t at (length l)) (indexAt t at ++ drop (length (fieldsAt t at)) l) l) where
+  index-long : length (indexAt t at) ≡ length (fieldsAt t at)
+  unfolding indexAt
+  index-long = same-length (sorted (before t) (fieldsAt t at)) (fieldsAt t at) (sorted-same (before t) (fieldsAt t at))
+
+  laid : l′ ≡ indexAt t at ++ drop (length (fieldsAt t at)) l
+  laid = e ∙ ap (λ (r : ℕ). left r (indexAt t at ++ drop (length (fieldsAt t at)) l) l) z
+
+  part-is : take (length (fieldsAt t at)) l′ ≡ indexAt t at
+  part-is = ap (take (length (fieldsAt t at))) laid ∙ take-at (indexAt t at) (drop (length (fieldsAt t at)) l) (length (fieldsAt t at)) index-long
+
+  entry-is : (f : Found) → Within (length (indexAt t at)) f → foundAs f (getD l′ (placeIn f) noEntry) ≡ foundAs f (getD (indexAt t at) (placeIn f) noEntry)
+  entry-is Nothing w = refl
+  entry-is (At k) w = ap (λ (m : List Entry). L.Field (getD m k noEntry)) laid ∙ ap L.Field (List·getD-append (indexAt t at) (drop (length (fieldsAt t at)) l) noEntry k w)
+
+  found-told : (f : Found) → Finds t name (take (length (fieldsAt t at)) l′) f → foundAs f (getD l′ (placeIn f) noEntry) ≡ lookedBy 0 (on (structAt t at) (firstField name (at + 5)) none)
+  found-told f g =
+      let h = subst (λ (m : List Entry). Finds t name m f) part-is g in
+      let s = no-refusal t at (length l) z in
+      entry-is f (h .within) ∙ lookup-over-index t at (s .nodes) b (s .tape) (s .struct) name f h ∙ ap (λ (o : Option Nodes). lookedBy 0 (on o (firstField name (at + 5)) none)) (sym (s .struct))
+
+pub look-told : (t : List ℕ) (at : ℕ) (name : Sym) (l l′ : List Entry) (i : Indexed) (f : Found) → Bytes t → length l ≡ 65_536 → IndexOf t at l l′ i → Finds t name (take (countOf i) l′) f
+    → lookedAs i f (getD l′ (placeIn f) noEntry) ≡ lookedUp t at name
+unfolding lookedUp
+look-told t at name l l′ i f b e x g = go i (x .answer) g ∙ ap (λ (m : ℕ). lookedBy (refusal t at m) o) e
+  where
+    o : Option Entry
+    o = on (structAt t at) (firstField name (at + 5)) none
+
+    -- a refusal's number is the answer's
+    refuses : (r n : ℕ) → refused n ≡ answered r (length (fieldsAt t at)) → L.Refused n ≡ lookedBy r o
+    refuses zero n q = let y : _≡_ {A = ℕ} 0 1 = cc in absurd (omega arith)
+    refuses (suc r) n q = let y : n ≡ suc r = cc in ap L.Refused y
+
+    go : (i : Indexed) → indexed i ≡ answered (refusal t at (length l)) (length (fieldsAt t at)) → Finds t name (take (countOf i) l′) f → lookedAs i f (getD l′ (placeIn f) noEntry) ≡ lookedBy (refusal t at (length l)) o
+    go (I.Count n) q g =
+        let c = counted-is (refusal t at (length l)) (length (fieldsAt t at)) n q in
+        found-told t at name l l′ b (c .0) (x .entries) f (subst (λ (m : ℕ). Finds t name (take m l′) f) (c .1) g) ∙ ap (λ (r : ℕ). lookedBy r o) (sym (c .0))
+    go I.Misfit q g = refuses (refusal t at (length l)) 1 q
+    go I.BadNode q g = refuses (refusal t at (length l)) 2 q
+    go I.TooDeep q g = refuses (refusal t at (length l)) 3 q
+    go I.FiniteFloat q g = refuses (refusal t at (length l)) 4 q
+    go I.NoStruct q g = refuses (refusal t at (length l)) 11 q
+    go I.TooManyFields q g = refuses (refusal t at (length l)) 12 q

@@ -1,0 +1,9 @@
+pub mod Names
+pub mod Sorted
+pub mod Structs
+pub mod Index
+pub mod Lookup
+pub mod NameSteps
+pub mod HeapSteps
+pub mod SearchSteps
+pub mod IndexSteps

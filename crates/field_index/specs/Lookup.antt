@@ -1,0 +1,70 @@
+-- What a lookup answers. Assumes nothing: these are definitions.
+use Prim.Native.Nat.{ℕ, zero, suc, _+_, _<_}
+use mathlib.Core.Path.{_≡_}
+use mathlib.Core.Bool.{Bool, false}
+use mathlib.Core.List.{List, [], _∷_, _++_}
+use mathlib.Core.Option.{Option, none, some}
+use lib.ListN.{length}
+use Rattle.output.specs.Logic.{if, on}
+use Rattle.text_rules.specs.Text.{Sym}
+use Rattle.field_index.specs.declared.Entry.{Entry}
+use Rattle.tape.specs.Tree.{Nodes, nil, more, encodeName, encodeHead, encode}
+use Rattle.field_index.specs.declared.Found.{Found}
+use Rattle.field_index.specs.declared.Found.the-variants.{Nothing, At}
+use Rattle.field_index.specs.declared.Looked.{Looked}
+use Rattle.field_index.specs.declared.Looked.the-variants as L
+use Rattle.field_index.specs.declared.names.Way.{Way}
+use Rattle.field_index.specs.Names.{isEqual, comparedNames, nameAt, before}
+use Rattle.field_index.specs.Sorted.{Sorted}
+use Rattle.field_index.specs.Structs.{structAt}
+use Rattle.field_index.specs.Index.{refusal}
+
+-- an entry's name against the name looked for
+unfoldable pub sought : List ℕ → Sym → Entry → Way
+sought t name e = comparedNames (nameAt t (e .name)) name
+
+-- an entry has the name
+abbrev pub named : List ℕ → Sym → Entry → Bool
+named t name e = isEqual (sought t name e)
+
+-- one place further on
+abbrev pub further : Found → Found
+further Nothing = Nothing
+further (At k) = At (suc k)
+
+-- the place of the first element that passes a test
+unfoldable pub firstWith : {A : Type 0} → (A → Bool) → List A → Found
+firstWith q [] = Nothing
+firstWith q (x ∷ l) = if (q x) (At 0) (further (firstWith q l))
+
+-- a place of the slice, or none
+abbrev pub Within : ℕ → Found → Type 0
+Within n Nothing = Unit
+Within n (At k) = k < n
+
+-- Over any entries none, or a place of the slice. Over sorted entries, as every index is, the first with the name, or none exactly if none has it.
+pub record Finds (t : List ℕ) (name : Sym) (l : List Entry) (r : Found) : Type 0 where
+  pub within : Within (length l) r
+  pub first : Sorted (before t) l → r ≡ firstWith (named t name) l
+
+-- ---- a lookup by a struct's offset: the field itself
+
+-- a field has the name
+abbrev pub isNamed : Sym → Option Sym → Bool
+isNamed name none = false
+isNamed name (some s) = isEqual (comparedNames s name)
+
+-- the first field with the name, in tape order; of fields that start at an offset
+unfoldable pub firstField : Sym → ℕ → Nodes → Option Entry
+firstField name at nil = none
+firstField name at (more h n ns) =
+    if (isNamed name (h .0)) (some (record { name = at; value = at + length (encodeName (h .0)) })) (firstField name (at + length (encodeHead h ++ encode n)) ns)
+
+abbrev pub lookedBy : ℕ → Option Entry → Looked
+lookedBy zero none = L.Nothing
+lookedBy zero (some e) = L.Field e
+lookedBy (suc f) o = L.Refused (suc f)
+
+-- the refusals of an index in 65,536 entries; else the first field of the struct with the name, or none exactly if no field has it
+unfoldable pub lookedUp : List ℕ → ℕ → Sym → Looked
+lookedUp t at name = lookedBy (refusal t at 65_536) (on (structAt t at) (firstField name (at + 5)) none)
