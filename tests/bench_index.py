@@ -10,7 +10,7 @@ an offset past the tape, and told apart: the rest is finding the struct, making 
 fields; the goal is 16 at most.
 
 Up to 100 tapes are indexed in turn, together of about 100,000 fields: random names have another order on each, the others are a few more or less on
-each. With one tape again and again, the last columns, the branch predictor learns the comparisons of 1,000 fields. Processor time, best of many. The
+each. With one tape again and again, the last columns, 1,000 fields take less time, perhaps by the branch predictor. Processor time, best of many. The
 second form has valgrind count the instructions of one call, which do not wander.
 """
 import itertools

@@ -11,8 +11,8 @@
 
    What a caller owes:
    - Each pointer and its length name memory that is there during the call. With length 0 the pointer is not followed, so it may be null.
-   - `out` shares no byte with the tape or the text, and `at` none with either. The entries that ion_index writes share none with the tape.
-   - Nobody else writes the tape, text, name, `at`, `out` or `entries` during the call.
+   - `out` shares no byte with the tape or the text, and `*at` none with either. The entries that ion_index writes share none with the tape.
+   - Nobody else writes the tape, text, name, `*at`, `out` or `entries` during the call.
    The library has no state and keeps no pointer: threads may call it at once, each with its own `out`, or `entries` where they are written. It takes
    no heap, and of the stack less than 64 KiB at the greatest depth, as bindings/c/limits.c measures. */
 #ifndef LECHUQTA_ION_H
@@ -32,7 +32,8 @@ enum {
     ION_PRETTY = 2   /* a line feed; children on lines of their own, indented by two blanks a level */
 };
 
-/* The end mark of ion_read_line. ion_write and ion_length answer 0 too, for a tape of no values. */
+/* The end mark of ion_read_line. ion_write and ion_length answer 0 too, for a tape of no values, ion_index for a struct of no fields, and a lookup for the
+   first place. */
 enum { ION_END = 0 };
 
 /* What ion_find and ion_find_id answer where no field has the name. They refuse nothing, so it is never ION_MISFIT, which has the same number. */

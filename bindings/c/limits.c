@@ -181,6 +181,7 @@ static void lookups(void) {
     check_find("find: an identifier", ion_find_id(BYTES(PASS), index, FIELDS, 7), 0);
     check_find("find: a text like it", ion_find(BYTES(PASS), index, FIELDS, BYTES("$7")), 1);
     check_find("find: the first of two", ion_find(BYTES(PASS), index, FIELDS, BYTES("a")), 2);
+    check_find("find: the first of two, the second in the middle", ion_find(BYTES(PASS), index + 1, FIELDS - 1, BYTES("a")), 1);
     check_find("find: the last", ion_find(BYTES(PASS), index, FIELDS, BYTES("b")), 4);
     check_find("find: before all texts", ion_find(BYTES(PASS), index, FIELDS, BYTES("!")), ION_NONE);
     check_find("find: between two", ion_find(BYTES(PASS), index, FIELDS, BYTES("aa")), ION_NONE);

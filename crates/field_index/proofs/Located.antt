@@ -24,7 +24,7 @@ use Rattle.tape.proofs.Walking.{walk-end, verdict-told}
 use Rattle.tape.proofs.Verdicts.{nodes-walked, fine-walked}
 use Rattle.tape.proofs.CodeReading.{length-some, length-over, sym-text, sym-id, sym-none, sym-short}
 use Rattle.field_index.specs.Names.{nameAt}
-use Rattle.field_index.specs.Structs.{structs, lookup, structAt}
+use Rattle.field_index.specs.Structs.{structs, standsAt, structAt}
 use Rattle.field_index.specs.IndexSteps.{childrenIn, Body}
 use Rattle.field_index.proofs.StructLaws.{value, next, turning, passed, in-low, in-high, room, fine, here, in-body}
 
@@ -36,16 +36,16 @@ pub record Held (t : List ℕ) (at : ℕ) (ns : Nodes) : Type 0 where
 
 -- among the nodes from a place to a place
 abbrev Seek : List ℕ → ℕ → Nodes → ℕ → ℕ → Frame → Type 0
-Seek t at ns p e k = p ≤ e → e ≤ length t → walk 65 k (part t p e) .1 ≡ 0 → lookup at (structs p (walk 65 k (part t p e) .0)) ≡ some ns → Held t at ns
+Seek t at ns p e k = p ≤ e → e ≤ length t → walk 65 k (part t p e) .1 ≡ 0 → standsAt at (structs p (walk 65 k (part t p e) .0)) ≡ some ns → Held t at ns
 
 -- the first child decides, or fewer bytes do
-module _ (t : List ℕ) (b : Bytes t) (at : ℕ) (ns : Nodes) (p e : ℕ) (k : Frame) (i : e ≤ length t) (z : walk 65 k (part t p e) .1 ≡ 0) (q : lookup at (structs p (walk 65 k (part t p e) .0)) ≡ some ns) where
-  none-some : {X : Type 0} → lookup at (structs p (walk 65 k (part t p e) .0)) ≡ none → X
+module _ (t : List ℕ) (b : Bytes t) (at : ℕ) (ns : Nodes) (p e : ℕ) (k : Frame) (i : e ≤ length t) (z : walk 65 k (part t p e) .1 ≡ 0) (q : standsAt at (structs p (walk 65 k (part t p e) .0)) ≡ some ns) where
+  none-some : {X : Type 0} → standsAt at (structs p (walk 65 k (part t p e) .0)) ≡ none → X
   none-some w = let y = sym q ∙ w in let x : _≡_ {A = ℕ} 0 1 = cc in absurd (omega arith)
 
   over : e ≤ p → Held t at ns
-  unfolding structs lookup
-  over h = none-some (ap (λ (w : Walked). lookup at (structs p (w .0))) (walk-end k 65 (part t p e) (λ y. omega arith) (let l = part-length t p e i in omega arith)))
+  unfolding structs standsAt
+  over h = none-some (ap (λ (w : Walked). standsAt at (structs p (w .0))) (walk-end k 65 (part t p e) (λ y. omega arith) (let l = part-length t p e i in omega arith)))
 
   module _ (h : p < e) where
     abbrev v : ℕ
@@ -105,7 +105,7 @@ pub held : (t : List ℕ) (at : ℕ) (ns : Nodes) → Bytes t → verdict t ≡ 
 unfolding structAt
 held t at ns b v e =
     let a = verdict-told t v .least in
-    held-in (length t) t b at ns 0 (length t - 8) Top (omega arith) (omega arith) (omega arith) (fine-walked t v) (ap (λ (m : Nodes). lookup at (structs 0 m)) (nodes-walked t) ∙ e)
+    held-in (length t) t b at ns 0 (length t - 8) Top (omega arith) (omega arith) (omega arith) (fine-walked t v) (ap (λ (m : Nodes). standsAt at (structs 0 m)) (nodes-walked t) ∙ e)
 
 -- ---- a name
 

@@ -30,8 +30,8 @@ use Rattle.field_index.specs.Names.{noEntry, thenBy, isLess, isEqual, co
 use Rattle.field_index.specs.Sorted.{many, Same, First, Sorted, sorted}
 use Rattle.field_index.specs.Structs.{structAt, fieldsFrom}
 use Rattle.field_index.specs.Index.{indexed, refusal, fieldsAt, indexAt, answered, left, IndexOf}
-use Rattle.field_index.specs.Lookup.{sought, named, further, firstWith, Within, Finds, isNamed, firstField, lookedBy, lookedUp}
-use Rattle.field_index.specs.IndexSteps.{childrenIn, Body, countOf, placeIn, foundAs, lookedAs}
+use Rattle.field_index.specs.Lookup.{sought, named, further, firstWith, Within, Finds, isNamed, firstField, lookedBy, placeIn, foundAs}
+use Rattle.field_index.specs.IndexSteps.{childrenIn, Body, countOf, lookedAs}
 use Rattle.field_index.proofs.OrderLaws.{turned, names, greater-is, before-order}
 use Rattle.field_index.proofs.SortedLaws.{same-length, sorted-sorted, sorted-same, only-one}
 use Rattle.field_index.proofs.StructLaws.{node, next-is}
@@ -290,10 +290,10 @@ module _ (t : List ℕ) (at : ℕ) (name : Sym) (l l′ : List Entry) (b : Bytes
       let s = no-refusal t at (length l) z in
       entry-is f (h .within) ∙ lookup-over-index t at (s .nodes) b (s .tape) (s .struct) name f h ∙ ap (λ (o : Option Nodes). lookedBy 0 (on o (firstField name (at + 5)) none)) (sym (s .struct))
 
-pub look-told : (t : List ℕ) (at : ℕ) (name : Sym) (l l′ : List Entry) (i : Indexed) (f : Found) → Bytes t → length l ≡ 65_536 → IndexOf t at l l′ i → Finds t name (take (countOf i) l′) f
-    → lookedAs i f (getD l′ (placeIn f) noEntry) ≡ lookedUp t at name
-unfolding lookedUp
-look-told t at name l l′ i f b e x g = go i (x .answer) g ∙ ap (λ (m : ℕ). lookedBy (refusal t at m) o) e
+-- INDEX AND LOOKUP: of any entries, indexed, the part that the index fills is handed to a lookup: the index's refusal, or the first field with the name, in tape order, or none exactly if no field has it
+pub look-told : (t : List ℕ) (at : ℕ) (name : Sym) (l l′ : List Entry) (i : Indexed) (f : Found) → Bytes t → IndexOf t at l l′ i → Finds t name (take (countOf i) l′) f
+    → lookedAs i f (getD l′ (placeIn f) noEntry) ≡ lookedBy (refusal t at (length l)) (on (structAt t at) (firstField name (at + 5)) none)
+look-told t at name l l′ i f b x g = go i (x .answer) g
   where
     o : Option Entry
     o = on (structAt t at) (firstField name (at + 5)) none

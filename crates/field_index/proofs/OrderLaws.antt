@@ -8,6 +8,7 @@ use native.Mathlib.Omega.{arith}
 use lib.Dec.{ltb}
 use borrow.Author.Tests.{ltb-true, ltb-false, lt-ltb, le-ltb}
 use Rattle.output.specs.Logic.{if}
+use Rattle.output.proofs.Bools.{never}
 use Rattle.text_rules.specs.Text.{Sym}
 use Rattle.field_index.specs.declared.Entry.{Entry}
 use Rattle.field_index.specs.declared.names.Way.{Way}
@@ -31,7 +32,7 @@ code Less = 0
 code Equal = 1
 code Greater = 2
 
-abbrev codes : {X : Type 0} {w u : Way} → w ≡ u → (code w ≡ code u → ⊥) → X
+abbrev pub codes : {X : Type 0} {w u : Way} → w ≡ u → (code w ≡ code u → ⊥) → X
 codes e n = absurd (n (ap code e))
 
 -- ---- numbers
@@ -123,10 +124,6 @@ then c d k l = record {
 pub of : {A B : Type 0} (c : A → A → Way) (f : B → A) → Compares c → Compares (λ x y. c (f x) (f y))
 of c f k = record { flips = λ x y. k .flips (f x) (f y); chain = λ x y z. k .chain (f x) (f y) (f z); alike = λ x y z. k .alike (f x) (f y) (f z) }
 
--- the same comparison, turned round
-pub back : {A : Type 0} (c : A → A → Way) → Compares c → Compares (λ x y. c y x)
-back c k = record { flips = λ x y. k .flips y x; chain = λ x y z p q. k .chain z y x q p; alike = λ x y z e. sym (alike-right c k z y x e) }
-
 -- ---- texts
 text-flips : (s t : List ℕ) → comparedTexts t s ≡ turned (comparedTexts s t)
 unfolding comparedTexts
@@ -189,14 +186,8 @@ names = record { flips = name-flips; chain = name-chain; alike = name-alike }
 module _ {A : Type 0} (c : A → A → Way) (k : Compares c) where
   less-of : (w : Way) → isLess w ≡ true → w ≡ Less
   less-of Less e = refl
-  less-of Equal e = absurd (tests e)
-    where
-      tests : _≡_ {A = Bool} false true → ⊥
-      tests p = let z : _≡_ {A = ℕ} 1 0 = ap (λ (t : Bool). if t 0 1) p in omega arith
-  less-of Greater e = absurd (tests e)
-    where
-      tests : _≡_ {A = Bool} false true → ⊥
-      tests p = let z : _≡_ {A = ℕ} 1 0 = ap (λ (t : Bool). if t 0 1) p in omega arith
+  less-of Equal e = never (sym e)
+  less-of Greater e = never (sym e)
 
   not-less : (w : Way) → isLess w ≡ false → w ≡ Less → ⊥
   not-less w e p = let z : _≡_ {A = ℕ} 0 1 = ap (λ (t : Bool). if t 0 1) (sym (ap isLess p) ∙ e) in omega arith
@@ -254,7 +245,3 @@ module _ (tape : List ℕ) (d : Entry → Entry → Way) (D : Compares d) (apart
 pub before-order : (tape : List ℕ) → Order (before tape)
 unfolding before
 before-order tape = name-order tape comparedPlaces places places-apart
-
--- Equal names latest first (A7): the places turned round, and no other law moves.
-pub latest-order : (tape : List ℕ) → Order (λ e f. isLess (thenBy (comparedNames (nameAt tape (name e)) (nameAt tape (name f))) (comparedPlaces f e)))
-latest-order tape = name-order tape (λ e f. comparedPlaces f e) (back comparedPlaces places) (λ e f p. sym (places-apart f e p))

@@ -1,17 +1,24 @@
 -- Binary search, a turn at a time, over any comparison of an element with what is looked for.
 --     Rises         the elements that are less come first, those that are greater last
 --     Good          a range that still holds the answer
---     begins, turn, ends
+--     begins, turn  at the start, and a turn
+--     place-within, place-is   the answer, once nothing is left
+--     searched-is   a search among fewer than 2 ^ k elements is over after at most k comparisons
 --     sorted-rises  a sorted list rises, for every name
 -- Assumes nothing.
 use mathlib.Core.Path.{_≡_, refl, sym, ap, subst, _∙_}
 use mathlib.Core.Bool.{Bool, true, false}
 use mathlib.Core.List.{List, [], _∷_}
-use Prim.Native.Nat.{ℕ, zero, suc, _+_, _-_, _/_, _≤_, _<_}
+use mathlib.Core.Option.{some}
+use Prim.Native.Nat.{ℕ, zero, suc, _+_, _-_, _*_, _/_, _^_, _≤_, _<_}
+use native.Mathlib.Nat.{pow-suc}
 use native.Mathlib.Omega.{arith}
 use native.Mathlib.Decide.{ℕ-discrete, decLt}
+use lib.Dec.{ltb}
 use lib.ListN.{length, getD}
+use borrow.Author.Tests.{ltb-true, ltb-false, le-ltb}
 use Rattle.output.specs.Logic.{if}
+use Rattle.output.proofs.Bools.{never}
 use Rattle.text_rules.specs.Text.{Sym}
 use Rattle.field_index.specs.declared.Entry.{Entry}
 use Rattle.field_index.specs.declared.Found.the-variants.{Nothing, At}
@@ -20,10 +27,10 @@ use Rattle.field_index.specs.declared.names.Way.{Way}
 use Rattle.field_index.specs.declared.names.Way.the-variants.{Less, Equal, Greater}
 use Rattle.field_index.specs.Names.{noEntry, isLess, isEqual, thenBy, comparedNames, nameAt, comparedPlaces, before}
 use Rattle.field_index.specs.Sorted.{Sorted}
-use Rattle.field_index.specs.Lookup.{sought, further, firstWith, Within, Finds}
-use Rattle.field_index.specs.SearchSteps.{rangeOf, narrowedOf, placeOf}
+use Rattle.field_index.specs.Lookup.{sought, named, further, firstWith, Within, Finds}
+use Rattle.field_index.specs.SearchSteps.{rangeOf, narrowedOf, answerOf, searched}
 use Rattle.field_index.proofs.SortedLaws.{at-places}
-use Rattle.field_index.proofs.OrderLaws.{code, turned, Compares, names, through}
+use Rattle.field_index.proofs.OrderLaws.{code, codes, turned, Compares, names, through}
 
 -- ---- the first element that passes
 first-at : {A : Type 0} (d : A) (q : A → Bool) (l : List A) (m : ℕ) → m < length l → ((k : ℕ) → k < m → q (getD l k d) ≡ false) → q (getD l m d) ≡ true → At m ≡ firstWith q l
@@ -59,16 +66,10 @@ module _ {A : Type 0} (d : A) (c : A → Way) (l : List A) where
   begins = record {
     ordered = omega arith;
     inside = omega arith;
-    behind = λ e. absurd (tests e);
+    behind = λ e. never (sym e);
     middle = refl;
-    holds = λ _. record { passed = λ k h. absurd (omega arith); failed = λ k h g e. absurd (omega arith); yes-same = λ e. absurd (tests e); no-same = λ e h. absurd (omega arith) };
+    holds = λ _. record { passed = λ k h. absurd (omega arith); failed = λ k h g e. absurd (omega arith); yes-same = λ e. never (sym e); no-same = λ e h. absurd (omega arith) };
   }
-    where
-      tests : _≡_ {A = Bool} false true → ⊥
-      tests p = let z : _≡_ {A = ℕ} 1 0 = ap (λ (t : Bool). if t 0 1) p in omega arith
-
-  ways : {w : Way} {X : Type 0} {u v : Way} → w ≡ u → w ≡ v → (code u ≡ code v → ⊥) → X
-  ways p q n = absurd (n (ap code (sym p ∙ q)))
 
   pub middle-in : (r : Range) → Good r → r .lo < r .hi → (r .lo ≤ r .mid) × (r .mid < r .hi)
   middle-in r g h = (omega (arith, g .middle), omega (arith, g .middle))
@@ -98,26 +99,20 @@ module _ {A : Type 0} (d : A) (c : A → Way) (l : List A) where
         inside = omega (arith, M .1, g .inside);
         behind = λ _. omega (arith, M .1, g .inside);
         middle = refl;
-        holds = λ up. record { passed = g .holds up .passed; failed = λ k h m f. ways e (up (r .mid) k h m .0 f) (λ z. omega arith); yes-same = λ _. e; no-same = λ p h. tests p };
+        holds = λ up. record { passed = g .holds up .passed; failed = λ k h m f. codes (sym e ∙ up (r .mid) k h m .0 f) (λ z. omega arith); yes-same = λ _. e; no-same = λ p h. never p };
       },
       omega (arith, M .0, M .1),
     )
-      where
-        tests : {X : Type 0} → _≡_ {A = Bool} true false → X
-        tests p = let z : _≡_ {A = ℕ} 0 1 = ap (λ (t : Bool). if t 0 1) p in absurd (omega arith)
     turned-by Greater e = (
       record {
         ordered = M .0;
         inside = omega (arith, M .1, g .inside);
-        behind = λ p. tests p;
+        behind = λ p. never (sym p);
         middle = refl;
-        holds = λ up. record { passed = g .holds up .passed; failed = λ k h m f. ways e (up (r .mid) k h m .0 f) (λ z. omega arith); yes-same = λ p. tests p; no-same = λ _ h. e };
+        holds = λ up. record { passed = g .holds up .passed; failed = λ k h m f. codes (sym e ∙ up (r .mid) k h m .0 f) (λ z. omega arith); yes-same = λ p. never (sym p); no-same = λ _ h. e };
       },
       omega (arith, M .0, M .1),
     )
-      where
-        tests : {X : Type 0} → _≡_ {A = Bool} false true → X
-        tests p = let z : _≡_ {A = ℕ} 1 0 = ap (λ (t : Bool). if t 0 1) p in absurd (omega arith)
 
     pub turn : Onward (narrowedOf (c (getD l (r .mid) d)) r)
     turn = turned-by (c (getD l (r .mid) d)) refl
@@ -128,14 +123,14 @@ module _ {A : Type 0} (d : A) (c : A → Way) (l : List A) where
     meet = omega (arith, g .ordered)
 
     -- a range whose `same` is set has an entry behind it, whether the list rises or not
-    pub place-within : Within (length l) (placeOf r)
+    pub place-within : Within (length l) (answerOf r)
     place-within = go (r .same) refl
       where
         go : (t : Bool) → r .same ≡ t → Within (length l) (if t (At (r .lo)) Nothing)
         go true e = omega (arith, g .behind e, meet)
         go false e = tt
 
-    pub place-is : Rises → placeOf r ≡ firstWith (λ e. isEqual (c e)) l
+    pub place-is : Rises → answerOf r ≡ firstWith (λ e. isEqual (c e)) l
     place-is up = go (r .same) refl
       where
         go : (t : Bool) → r .same ≡ t → if t (At (r .lo)) Nothing ≡ firstWith (λ e. isEqual (c e)) l
@@ -149,6 +144,23 @@ module _ {A : Type 0} (d : A) (c : A → Way) (l : List A) where
                 by : Dec (k < r .lo) → isEqual (c (getD l k d)) ≡ false
                 by (yes m) = ap isEqual (g .holds up .passed k m)
                 by (no n) = ap isEqual (up (r .hi) k (omega (arith, meet)) h .1 (g .holds up .no-same e (omega (arith, meet))))
+
+  -- ---- how many comparisons: each leaves at most half
+  halves : (w : Way) (r : Range) → r .mid ≡ r .lo + (r .hi - r .lo) / 2 → r .lo < r .hi → narrowedOf w r .hi - narrowedOf w r .lo ≤ (r .hi - r .lo) / 2
+  halves Less r m h = omega (arith, m)
+  halves Equal r m h = omega (arith, m)
+  halves Greater r m h = omega (arith, m)
+
+  searched-from : (k : ℕ) (r : Range) → Good r → r .hi - r .lo < 2 ^ k → Rises → searched k c d l r ≡ some (firstWith (λ e. isEqual (c e)) l)
+  unfolding searched
+  searched-from zero r g few up = rw (le-ltb (r .lo) (r .hi) (omega arith)) (ap some (place-is r g (omega arith) up))
+  searched-from (suc k) r g few up = go (ltb (r .lo) (r .hi)) refl
+      (λ h. searched-from k (narrowedOf (c (getD l (r .mid) d)) r) (turn r g h .0) (omega (arith, pow-suc 2 k, halves (c (getD l (r .mid) d)) r (g .middle) h)) up)
+    where
+      go : (t : Bool) → ltb (r .lo) (r .hi) ≡ t → (r .lo < r .hi → searched k c d l (narrowedOf (c (getD l (r .mid) d)) r) ≡ some (firstWith (λ e. isEqual (c e)) l))
+          → if t (searched k c d l (narrowedOf (c (getD l (r .mid) d)) r)) (some (answerOf r)) ≡ some (firstWith (λ e. isEqual (c e)) l)
+      go true e ih = ih (ltb-true (r .lo) (r .hi) e)
+      go false e ih = ap some (place-is r g (ltb-false (r .lo) (r .hi) e) up)
 
 -- ---- A sorted list rises: over any order by a key and then by anything else, so the tie rule does not matter.
 module _ {A K : Type 0} (none₀ : A) (k : A → K) (c : K → K → Way) (C : Compares c) (d : A → A → Way) (key : K) where
@@ -193,5 +205,10 @@ index-rises : (tape : List ℕ) (name : Sym) (l : List Entry) → Sorted (before
 unfolding before sought
 index-rises tape name l s = sorted-rises noEntry (λ e. nameAt tape (e .name)) comparedNames names comparedPlaces name l s
 
-pub found : (tape : List ℕ) (name : Sym) (l : List Entry) (r : Range) → Good noEntry (sought tape name) l r → r .hi ≤ r .lo → Finds tape name l (placeOf r)
+-- A search of a sorted list of fewer than 2 ^ k entries is over after at most k comparisons of names, and answers the place of the first with the name.
+pub searched-is : (tape : List ℕ) (name : Sym) (k : ℕ) (l : List Entry) → length l < 2 ^ k → Sorted (before tape) l
+    → searched k (sought tape name) noEntry l (rangeOf 0 (length l) false) ≡ some (firstWith (named tape name) l)
+searched-is tape name k l few s = searched-from noEntry (sought tape name) l k (rangeOf 0 (length l) false) (begins noEntry (sought tape name) l) (omega arith) (index-rises tape name l s)
+
+pub found : (tape : List ℕ) (name : Sym) (l : List Entry) (r : Range) → Good noEntry (sought tape name) l r → r .hi ≤ r .lo → Finds tape name l (answerOf r)
 found tape name l r g over = record { within = place-within noEntry (sought tape name) l r g over; first = λ s. place-is noEntry (sought tape name) l r g over (index-rises tape name l s) }

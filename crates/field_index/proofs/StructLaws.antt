@@ -27,7 +27,7 @@ use Rattle.tape.proofs.Reading.{Sound, something, head-sound, SoundV, a-leaf, a
 use Rattle.tape.proofs.CodeReading.{scalar-other, value-scalar}
 use Rattle.tape.proofs.Walking.{walk-back, walk-deeper}
 use Rattle.tape.proofs.Turning.{OfScalar, OpenHere, Turn, scalar-here, size-some, marker-node, open-here, head-here, turn-here}
-use Rattle.field_index.specs.Structs.{own, structsIn, structs, lookup}
+use Rattle.field_index.specs.Structs.{own, structsIn, structs, standsAt}
 
 -- ---- lengths of encodings
 
@@ -53,23 +53,23 @@ value-long d l b z = go (valueOf true l) (value-sound true l) z
 -- ---- looking up
 
 module _ {A : Type 0} (at : ℕ) where
-  pub lookup-right : (l m : List (ℕ × A)) → lookup at l ≡ none → lookup at (l ++ m) ≡ lookup at m
-  unfolding lookup
-  lookup-right [] m e = refl
-  lookup-right (x ∷ l) m e = go (eqb at (x .0)) e (lookup-right l m)
+  pub stands-right : (l m : List (ℕ × A)) → standsAt at l ≡ none → standsAt at (l ++ m) ≡ standsAt at m
+  unfolding standsAt
+  stands-right [] m e = refl
+  stands-right (x ∷ l) m e = go (eqb at (x .0)) e (stands-right l m)
     where
-      go : (b : Bool) → if b (some (x .1)) (lookup at l) ≡ none → (lookup at l ≡ none → lookup at (l ++ m) ≡ lookup at m) → if b (some (x .1)) (lookup at (l ++ m)) ≡ lookup at m
+      go : (b : Bool) → if b (some (x .1)) (standsAt at l) ≡ none → (standsAt at l ≡ none → standsAt at (l ++ m) ≡ standsAt at m) → if b (some (x .1)) (standsAt at (l ++ m)) ≡ standsAt at m
       go true e r = let y : _≡_ {A = ℕ} 0 1 = cc in absurd (omega arith)
       go false e r = r e
 
-  pub lookup-left : (l m : List (ℕ × A)) → lookup at m ≡ none → lookup at (l ++ m) ≡ lookup at l
-  unfolding lookup
-  lookup-left [] m e = e
-  lookup-left (x ∷ l) m e = ap (λ (o : Option A). if (eqb at (x .0)) (some (x .1)) o) (lookup-left l m e)
+  pub stands-left : (l m : List (ℕ × A)) → standsAt at m ≡ none → standsAt at (l ++ m) ≡ standsAt at l
+  unfolding standsAt
+  stands-left [] m e = e
+  stands-left (x ∷ l) m e = ap (λ (o : Option A). if (eqb at (x .0)) (some (x .1)) o) (stands-left l m e)
 
 -- a container's own entry, at another offset
-own-elsewhere : (at p : ℕ) (k : Frame) (ns : Nodes) → (at ≡ p → ⊥) → lookup at (own p k ns) ≡ none
-unfolding lookup
+own-elsewhere : (at p : ℕ) (k : Frame) (ns : Nodes) → (at ≡ p → ⊥) → standsAt at (own p k ns) ≡ none
+unfolding standsAt
 own-elsewhere at p Top ns h = refl
 own-elsewhere at p ListF ns h = refl
 own-elsewhere at p Sexp ns h = refl
@@ -80,36 +80,36 @@ child-length h n = length-append (encodeHead h) (encode n)
 
 -- the struct nodes of what starts at an offset stand at no smaller offset
 mutual
-  unfolding structsIn lookup
+  unfolding structsIn standsAt
 
-  below-in : (at p : ℕ) (n : Node) → at < p → lookup at (structsIn p n) ≡ none
+  below-in : (at p : ℕ) (n : Node) → at < p → standsAt at (structsIn p n) ≡ none
   below-in at p (scalar s) h = refl
-  below-in at p (nest k ns) h = lookup-right at (own p k ns) (structs (p + 5) ns) (own-elsewhere at p k ns (λ e. omega arith)) ∙ below at (p + 5) ns (omega arith)
+  below-in at p (nest k ns) h = stands-right at (own p k ns) (structs (p + 5) ns) (own-elsewhere at p k ns (λ e. omega arith)) ∙ below at (p + 5) ns (omega arith)
   below-in at p marker h = refl
 
-  pub below : (at p : ℕ) (ns : Nodes) → at < p → lookup at (structs p ns) ≡ none
+  pub below : (at p : ℕ) (ns : Nodes) → at < p → standsAt at (structs p ns) ≡ none
   below at p nil h = refl
   below at p (more g n ns) h =
-      lookup-right at (structsIn (p + length (encodeHead g)) n) (structs (p + length (encodeHead g ++ encode n)) ns) (below-in at (p + length (encodeHead g)) n (omega arith))
+      stands-right at (structsIn (p + length (encodeHead g)) n) (structs (p + length (encodeHead g ++ encode n)) ns) (below-in at (p + length (encodeHead g)) n (omega arith))
       ∙ below at (p + length (encodeHead g ++ encode n)) ns (omega arith)
 
 -- and at none behind its last byte
 mutual
-  unfolding structsIn lookup encodes
+  unfolding structsIn standsAt encodes
 
-  pub above-in : (at p : ℕ) (n : Node) → p + length (encode n) ≤ at → lookup at (structsIn p n) ≡ none
+  pub above-in : (at p : ℕ) (n : Node) → p + length (encode n) ≤ at → standsAt at (structsIn p n) ≡ none
   above-in at p (scalar s) h = refl
   above-in at p (nest k ns) h =
       let l = nest-long k ns in
-      lookup-right at (own p k ns) (structs (p + 5) ns) (own-elsewhere at p k ns (λ e. omega arith)) ∙ above at (p + 5) ns (omega arith)
+      stands-right at (own p k ns) (structs (p + 5) ns) (own-elsewhere at p k ns (λ e. omega arith)) ∙ above at (p + 5) ns (omega arith)
   above-in at p marker h = refl
 
-  above : (at p : ℕ) (ns : Nodes) → p + length (encodes ns) ≤ at → lookup at (structs p ns) ≡ none
+  above : (at p : ℕ) (ns : Nodes) → p + length (encodes ns) ≤ at → standsAt at (structs p ns) ≡ none
   above at p nil h = refl
   above at p (more g n ns) h =
       let c = child-length g n in
       let l = length-append (encodeHead g ++ encode n) (encodes ns) in
-      lookup-right at (structsIn (p + length (encodeHead g)) n) (structs (p + length (encodeHead g ++ encode n)) ns) (above-in at (p + length (encodeHead g)) n (omega arith))
+      stands-right at (structsIn (p + length (encodeHead g)) n) (structs (p + length (encodeHead g ++ encode n)) ns) (above-in at (p + length (encodeHead g)) n (omega arith))
       ∙ above at (p + length (encodeHead g ++ encode n)) ns (omega arith)
 
 -- a 13 is no value
@@ -175,30 +175,30 @@ module _ (k : Frame) (s : List ℕ) (at e : ℕ) (b : Bytes s) (h : at < e) (i :
   size-there = size-some 64 (part s value e) (turning .value)
 
   -- where the offset is looked for among them: behind the child
-  pub passed : (x : ℕ) → next ≤ x → lookup x (structs at (walk 65 k (part s at e) .0)) ≡ lookup x (structs next (walk 65 k (part s next e) .0))
+  pub passed : (x : ℕ) → next ≤ x → standsAt x (structs at (walk 65 k (part s at e) .0)) ≡ standsAt x (structs next (walk 65 k (part s next e) .0))
   passed x g =
       let n = node-long in
-      ap (lookup x) structs-turn ∙ lookup-right x (structsIn value node) (structs next (walk 65 k (part s next e) .0)) (above-in x value node (omega arith))
+      ap (standsAt x) structs-turn ∙ stands-right x (structsIn value node) (structs next (walk 65 k (part s next e) .0)) (above-in x value node (omega arith))
 
   -- or in its value
-  inside : (x : ℕ) → x < next → lookup x (structs at (walk 65 k (part s at e) .0)) ≡ lookup x (structsIn value node)
-  inside x g = ap (lookup x) structs-turn ∙ lookup-left x (structsIn value node) (structs next (walk 65 k (part s next e) .0)) (below x next (walk 65 k (part s next e) .0) g)
+  inside : (x : ℕ) → x < next → standsAt x (structs at (walk 65 k (part s at e) .0)) ≡ standsAt x (structsIn value node)
+  inside x g = ap (standsAt x) structs-turn ∙ stands-left x (structsIn value node) (structs next (walk 65 k (part s next e) .0)) (below x next (walk 65 k (part s next e) .0) g)
 
   -- a scalar or a marker has no struct in it
-  in-scalar : (x : ℕ) → OfScalar (kind (part s value e)) → lookup x (structsIn value node) ≡ none
-  unfolding structsIn lookup
-  in-scalar x f = ap (λ (n : Node). lookup x (structsIn value n)) (scalar-here 64 (part s value e) (turning .value) f .node)
+  in-scalar : (x : ℕ) → OfScalar (kind (part s value e)) → standsAt x (structsIn value node) ≡ none
+  unfolding structsIn standsAt
+  in-scalar x f = ap (λ (n : Node). standsAt x (structsIn value n)) (scalar-here 64 (part s value e) (turning .value) f .node)
 
-  pub in-low : (x : ℕ) → x < next → kind (part s value e) < 10 → lookup x (structs at (walk 65 k (part s at e) .0)) ≡ none
+  pub in-low : (x : ℕ) → x < next → kind (part s value e) < 10 → standsAt x (structs at (walk 65 k (part s at e) .0)) ≡ none
   in-low x g c = inside x g ∙ in-scalar x (λ j u v w. omega arith)
 
-  pub in-high : (x : ℕ) → x < next → 12 < kind (part s value e) → lookup x (structs at (walk 65 k (part s at e) .0)) ≡ none
-  unfolding structsIn lookup
+  pub in-high : (x : ℕ) → x < next → 12 < kind (part s value e) → standsAt x (structs at (walk 65 k (part s at e) .0)) ≡ none
+  unfolding structsIn standsAt
   in-high x g c = inside x g ∙ go (ℕ-discrete (kind (part s value e)) 13) (ℕ-discrete (kind (part s value e)) 14)
     where
-      go : Dec (kind (part s value e) ≡ 13) → Dec (kind (part s value e) ≡ 14) → lookup x (structsIn value node) ≡ none
+      go : Dec (kind (part s value e) ≡ 13) → Dec (kind (part s value e) ≡ 14) → standsAt x (structsIn value node) ≡ none
       go (yes p) q = let y = annotated-absent 64 (part s value e) p in let v = turning .value in absurd (omega arith)
-      go (no p) (yes q) = ap (λ (n : Node). lookup x (structsIn value n)) (marker-node 64 (part s value e) (turning .value) q)
+      go (no p) (yes q) = ap (λ (n : Node). standsAt x (structsIn value n)) (marker-node 64 (part s value e) (turning .value) q)
       go (no p) (no q) = in-scalar x (λ j u v w. omega arith)
 
   -- a container
@@ -237,26 +237,26 @@ module _ (k : Frame) (s : List ℕ) (at e : ℕ) (b : Bytes s) (h : at < e) (i :
     node-is = opened .node ∙ ap (λ (l : List ℕ). nest frame (walk 64 frame l .0)) body-is ∙ ap (λ (w : Walked). nest frame (w .0)) (sym deeper)
 
     -- the struct looked for
-    pub here : (x : ℕ) → x < next → value ≡ x → kind (part s value e) ≡ 12 → lookup x (structs at (walk 65 k (part s at e) .0)) ≡ some (walk 65 Struct (part s (x + 5) next) .0)
-    unfolding structsIn lookup frameOf
+    pub here : (x : ℕ) → x < next → value ≡ x → kind (part s value e) ≡ 12 → standsAt x (structs at (walk 65 k (part s at e) .0)) ≡ some (walk 65 Struct (part s (x + 5) next) .0)
+    unfolding structsIn standsAt frameOf
     here x g v c =
         let f : frame ≡ Struct = ap frameOf c in
-        inside x g ∙ ap (λ (n : Node). lookup x (structsIn value n)) (node-is ∙ ap (λ (f : Frame). nest f (walk 65 f (part s (value + 5) next) .0)) f)
+        inside x g ∙ ap (λ (n : Node). standsAt x (structsIn value n)) (node-is ∙ ap (λ (f : Frame). nest f (walk 65 f (part s (value + 5) next) .0)) f)
         ∙ rw (eq-eqb x value (sym v)) (ap (λ (p : ℕ). some (walk 65 Struct (part s (p + 5) next) .0)) v)
 
     -- or what stands in the container
-    pub in-body : (x : ℕ) → x < next → (value ≡ x → kind (part s value e) ≡ 12 → ⊥) → lookup x (structs at (walk 65 k (part s at e) .0)) ≡ lookup x (structs (value + 5) children)
+    pub in-body : (x : ℕ) → x < next → (value ≡ x → kind (part s value e) ≡ 12 → ⊥) → standsAt x (structs at (walk 65 k (part s at e) .0)) ≡ standsAt x (structs (value + 5) children)
     unfolding structsIn
     in-body x g c =
-        inside x g ∙ ap (λ (n : Node). lookup x (structsIn value n)) node-is
-        ∙ lookup-right x (own value frame children) (structs (value + 5) children) (not-own (ℕ-discrete x value))
+        inside x g ∙ ap (λ (n : Node). standsAt x (structsIn value n)) node-is
+        ∙ stands-right x (own value frame children) (structs (value + 5) children) (not-own (ℕ-discrete x value))
       where
-        other : (f : Frame) → frameOf (kind (part s value e)) ≡ f → (kind (part s value e) ≡ 12 → ⊥) → lookup x (own value f children) ≡ none
-        other Top q n = unfold lookup in refl
-        other ListF q n = unfold lookup in refl
-        other Sexp q n = unfold lookup in refl
+        other : (f : Frame) → frameOf (kind (part s value e)) ≡ f → (kind (part s value e) ≡ 12 → ⊥) → standsAt x (own value f children) ≡ none
+        other Top q n = unfold standsAt in refl
+        other ListF q n = unfold standsAt in refl
+        other Sexp q n = unfold standsAt in refl
         other Struct q n = absurd (n (frame-struct (kind (part s value e)) low high q))
 
-        not-own : Dec (x ≡ value) → lookup x (own value frame children) ≡ none
+        not-own : Dec (x ≡ value) → standsAt x (own value frame children) ≡ none
         not-own (yes q) = other frame refl (c (sym q))
         not-own (no n) = own-elsewhere x value frame children n

@@ -3,12 +3,13 @@
 --     started         at the start
 --     turned-good     a turn: the same entries, good again, and the weight falls
 --     ended           at the end the list is sorted
---     heapsorted-is   so a heapsort is the sorted list, whatever the list, and takes at most (n / 2 + n) (D + 2) turns, D being the number of n's binary digits
+--     heapsorted-is   so a heapsort is over after at most (n / 2 + n) (D + 2) turns, D being the number of n's binary digits, and leaves the sorted list, whatever the list
 -- Assumes nothing.
 use mathlib.Core.Path.{_≡_, refl, sym, ap, subst, _∙_}
 use mathlib.Core.Bool.{Bool, true, false}
 use mathlib.Core.Logic.{_⊎_, inl, inr}
 use mathlib.Core.List.{List}
+use mathlib.Core.Option.{Option, none, some}
 use Prim.Native.Nat.{ℕ, zero, suc, _+_, _-_, _*_, _/_, _^_, _≤_, _<_}
 use native.Mathlib.Nat.{pow-le-pow-right, pow-suc}
 use native.Mathlib.Omega.{arith}
@@ -16,7 +17,7 @@ use native.Mathlib.Decide.{decLt}
 use lib.Dec.{ltb, lit<}
 use lib.ListN.{length, getD, set}
 use lib.Seq.{set-getD}
-use borrow.Author.Tests.{ltb-true, ltb-false}
+use borrow.Author.Tests.{ltb-true, ltb-false, le-ltb}
 use Rattle.output.specs.Logic.{if}
 use Rattle.field_index.specs.declared.Entry.{Entry}
 use Rattle.field_index.specs.declared.heapsort.Heap.{Heap}
@@ -250,19 +251,19 @@ module _ (b : Entry → Entry → Bool) (o : Order b) (D : ℕ) where
       go true e = in-order b o noEntry v 0 (h .hi) (g .taking e .whole) l
       go false e = absurd (omega (arith, g .sifting e .parent))
 
-  turns-is : (k : ℕ) (v : List Entry) (h : Heap) (deep : ℕ) → length v < 2 ^ D → Good b v h deep → weight D h deep ≤ k → turns k b v h ≡ sorted b v
+  turns-is : (k : ℕ) (v : List Entry) (h : Heap) (deep : ℕ) → length v < 2 ^ D → Good b v h deep → weight D h deep ≤ k → turns k b v h ≡ some (sorted b v)
   unfolding turns
-  turns-is zero v h deep few g l = is-sorted b o v v (ended v h deep g (light D h deep l)) (λ p. refl)
-  turns-is (suc k) v h deep few g l = go (ltb 1 (h .hi)) refl (λ some. turns-is k (after b v h) (turnAt b v h .next) (turned-good v few h deep g some .next .deep′) (omega (arith, same-length (after b v h) v (turned-good v few h deep g some .same)))
-      (turned-good v few h deep g some .next .good) (omega (arith, turned-good v few h deep g some .next .less)))
+  turns-is zero v h deep few g l = rw (le-ltb 1 (h .hi) (light D h deep l)) (ap some (is-sorted b o v v (ended v h deep g (light D h deep l)) (λ p. refl)))
+  turns-is (suc k) v h deep few g l = go (ltb 1 (h .hi)) refl (λ m. turns-is k (after b v h) (turnAt b v h .next) (turned-good v few h deep g m .next .deep′) (omega (arith, same-length (after b v h) v (turned-good v few h deep g m .same)))
+      (turned-good v few h deep g m .next .good) (omega (arith, turned-good v few h deep g m .next .less)))
     where
-      go : (t : Bool) → ltb 1 (h .hi) ≡ t → (1 < h .hi → turns k b (after b v h) (turnAt b v h .next) ≡ sorted b (after b v h)) → if t (turns k b (after b v h) (turnAt b v h .next)) v ≡ sorted b v
+      go : (t : Bool) → ltb 1 (h .hi) ≡ t → (1 < h .hi → turns k b (after b v h) (turnAt b v h .next) ≡ some (sorted b (after b v h))) → if t (turns k b (after b v h) (turnAt b v h .next)) (some v) ≡ some (sorted b v)
       go true e ih =
-          let some = ltb-true 1 (h .hi) e in
-          ih some ∙ is-sorted b o v (sorted b (after b v h)) (sorted-sorted b o (after b v h)) (λ p. sorted-same b (after b v h) p ∙ turned-good v few h deep g some .same p)
-      go false e ih = is-sorted b o v v (ended v h deep g (ltb-false 1 (h .hi) e)) (λ p. refl)
+          let m = ltb-true 1 (h .hi) e in
+          ih m ∙ ap some (is-sorted b o v (sorted b (after b v h)) (sorted-sorted b o (after b v h)) (λ p. sorted-same b (after b v h) p ∙ turned-good v few h deep g m .same p))
+      go false e ih = ap some (is-sorted b o v v (ended v h deep g (ltb-false 1 (h .hi) e)) (λ p. refl))
 
--- A heapsort of any list, over any order, is its sorted list; and with fewer than 2 ^ D entries it takes at most (n / 2 + n) * (D + 2) turns, each of at most two comparisons.
-pub heapsorted-is : (b : Entry → Entry → Bool) → Order b → (D : ℕ) (v : List Entry) → length v < 2 ^ D → heapsorted ((length v / 2 + length v) * (D + 2)) b v ≡ sorted b v
+-- A heapsort of any list of n entries, fewer than 2 ^ D, over any order, is over after at most (n / 2 + n) * (D + 2) turns, each of at most two comparisons, and leaves the sorted list.
+pub heapsorted-is : (b : Entry → Entry → Bool) → Order b → (D : ℕ) (v : List Entry) → length v < 2 ^ D → heapsorted ((length v / 2 + length v) * (D + 2)) b v ≡ some (sorted b v)
 unfolding heapsorted
 heapsorted-is b o D v few = turns-is b o D ((length v / 2 + length v) * (D + 2)) v (startOf (length v)) (started b o D v .0) few (started b o D v .1) (started b o D v .2)

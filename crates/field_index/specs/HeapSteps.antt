@@ -1,8 +1,9 @@
 -- Heapsort, a turn at a time: what the code does to the list of the entries, over any order b.
--- The list is a tree: the children of place i are 2 i + 1 and 2 i + 2. Places lo to hi - 1 are a heap, no child behind its parent, but for the entry at `at`, which goes down; places from hi on are sorted and final.
+-- The list is a tree: the children of place i are 2 i + 1 and 2 i + 2. Places lo to hi - 1 are a heap, no child after its parent in the order, but for the entry at `at`, which goes down; places from hi on are sorted and final.
 -- Assumes nothing.
 use mathlib.Core.Bool.{Bool, true, false}
 use mathlib.Core.List.{List}
+use mathlib.Core.Option.{Option, none, some}
 use Prim.Native.Nat.{ℕ, zero, suc, _+_, _-_, _*_, _/_}
 use lib.Dec.{ltb}
 use lib.ListN.{length, getD, set}
@@ -16,7 +17,7 @@ use Rattle.field_index.specs.Names.{noEntry}
 abbrev pub nodeOf : ℕ → ℕ → ℕ → Heap
 nodeOf lo hi at = record { lo = lo; hi = hi; at = at; left = 2 * at + 1; right = if (ltb (2 * at + 2) hi) (2 * at + 2) (2 * at + 1); out = false }
 
--- the entry at 0, which no other follows, is to be put last
+-- the entry at 0, which none comes after in the order, is to be put last
 abbrev pub outOf : ℕ → Heap
 outOf hi = record { lo = 0; hi = hi; at = 0; left = hi - 1; right = hi - 1; out = true }
 
@@ -43,14 +44,14 @@ turnAt b v h = turnOf b h (getD v (h .at) noEntry) (getD v (h .left) noEntry) (g
 abbrev pub after : (Entry → Entry → Bool) → List Entry → Heap → List Entry
 after b v h = set (set v (h .at) (turnAt b v h .first)) (turnAt b v h .to) (turnAt b v h .second)
 
--- k turns at most, until there is nothing left to sort
-unfoldable pub turns : ℕ → (Entry → Entry → Bool) → List Entry → Heap → List Entry
-turns zero b v h = v
-turns (suc k) b v h = if (ltb 1 (h .hi)) (turns k b (after b v h) (turnAt b v h .next)) v
+-- the list where nothing is left to sort, after k turns at most; none where there is still a turn to make
+unfoldable pub turns : ℕ → (Entry → Entry → Bool) → List Entry → Heap → Option (List Entry)
+turns zero b v h = if (ltb 1 (h .hi)) none (some v)
+turns (suc k) b v h = if (ltb 1 (h .hi)) (turns k b (after b v h) (turnAt b v h .next)) (some v)
 
--- the first place whose parent is to go down is that of the last parent
+-- the last parent is the first to go down
 abbrev pub startOf : ℕ → Heap
 startOf n = settledOf (n / 2) n
 
-unfoldable pub heapsorted : ℕ → (Entry → Entry → Bool) → List Entry → List Entry
+unfoldable pub heapsorted : ℕ → (Entry → Entry → Bool) → List Entry → Option (List Entry)
 heapsorted k b v = turns k b v (startOf (length v))

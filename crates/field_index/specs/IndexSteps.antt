@@ -24,6 +24,7 @@ use Rattle.field_index.specs.declared.fields.Fields.{Fields}
 use Rattle.field_index.specs.declared.fields.Field.{Field}
 use Rattle.field_index.specs.Structs.{structAt, fieldsFrom}
 use Rattle.field_index.specs.Index.{refusal, fieldsAt}
+use Rattle.field_index.specs.Lookup.{foundAs}
 
 -- the children in the body of a struct, from a place to a place; 65 bodies may be opened in a whole tape, and fewer are enough here
 abbrev pub childrenIn : List ℕ → ℕ → ℕ → Nodes
@@ -89,15 +90,6 @@ countOf I.TooDeep = 0
 countOf I.FiniteFloat = 0
 countOf I.NoStruct = 0
 countOf I.TooManyFields = 0
-
-abbrev pub placeIn : Found → ℕ
-placeIn Nothing = 0
-placeIn (At k) = k
-
--- what was found in the index, where e is the entry at that place
-abbrev pub foundAs : Found → Entry → Looked
-foundAs Nothing e = L.Nothing
-foundAs (At k) e = L.Field e
 
 abbrev pub lookedAs : Indexed → Found → Entry → Looked
 lookedAs (I.Count n) f e = foundAs f e

@@ -1,7 +1,7 @@
 -- What a lookup answers. Assumes nothing: these are definitions.
 use Prim.Native.Nat.{ℕ, zero, suc, _+_, _<_}
 use mathlib.Core.Path.{_≡_}
-use mathlib.Core.Bool.{Bool, false}
+use mathlib.Core.Bool.{Bool, true, false}
 use mathlib.Core.List.{List, [], _∷_, _++_}
 use mathlib.Core.Option.{Option, none, some}
 use lib.ListN.{length}
@@ -11,6 +11,7 @@ use Rattle.field_index.specs.declared.Entry.{Entry}
 use Rattle.tape.specs.Tree.{Nodes, nil, more, encodeName, encodeHead, encode}
 use Rattle.field_index.specs.declared.Found.{Found}
 use Rattle.field_index.specs.declared.Found.the-variants.{Nothing, At}
+use Rattle.field_index.specs.declared.Key.{Key}
 use Rattle.field_index.specs.declared.Looked.{Looked}
 use Rattle.field_index.specs.declared.Looked.the-variants as L
 use Rattle.field_index.specs.declared.names.Way.{Way}
@@ -18,6 +19,16 @@ use Rattle.field_index.specs.Names.{isEqual, comparedNames, nameAt, befo
 use Rattle.field_index.specs.Sorted.{Sorted}
 use Rattle.field_index.specs.Structs.{structAt}
 use Rattle.field_index.specs.Index.{refusal}
+
+-- the name looked for: an identifier, or the text beside it
+abbrev pub keyOf : List ℕ → Key → Sym
+keyOf name k = if (k .numbered) (Sym.id (k .id)) (Sym.text name)
+
+abbrev pub textKey : Key
+textKey = record { numbered = false; id = 0 }
+
+abbrev pub idKey : ℕ → Key
+idKey n = record { numbered = true; id = n }
 
 -- an entry's name against the name looked for
 unfoldable pub sought : List ℕ → Sym → Entry → Way
@@ -48,6 +59,15 @@ pub record Finds (t : List ℕ) (name : Sym) (l : List Entry) (r : Found) : Type
   pub first : Sorted (before t) l → r ≡ firstWith (named t name) l
 
 -- ---- a lookup by a struct's offset: the field itself
+
+abbrev pub placeIn : Found → ℕ
+placeIn Nothing = 0
+placeIn (At k) = k
+
+-- what was found in the index, where e is the entry at that place
+abbrev pub foundAs : Found → Entry → Looked
+foundAs Nothing e = L.Nothing
+foundAs (At k) e = L.Field e
 
 -- a field has the name
 abbrev pub isNamed : Sym → Option Sym → Bool

@@ -32,13 +32,13 @@ unfoldable mutual
   structs at (more h n ns) = structsIn (at + length (encodeHead h)) n ++ structs (at + length (encodeHead h ++ encode n)) ns
 
 -- what stands at an offset
-unfoldable pub lookup : {A : Type 0} → ℕ → List (ℕ × A) → Option A
-lookup at [] = none
-lookup at (x ∷ l) = if (eqb at (x .0)) (some (x .1)) (lookup at l)
+unfoldable pub standsAt : {A : Type 0} → ℕ → List (ℕ × A) → Option A
+standsAt at [] = none
+standsAt at (x ∷ l) = if (eqb at (x .0)) (some (x .1)) (standsAt at l)
 
 -- the children of the struct node at an offset of a tape
 unfoldable pub structAt : List ℕ → ℕ → Option Nodes
-structAt t at = lookup at (structs 0 (nodesOf t))
+structAt t at = standsAt at (structs 0 (nodesOf t))
 
 -- the fields of a struct, of which the first starts at an offset: a name, and behind it the value, which starts with its 13 where it is annotated
 unfoldable pub fieldsFrom : ℕ → Nodes → List Entry

@@ -1,16 +1,12 @@
 // A struct node by its offset, and its fields one after the other.
 ghost use mathlib.Core.Path.{_≡_};
-ghost use Prim.Native.Nat.{_+_, _<_, _≤_};
+ghost use Prim.Native.Nat.{_<_};
 ghost use mathlib.Core.Bool.{false};
 ghost use lib.Dec.{eqb};
-ghost use lib.ListN.{length};
 ghost use Rattle.output.specs.Logic.{if};
-ghost use Rattle.tape.specs.Bytes.{part};
 ghost use Rattle.tape.specs.Tree.{size};
-ghost use Rattle.tape.specs.Tape.{walk};
 ghost use Rattle.tape.specs.Verdict.{verdict};
-ghost use Rattle.tape.specs.declared.Frame.the-variants.{Struct};
-ghost use Rattle.field_index.specs.IndexSteps.{Located, Body, fieldOf, Left, refusedOf, Opened, indexedAs};
+ghost use Rattle.field_index.specs.IndexSteps.{childrenIn, Located, Body, fieldOf, Left, refusedOf, Opened, indexedAs};
 use crate::Entry;
 use crate::Indexed;
 use tape::Frame;
@@ -32,22 +28,22 @@ fn struct_end(tape: &[u8], at: usize) -> usize
     let mut end = tape.len() - 8;
     let mut frame = Frame::Top;
     while from < end {
-        let value = tape::value_place(tape, from, end, frame);
-        let next = value + tape::value_size(tape, value, end);
+        let inner = tape::value_place(tape, from, end, frame);
+        let next = inner + tape::value_size(tape, inner, end);
         if next <= at {
             from = next;
         } else {
-            let k = tape[value];
+            let k = tape[inner];
             if k < 10 {
                 return 0;
             }
             if 12 < k {
                 return 0;
             }
-            if is_sought(k, value, at) {
+            if is_sought(k, inner, at) {
                 return next;
             }
-            from = value + 5;
+            from = inner + 5;
             end = next;
             frame = tape::check::frame_of(k);
         }
@@ -58,13 +54,13 @@ fn struct_end(tape: &[u8], at: usize) -> usize
 // The number of the fields in a body.
 fn field_count(tape: &[u8], from: usize, end: usize) -> usize
     requires { ⌜ Body (now tape) from end ⌝ }
-    ensures { λ r. ⌜ r ≡ size (walk 65 Struct (part (now (tape .entry)) from end) .0) ⌝ }
+    ensures { λ r. ⌜ r ≡ size (childrenIn (now (tape .entry)) from end) ⌝ }
 {
     let mut at = from;
     let mut n = 0;
     while at < end {
-        let value = tape::value_place(tape, at, end, Frame::Struct);
-        at = value + tape::value_size(tape, value, end);
+        let inner = tape::value_place(tape, at, end, Frame::Struct);
+        at = inner + tape::value_size(tape, inner, end);
         n += 1;
     }
     n

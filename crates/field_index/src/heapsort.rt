@@ -6,7 +6,8 @@ ghost use Rattle.field_index.specs.HeapSteps.{nodeOf, settledOf, siftOf,
 use crate::Entry;
 use crate::names::comes_before;
 
-// Where a sort stands: see specs/HeapSteps.antt.
+// Where a sort stands: places lo to hi - 1 are a heap but for the entry at `at` (specs/HeapSteps.antt). `left` and `right` are its children, the
+// left one twice where there is no second. `out`: the heap is whole, and its first entry goes to `left`, the last place.
 pub struct Heap {
     pub lo: usize,
     pub hi: usize,
@@ -16,7 +17,7 @@ pub struct Heap {
     pub out: bool,
 }
 
-// A turn of a sort: first goes to the place that was looked at, second to the place `to`.
+// A turn of a sort: first goes to the place `at`, second to the place `to`.
 pub struct Turn {
     pub next: Heap,
     pub to: usize,
@@ -91,7 +92,7 @@ fn sift(lo: usize, hi: usize, at: usize) -> Heap
     }
 }
 
-// At the start no place is below its parent: the last parent is the first to go down.
+// The places from n / 2 on have no child: the last parent is the first to go down.
 pub fn start(n: usize) -> Heap
     ensures { λ r. ⌜ r ≡ startOf n ⌝ }
 {

@@ -1,8 +1,8 @@
 // The field index: the fields of a struct node as entries in a lent slice, sorted by name, and lookup in it.
-pub mod fields;
-pub mod heapsort;
-pub mod names;
-pub mod search;
+mod fields;
+mod heapsort;
+mod names;
+mod search;
 
 ghost use mathlib.Core.Path.{_≡_};
 ghost use mathlib.Core.List.{_++_};
@@ -13,10 +13,8 @@ ghost use Rattle.tape.specs.Fine.{Bytes};
 ghost use Rattle.field_index.specs.Names.{before};
 ghost use Rattle.field_index.specs.Sorted.{sorted};
 ghost use Rattle.field_index.specs.Index.{IndexOf};
-ghost use Rattle.field_index.specs.NameSteps.{keyOf, textKey, idKey};
-ghost use Rattle.field_index.specs.Lookup.{Finds, lookedUp};
-ghost use Rattle.field_index.specs.IndexSteps.{countOf, placeIn, foundAs, lookedAs};
-use crate::names::Key;
+ghost use Rattle.field_index.specs.Lookup.{Finds, lookedUp, keyOf, textKey, idKey, placeIn, foundAs};
+ghost use Rattle.field_index.specs.IndexSteps.{countOf, lookedAs};
 
 // A field: the offsets of its name and of its value, from the tape's start, of their kind bytes.
 #[repr(C)]
@@ -46,6 +44,12 @@ pub enum Indexed {
 pub enum Found {
     Nothing,
     At(usize),
+}
+
+// The name looked for: an identifier, or else the text beside it.
+pub struct Key {
+    pub numbered: bool,
+    pub id: usize,
 }
 
 // What a lookup by a struct's offset answers: the field, none, or the index's refusal.
@@ -103,7 +107,7 @@ pub fn text_key() -> Key
     ensures { λ r. ⌜ r ≡ textKey ⌝ }
 {
     Key {
-        number: false,
+        numbered: false,
         id: 0,
     }
 }
@@ -112,12 +116,13 @@ pub fn id_key(id: u32) -> Key
     ensures { λ r. ⌜ r ≡ idKey id ⌝ }
 {
     Key {
-        number: true,
+        numbered: true,
         id: id as usize,
     }
 }
 
-// The place of the first entry whose name is a text, in an index of `index` on the same tape; in any other entries none, or some place.
+// The place of the first entry whose name is the given text, none exactly if no field has it, in an index of `index` on the same tape; in any
+// other entries none, or some place.
 pub fn find_text<'a>(tape: &'a [u8], entries: &[Entry], name: &'a [u8]) -> Found
     ensures { λ r. ⌜ Finds (now (tape .entry)) (Sym.text (now (name .entry))) (now (entries .entry)) r ⌝ }
 {
@@ -130,6 +135,7 @@ pub fn find_id(tape: &[u8], entries: &[Entry], id: u32) -> Found
     ensures { λ r. ⌜ Finds (now (tape .entry)) (Sym.id id) (now (entries .entry)) r ⌝ }
 {
     let k = id_key(id);
+    // of an identifier no text is looked at
     find(tape, entries, tape, k)
 }
 
@@ -168,7 +174,8 @@ fn found_as(f: Found, e: Entry) -> Looked
     }
 }
 
-// The same behind an index. (That a tape holds bytes is said here, for `look_up`, whose proof is a walk by hand and cannot see it.)
+// The same behind an index. (`bytes` says nothing of the body: every slice of u8 meets it. It hands the fact to `look_up`, whose proof is a walk
+// by hand and cannot see it.)
 fn told(tape: &[u8], i: Indexed, f: Found, e: Entry) -> Looked
     ensures answer { λ r. ⌜ r ≡ lookedAs i f e ⌝ }
     ensures bytes { λ _. ⌜ Bytes (now (tape .entry)) ⌝ }
@@ -184,7 +191,8 @@ fn told(tape: &[u8], i: Indexed, f: Found, e: Entry) -> Looked
     }
 }
 
-// The field with a name of the struct node at an offset: indexed in 65,536 entries of its own, and looked up. Its parameters are plain.
+// The field with a name of the struct node at an offset: indexed in 65,536 entries of its own, and looked up. It
+// takes no slice of entries, so that code with a proof written by the tool can call it.
 pub fn look_up<'a>(tape: &'a [u8], at: usize, name: &'a [u8], key: Key) -> Looked
     ensures { λ r. ⌜ r ≡ lookedUp (now (tape .entry)) at (keyOf (now (name .entry)) key) ⌝ }
 {

@@ -1,10 +1,10 @@
 // The order of names: identifiers by number, then texts by their bytes, a proper beginning first; and of the entries that stand for them.
 ghost use mathlib.Core.Path.{_≡_};
-ghost use Prim.Native.Nat.{_+_, _≤_};
-ghost use lib.ListN.{length};
 ghost use Rattle.field_index.specs.Names.{comparedNumbers, comparedTexts, comparedNames, nameAt, comparedPlaces, compared, before};
-ghost use Rattle.field_index.specs.NameSteps.{noName, meantBy, Inside, NameAt, keyOf};
+ghost use Rattle.field_index.specs.NameSteps.{noName, meantBy, Inside, NameAt};
+ghost use Rattle.field_index.specs.Lookup.{keyOf};
 use crate::Entry;
+use crate::Key;
 
 pub enum Way {
     Less,
@@ -12,7 +12,7 @@ pub enum Way {
     Greater,
 }
 
-pub fn compare_numbers(m: usize, n: usize) -> Way
+fn compare_numbers(m: usize, n: usize) -> Way
     ensures { λ r. ⌜ r ≡ comparedNumbers m n ⌝ }
 {
     if m < n {
@@ -47,8 +47,8 @@ fn compare_texts(s: &[u8], t: &[u8]) -> Way
 }
 
 // A name: its number, or the part of the tape that holds its text.
-pub struct Name {
-    pub number: bool,
+struct Name {
+    pub numbered: bool,
     pub id: usize,
     pub from: usize,
     pub to: usize,
@@ -58,7 +58,7 @@ fn no_name() -> Name
     ensures { λ r. ⌜ r ≡ noName ⌝ }
 {
     Name {
-        number: false,
+        numbered: false,
         id: 0,
         from: 0,
         to: 0,
@@ -79,7 +79,7 @@ fn name_at(tape: &[u8], at: usize) -> Name
     let k = tape[at];
     if k == 7 {
         return Name {
-            number: true,
+            numbered: true,
             id: n,
             from: 0,
             to: 0,
@@ -93,7 +93,7 @@ fn name_at(tape: &[u8], at: usize) -> Name
         return no_name();
     }
     Name {
-        number: false,
+        numbered: false,
         id: 0,
         from,
         to: from + n,
@@ -105,13 +105,13 @@ fn compare_two(tape: &[u8], s: Name, t: Name) -> Way
     requires { ⌜ Inside (now tape) s × Inside (now tape) t ⌝ }
     ensures { λ r. ⌜ r ≡ comparedNames (meantBy (now (tape .entry)) s) (meantBy (now (tape .entry)) t) ⌝ }
 {
-    if s.number {
-        if t.number {
+    if s.numbered {
+        if t.numbered {
             return compare_numbers(s.id, t.id);
         }
         return Way::Less;
     }
-    if t.number {
+    if t.numbered {
         return Way::Greater;
     }
     let from = s.from;
@@ -158,24 +158,18 @@ pub fn comes_before(tape: &[u8], a: Entry, b: Entry) -> bool
     }
 }
 
-// The name looked for: an identifier, or else the text beside it.
-pub struct Key {
-    pub number: bool,
-    pub id: usize,
-}
-
 // The name at an offset against the name looked for.
 pub fn compare_key(tape: &[u8], at: usize, name: &[u8], key: Key) -> Way
     ensures { λ r. ⌜ r ≡ comparedNames (nameAt (now (tape .entry)) at) (keyOf (now (name .entry)) key) ⌝ }
 {
     let s = name_at(tape, at);
-    if s.number {
-        if key.number {
+    if s.numbered {
+        if key.numbered {
             return compare_numbers(s.id, key.id);
         }
         return Way::Less;
     }
-    if key.number {
+    if key.numbered {
         return Way::Greater;
     }
     let from = s.from;

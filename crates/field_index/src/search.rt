@@ -2,12 +2,11 @@
 ghost use mathlib.Core.Path.{_≡_};
 ghost use mathlib.Core.Bool.{false};
 ghost use Prim.Native.Nat.{_<_, _≤_};
-ghost use Rattle.field_index.specs.Lookup.{sought};
-ghost use Rattle.field_index.specs.NameSteps.{keyOf};
-ghost use Rattle.field_index.specs.SearchSteps.{rangeOf, narrowedOf, placeOf};
+ghost use Rattle.field_index.specs.Lookup.{sought, keyOf};
+ghost use Rattle.field_index.specs.SearchSteps.{rangeOf, narrowedOf, answerOf};
 use crate::Entry;
 use crate::Found;
-use crate::names::Key;
+use crate::Key;
 use crate::names::Way;
 
 // What is left of a search, its middle, and whether the entry behind it has the name.
@@ -47,7 +46,7 @@ pub fn narrow<'a>(tape: &'a [u8], name: &'a [u8], key: Key, e: Entry, r: Range) 
 
 // What the search answers once nothing is left.
 pub fn place(r: Range) -> Found
-    ensures { λ f. ⌜ f ≡ placeOf r ⌝ }
+    ensures { λ f. ⌜ f ≡ answerOf r ⌝ }
 {
     if r.same {
         Found::At(r.lo)

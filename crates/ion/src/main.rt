@@ -7,8 +7,8 @@ mod words;
 ghost use mathlib.Core.Path.{_≡_};
 ghost use Prim.Native.Nat.{_+_, _<_, _≤_};
 ghost use lib.ListN.{length};
+use field_index::Key;
 use field_index::Looked;
-use field_index::names::Key;
 use ion_show::line;
 use ion_show::show;
 use libc::STDERR_FILENO;
@@ -111,7 +111,7 @@ From a tape, of at most 1,048,576 bytes:
   length   how many bytes one of these four texts has; a second word names it
   check    whether it is a good tape
   show     its nodes, one a line: offset, kind and value
-  find     the field NAME of the struct at OFFSET: where it stands, and its nodes; $7 is an identifier, '$7' a text
+  find     the field NAME of the struct at OFFSET: where it stands, and its nodes; $7 is an identifier, and a text if single quote marks stand around it
 From an Ion text, of at most 4,200,000 bytes:
   read     its tape
   split    its lines: number, offset, length, and what each is
@@ -493,7 +493,7 @@ fn on_find(name: &[u8], text: &mut [u8], tape: &mut [u8], spare: &mut [u8]) {
     let mut digits = [0u8; 32];
     let d = os::arg(2, &mut digits);
     let Offset::At(at) = offset_of(&digits[..d]) else {
-        wrong_use(b"find takes an offset, which is digits, and a name");
+        wrong_use(b"find takes an offset, a number below 2^64 in at most 32 digits, and a name");
         return;
     };
     let mut field = io::buffer();

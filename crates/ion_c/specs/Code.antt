@@ -12,7 +12,7 @@ use Rattle.field_index.specs.declared.Indexed.{Indexed}
 use Rattle.field_index.specs.Index.{indexed, IndexOf}
 use Rattle.field_index.specs.Lookup.{Finds}
 
--- the count; 0 for the end mark; minus the refusal's number. No refusal has the number 0. A count of 0 is an empty text; a call that
+-- the count; 0 for the end mark; minus the refusal's number. No refusal has the number 0. A count of 0 is an empty text or a struct without fields; a call that
 -- may answer the end mark never counts 0, since a tape has at least 8 bytes
 abbrev pub code : Outcome → ℤ
 code (counted n) = pos n

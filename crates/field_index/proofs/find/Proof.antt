@@ -48,12 +48,11 @@ use denote.Triple.Clauses.{ensured, lasts}
 use denote.Triple.Walked.{says, Stays, stay-none-slice, stay-none, walkOf, AllGo, goes-none-slice, goes-none, Walks, ends-at, walked, walk-meets}
 use denote.Exit.{yes}
 use Rattle.field_index.specs.Names.{noEntry}
-use Rattle.field_index.specs.Lookup.{sought, Finds}
-use Rattle.field_index.specs.NameSteps.{keyOf}
-use Rattle.field_index.specs.SearchSteps.{rangeOf, narrowedOf, placeOf}
+use Rattle.field_index.specs.Lookup.{sought, Finds, keyOf}
+use Rattle.field_index.specs.SearchSteps.{rangeOf, narrowedOf, answerOf}
 use Rattle.field_index.specs.declared.Entry.{Entry}
 use Rattle.field_index.specs.declared.Found.{Found}
-use Rattle.field_index.specs.declared.names.Key.{Key}
+use Rattle.field_index.specs.declared.Key.{Key}
 use Rattle.field_index.specs.declared.search.Range.{Range}
 use Rattle.field_index.specs.declared.names.Way.{Way}
 use Rattle.field_index.proofs.SearchLaws.{Good, begins, middle-in, turn, found}
@@ -61,8 +60,8 @@ use Rattle.field_index.proofs.Entry as T
 use Rattle.field_index.proofs.Entry.Laws as T′
 use Rattle.field_index.proofs.Found as F
 use Rattle.field_index.proofs.Found.Laws as F′
-use Rattle.field_index.proofs.names.Key as K
-use Rattle.field_index.proofs.names.Key.Laws as K′
+use Rattle.field_index.proofs.Key as K
+use Rattle.field_index.proofs.Key.Laws as K′
 use Rattle.field_index.proofs.search.Range as R
 use Rattle.field_index.proofs.search.Range.Laws as R′
 use Rattle.field_index.proofs.search.all as all
@@ -187,8 +186,8 @@ module _ {M : Type 1} (𝓤 : URA M) (H : Heap 𝓤) (A : Atoms 𝓤) (W : Given
     asks-place : ent 𝓤 (sep 𝓤 (sem 𝓤 H A ftrue) (sem 𝓤 H A (owns (R.the-row ∷ []) (r, tt) passed-place))) (Places 𝓤 H A at-mem run .pre to-place)
     asks-place = qed W (‵ ftrue ∷ ‵ (owns (R.the-row ∷ []) (r, tt) passed-place) ∷ []) ∵ join ! $ frame ! $ done !
 
-    said-place : (z : Found) → ent 𝓤 (ensured 𝓤 H A place.ended (place.clauses 𝓤 H A at-mem run) tt (r, tt) tt z) (fact 𝓤 (z ≡ placeOf r))
-    said-place z = exE 𝓤 _ (λ us. snd∗ 𝓤 (sem 𝓤 H A (lasts place.ended tt (r, tt) us)) (fact 𝓤 (z ≡ placeOf r)))
+    said-place : (z : Found) → ent 𝓤 (ensured 𝓤 H A place.ended (place.clauses 𝓤 H A at-mem run) tt (r, tt) tt z) (fact 𝓤 (z ≡ answerOf r))
+    said-place z = exE 𝓤 _ (λ us. snd∗ 𝓤 (sem 𝓤 H A (lasts place.ended tt (r, tt) us)) (fact 𝓤 (z ≡ answerOf r)))
 
   -- ---- the loop
   abbrev State : Type 0
@@ -273,7 +272,7 @@ module _ {M : Type 1} (𝓤 : URA M) (H : Heap 𝓤) (A : Atoms 𝓤) (W : Given
         calls-at ! fm (Places 𝓤 H A at-mem run) known-place (to-place r) (and-then ! (load ! (from ! (stop !)) (look ! 14 refl)) (no-more !)) (λ u.
         use1 W (later (some (λ (z : Found). (‵ ftrue ⊛ ‵ (F.the-row .own z (u ∷ []))) ⊛ raw (ensured 𝓤 H A place.ended (place.clauses 𝓤 H A at-mem run) tt (r, tt) tt z)))) (id⊢ 𝓤 _) $
         await ! tt $ pick ! (λ z.
-        split ! $ move ! (1 ∷ []) $ use1 W (raw (fact 𝓤 (z ≡ placeOf r))) (said-place r z) $ heard ! (z ≡ placeOf r) (λ is-z. split ! $ drop ! $
+        split ! $ move ! (1 ∷ []) $ use1 W (raw (fact 𝓤 (z ≡ answerOf r))) (said-place r z) $ heard ! (z ≡ answerOf r) (λ is-z. split ! $ drop ! $
         peeks ! F.the-row (Is F.the-row) (shows 𝓤 H A F.the-row) z (u ∷ []) (λ is.
         land ! (from ! (stop !)) (init ! 26 refl (EL.lawful F.the-type F′.the-laws 𝓤 H A W tt .typed z _ is .0)) $ drop ! $
         returns ! (look ! 25 refl) $ forget ! 11 refl $ forget ! 13 refl $ forget ! 15 refl $ forget ! 17 refl $ forget ! 19 refl $ forget ! 21 refl $ forget ! 23 refl $ forget ! 25 refl $

@@ -37,16 +37,15 @@ use denote.Triple.Clauses.{ensured, lasts}
 use denote.Triple.Walked.{says, Stays, stay-none-slice, walkOf, AllGo, goes-none-slice, Walks, ends-at, walked, walk-meets}
 use denote.Exit.{yes}
 use Rattle.text_rules.specs.Text.{Sym}
-use Rattle.field_index.specs.NameSteps.{textKey}
-use Rattle.field_index.specs.Lookup.{Finds}
+use Rattle.field_index.specs.Lookup.{Finds, textKey}
 use Rattle.field_index.specs.declared.Entry.{Entry}
 use Rattle.field_index.specs.declared.Found.{Found}
-use Rattle.field_index.specs.declared.names.Key.{Key}
+use Rattle.field_index.specs.declared.Key.{Key}
 use Rattle.field_index.proofs.Entry as T
 use Rattle.field_index.proofs.Found as F
 use Rattle.field_index.proofs.Found.Laws as F′
-use Rattle.field_index.proofs.names.Key as K
-use Rattle.field_index.proofs.names.Key.Laws as K′
+use Rattle.field_index.proofs.Key as K
+use Rattle.field_index.proofs.Key.Laws as K′
 use Rattle.field_index.proofs.find as find
 use Rattle.field_index.proofs.find.Symbol as find-def
 use Rattle.field_index.proofs.find.Symbol.{name as #field-index·find}

@@ -22,7 +22,7 @@ use Rattle.tape.specs.declared.Frame.the-variants.{Top, Struct}
 use Rattle.tape.proofs.Parts.{part-length, part-first}
 use Rattle.tape.proofs.Walking.{walk-end, verdict-told}
 use Rattle.tape.proofs.Verdicts.{nodes-walked, fine-walked}
-use Rattle.field_index.specs.Structs.{structs, lookup, structAt}
+use Rattle.field_index.specs.Structs.{structs, standsAt, structAt}
 use Rattle.field_index.specs.IndexSteps.{childrenIn, Located}
 use Rattle.field_index.proofs.StructLaws.{value, next, turning, size-there, passed, in-low, in-high, room, fine, here, in-body}
 use borrow.Author.Needs.{needs}
@@ -34,7 +34,7 @@ record Seeking (t : List ℕ) (at from end : ℕ) (k : Frame) : Type 0 where
   ordered : from ≤ end
   inside : end ≤ length t
   fine : walk 65 k (part t from end) .1 ≡ 0
-  told : structAt t at ≡ lookup at (structs from (walk 65 k (part t from end) .0))
+  told : structAt t at ≡ standsAt at (structs from (walk 65 k (part t from end) .0))
 
 -- what is said of places and a frame, of those that are equal to them
 along : (P : ℕ → ℕ → Frame → Type 0) {a a′ c c′ : ℕ} {j j′ : Frame} → a ≡ a′ → c ≡ c′ → j ≡ j′ → P a c j → P a′ c′ j′
@@ -45,13 +45,13 @@ none-found : (t : List ℕ) (at : ℕ) → structAt t at ≡ none → Located t 
 none-found t at e = record { found = e; body = λ nz. absurd (nz refl) }
 
 -- at the start, among all nodes; at the end, among none
-start : (t : List ℕ) (at : ℕ) → structAt t at ≡ lookup at (structs 0 (walk 65 Top (part t 0 (length t - 8)) .0))
+start : (t : List ℕ) (at : ℕ) → structAt t at ≡ standsAt at (structs 0 (walk 65 Top (part t 0 (length t - 8)) .0))
 unfolding structAt
-start t at = ap (λ (ns : Nodes). lookup at (structs 0 ns)) (sym (nodes-walked t))
+start t at = ap (λ (ns : Nodes). standsAt at (structs 0 ns)) (sym (nodes-walked t))
 
 over : (t : List ℕ) (at from e : ℕ) (k : Frame) → Seeking t at from e k → e ≤ from → structAt t at ≡ none
-unfolding structs lookup
-over t at from e k s h = s .told ∙ ap (λ (w : Walked). lookup at (structs from (w .0))) (walk-end k 65 (part t from e) (λ y. omega arith) (let n = part-length t from e (s .inside) in omega arith))
+unfolding structs standsAt
+over t at from e k s h = s .told ∙ ap (λ (w : Walked). standsAt at (structs from (w .0))) (walk-end k 65 (part t from e) (λ y. omega arith) (let n = part-length t from e (s .inside) in omega arith))
 
 sought-yes : (k p at : ℕ) → if (eqb k 12) (eqb p at) false ≡ true → (k ≡ 12) × (p ≡ at)
 sought-yes k p at e = go (eqb k 12) (eqb p at) refl refl e
@@ -97,7 +97,7 @@ module _ (t : List ℕ) (at from e : ℕ) (k : Frame) (s : Seeking t at from e k
     ordered = onward .1;
     inside = s .inside;
     fine = rw stop (turning k t from e b h (s .inside) (s .fine) .fine);
-    told = s .told ∙ passed k t from e b h (s .inside) (s .fine) at (let y = stop in omega arith) ∙ ap (λ (x : ℕ). lookup at (structs x (walk 65 k (part t x e) .0))) (sym stop);
+    told = s .told ∙ passed k t from e b h (s .inside) (s .fine) at (let y = stop in omega arith) ∙ ap (λ (x : ℕ). standsAt at (structs x (walk 65 k (part t x e) .0))) (sym stop);
   }
 
   module _ (g : at < v + n) where
@@ -145,7 +145,7 @@ module _ (t : List ℕ) (at from e : ℕ) (k : Frame) (s : Seeking t at from e k
             ordered = room-there;
             inside = let i = s .inside in omega arith;
             fine = along (λ x y j. walk 65 j (part t (x + 5) y) .1 ≡ 0) (sym p) (sym stop) f (fine k t from e b h (s .inside) (s .fine) low-kind high-kind);
-            told = s .told ∙ along (λ x y j. lookup at (structs from (walk 65 k (part t from e) .0)) ≡ lookup at (structs (x + 5) (walk 65 j (part t (x + 5) y) .0))) (sym p) (sym stop) f (in-body k t from e b h (s .inside) (s .fine) low-kind high-kind at before-next (λ y z. c (p ∙ y) (sym byte-is ∙ z)));
+            told = s .told ∙ along (λ x y j. standsAt at (structs from (walk 65 k (part t from e) .0)) ≡ standsAt at (structs (x + 5) (walk 65 j (part t (x + 5) y) .0))) (sym p) (sym stop) f (in-body k t from e b h (s .inside) (s .fine) low-kind high-kind at before-next (λ y z. c (p ∙ y) (sym byte-is ∙ z)));
           }
 
 abbrev Inv-loop : tie.InvT-loop
