@@ -15,7 +15,8 @@ import builds
 from tapes import tape
 
 SMALL = b'abcdefghijklmnopqrstuvwxyz'
-WORDS = {'small letters': SMALL, 'capitals': b'ABCDEFG', 'mixed': b'Ngc_72', 'blanks': b'a b', 'quote marks': b"'", 'past ASCII': 'é'.encode()}
+WORDS = {'small letters': SMALL, 'capitals': b'ABCDEFG', 'mixed': b'Ngc_72', 'blanks': b'a b', 'quote marks': b"'",
+         'control characters': b'\x01\x1f', 'past ASCII': 'é'.encode()}
 FIRSTS = {'$ and letters': (b'$', SMALL), 'a digit and letters': (b'7', SMALL), '$ and digits': (b'$', b'1234567890')}
 
 
@@ -30,6 +31,7 @@ def kinds():
         yield 'string, %d raw' % n, ('str', cut(n, b'The quick brown'))
         yield 'string, %d with escapes' % n, ('str', cut(n, b'a "b" c\td'))
         yield 'string, %d with a quote mark last' % n, ('str', cut(max(n, 1) - 1, SMALL) + b'"')
+        yield 'string, %d with control characters' % n, ('str', cut(n, b'a\x01b\x1f c'))
         yield 'string, %d past ASCII' % n, ('str', cut(n, 'é'.encode()))
         yield 'clob, %d' % n, ('clob', cut(n, b'hello world'))
         yield 'clob, %d of all bytes' % n, ('clob', cut(n, bytes(range(256))))

@@ -1,7 +1,8 @@
-"""Compares our streaming and tree texts with the Rust's over random accepted tapes, in full and cut short by the room, and the lengths that
-ion_length and ion_tree_length tell of them. Reads each text back, which must give the tape itself, and the lines of Lines texts one by one, which must give each value's tape, or what the line book
-gives where they are damaged (tests/grammar.py). Compares answer and buffer on damaged tapes with tests/model.py. The driver checks what
-it does not send: all of the buffer that a call must leave alone or zero, and behind each call of a writer the length of its text.
+"""Compares our streaming and tree texts with the Rust's (with control characters as document 02, A5, has them: `amended` of tests/tapes.py) over
+random accepted tapes, in full and cut short by the room, and the lengths that ion_length and ion_tree_length tell of them. Reads each text back,
+which must give the tape itself, and the lines of Lines texts one by one, which must give each value's tape, or what the line book gives where they
+are damaged (tests/grammar.py). Compares answer and buffer on damaged tapes with tests/model.py. The driver checks what it does not send: all of the
+buffer that a call must leave alone or zero, and behind each call of a writer the length of its text.
 
     ION_RUST_FILES=folder tests/oracle/build
     python3 tests/compare.py [TAPES [SEED]]
@@ -24,7 +25,7 @@ import builds
 import grammar
 import model
 from random_tapes import IDS, nested, stream, tree, value
-from tapes import ask, node, tape
+from tapes import amended, by_rust, node, tape
 
 READ, LINES, TREE = 16, 17, 18
 MODES = {0: 'Compact', 1: 'Lines', 2: 'Pretty', READ: 'reading', LINES: 'line calls', TREE: 'tree'}
@@ -98,7 +99,7 @@ def lines(frames):
 
 def special():
     """Every byte in strings, symbols, clobs and blobs; blobs of many lengths; texts of many lengths with one byte that is otherwise, at the places
-    where words of eight bytes start and end; every decimal sum from -30 to 30; depth 64."""
+    where words of eight bytes start and end; many control characters; every decimal sum from -30 to 30; depth 64."""
     for b in range(128):
         yield [('str', bytes([b]))], [('sym', bytes([b]))]
     for b in range(256):
@@ -109,12 +110,15 @@ def special():
         yield ([('blob', (bytes(range(256)) * 79)[:n])],)
     for n in (1, 5, 7, 8, 9, 15, 16, 17, 24, 31, 32, 33, 40, 65):
         for at in sorted({0, 7, 8, n // 2, n - 1} & set(range(n))):
-            for b in b'xZ_$7 \n"\'\\':
+            for b in b'xZ_$7 \n"\'\\\x01\x06\x0e\x1f\x7f':
                 for first in b'a$':
                     text = bytearray(b'%cbcdefgh' % first * 9)[:n]
                     text[at] = b
                     text = bytes(text)
                     yield [('sym', text)], [('str', text)], [('struct', [(('sym', text), ('str', text))])]
+    for n in range(40):
+        text = bytes([*range(1, 7), *range(14, 32)] * 2)[:n] + b'b'
+        yield [('str', text)], [('sym', text)]
     for length in range(1, 21):
         for total in range(-30, 31):
             m = int('9876543210' * 2) // 10**(20 - length) if length < 20 else 2**64 - 1
@@ -129,7 +133,12 @@ def special():
 def against_rust(r, lists, modes):
     """Each text in full, and the start of it where the room is short."""
     pairs = [(y, tape(v)) for v in lists for y in modes]
-    texts = ask([(3 if y == TREE else y, t) for y, t in pairs])
+    own = by_rust([(3 if y == TREE else y, t) for y, t in pairs])
+    texts = [amended(s) for s in own]
+    # the raw spelling is read too
+    raw = [(s, t) for (_, t), s, a in zip(pairs, own, texts) if s != a]
+    same([(READ, AMPLE, s) for s, _ in raw], [(len(t), t) for _, t in raw])
+    done['texts with raw control characters, as the Rust has them, read back'] += len(raw)
     same([(y, AMPLE, t) for y, t in pairs], [(len(s), s) for s in texts])
     cut = [(y, r.randrange(len(s)), t, s) for (y, t), s in zip(pairs, texts) if s]
     same([(y, room, t) for y, room, t, _ in cut], [(-6, s[:room]) for _, room, _, s in cut])

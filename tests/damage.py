@@ -47,6 +47,8 @@ TAPES = [
     [('list', [int_(1), ('list', []), ('struct', [(sym('a'), ('sexp', [sym('b'), int_(-20)])), (sym('c d'), ('struct', []))])]), ('sexp', []),
      ('struct', [(('id', 4), ('list', [('list', [('list', [])])]))])],
     [string('a\n"é\\'), sym('true'), sym(''), sym('$7'), sym('it\'s\0'), string('日\x01')],
+    # Control characters that hex digits escape: a damaged escape is refused, or means other characters.
+    [string('\x01\x1f'), ('struct', [(sym('\x06'), sym('a\x0e'))]), string('\x10\x7f\0'), ('clob', b'\x01')],
     [dec(123456, 0), dec(1234567, 0), dec(116, -8), dec(116, -9, 1), dec(0, 0, 1), dec(12, 3)],
     [('ts', 2, 2024, 2, 29, 0, 0, 0, UNKNOWN, 0, 0), ('ts', 3, 2024, 2, 29, 23, 59, 0, UNKNOWN, 0, 0), ('ts', 0, 2026, 0, 0, 0, 0, 0, UNKNOWN, 0, 0),
      ('ts', 4, 1999, 12, 31, 23, 59, 7, 330, 3, 42)],

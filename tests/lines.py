@@ -89,6 +89,9 @@ def main():
     prints_text(text_of(MOST))
     refuses(6, text_of(MOST + 1))
     refuses(6, tape([('clob', b'\1' * 60000)]))
+    controls = b'\1\x1f' * (MOST // 8 - 1)  # four bytes each in the text
+    prints_text(tape([('str', controls + b'a' * 5)]))
+    refuses(6, tape([('str', controls + b'a' * 6)]))
     prints_text(string_of(MOST - 1))
     prints_text(string_of(MOST))
     for too_long in string_of(MOST + 1), bytes(MOST + 1), string_of(4 * MOST), EXAMPLE + bytes(MOST):

@@ -172,7 +172,12 @@ IDENTIFIER = re.compile(rb'[$_A-Za-z][$_A-Za-z0-9]*')
 
 
 def quoted(text, mark):
-    return mark + b''.join(b'\\' + SHORT[c] if c in SHORT else bytes([c]) for c in text) + mark
+    """A character that has a letter is escaped by it, any other control character below U+0020 by hex digits (document 02, A5)."""
+    def one(c):
+        if c in SHORT:
+            return b'\\' + SHORT[c]
+        return b'\\x%02x' % c if c < 0x20 else bytes([c])
+    return mark + b''.join(map(one, text)) + mark
 
 
 def symbol_text(v):

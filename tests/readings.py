@@ -498,6 +498,13 @@ for said in ('\\x', '\\x4', '\\x4g', '\\xg4', '\\x 4', '\\x-1', '\\X41', '\\u', 
              '\\U0000004', '\\U0000004g', '\\ud800', '\\uDBFF', '\\uDC00', '\\udfff', '\\ud83d\\ude00', '\\U0000d800', '\\U0000DFFF',
              '\\U00110000', '\\U00200000', '\\U01000041', '\\UFFFFFFFF', '\\U80000000', '\\x4\\x1', '\\u00\\x41'):
     no('"' + said + '"', "'" + said + "'")
+# 02, A5: "The reader accepts both spellings for now": every control character raw stands above, here they are as the writers print them, and in names
+# and annotations both ways. (crates/vectors has each raw, by its letter, by `\x`, `\u` and `\U` at every place.)
+HEXED = '\x01\x02\x03\x04\x05\x06\x0e\x0f\x10\x11\x12\x13\x14\x15\x16\x17\x18\x19\x1a\x1b\x1c\x1d\x1e\x1f'
+HEXES = r'\x01\x02\x03\x04\x05\x06\x0e\x0f\x10\x11\x12\x13\x14\x15\x16\x17\x18\x19\x1a\x1b\x1c\x1d\x1e\x1f'
+yes('"' + HEXES + '"', str_(HEXED))
+yes(r"'\x1F'::{'\x01':'\x0E'}", notes('\x1f', rec('\x01', sym('\x0e'))))
+yes("'\x1f'::{'\x01':'\x0e'}", notes('\x1f', rec('\x01', sym('\x0e'))))
 # Clobs: `\x` naming one byte.
 for said, content in (('\\x00', b'\0'), ('\\x41', b'A'), ('\\x7f', b'\x7f'), ('\\x80', b'\x80'), ('\\xe9', b'\xe9'), ('\\xFf', b'\xff'),
                       ('\\x411', b'A1'), ('\\xc3\\xa9', b'\xc3\xa9'), ('a\\nb', b'a\nb')):

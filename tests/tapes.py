@@ -1,9 +1,10 @@
-"""Tapes (docs/FORMAT.md), made from tuples; and the oracle (tests/oracle), asked for the Rust's texts of them.
+"""Tapes (docs/FORMAT.md), made from tuples; and the oracle (tests/oracle), asked for the Rust's texts of them, in which one escape is amended.
 
 A value is ('null', type), ('bool', b), ('int', i), ('float', bits), ('dec', negative, magnitude, exponent),
 ('ts', precision, year, month, day, hour, minute, second, offset, digits, fraction), ('sym', bytes), ('id', n), ('str', bytes), ('clob', bytes),
 ('blob', bytes), ('list', values), ('sexp', values), ('struct', [(name, value), ..]), ('notes', [symbols], value) or ('marker',).
 """
+import re
 import struct
 import subprocess
 
@@ -11,6 +12,7 @@ from builds import oracle
 
 UNKNOWN = 32767
 KINDS = {'list': 10, 'sexp': 11, 'struct': 12}
+CONTROLS = re.compile(rb'[\x01-\x06\x0e-\x1f]')
 
 
 def node(v):
@@ -47,8 +49,15 @@ def tape(values):
     return body + struct.pack('<II', len(body), len(values))
 
 
-def ask(frames):
-    """The Rust's texts of (mode, tape) frames; mode 0, 1, 2 for the layouts, 3 for the tree text. None where it has none."""
+def amended(text):
+    """The Rust's text as document 02, A5, has it: the control characters that the Rust writes raw are `\\x` and two lower-case hex digits. Such a byte
+    stands in a text of the Rust's only as a character of a string or of a quoted symbol: clobs have it escaped, blobs are base64, no other
+    character has it in UTF-8, and beside the quote marks there is nothing below a blank but LF."""
+    return CONTROLS.sub(lambda found: b'\\x%02x' % found[0][0], text)
+
+
+def by_rust(frames):
+    """The Rust's own texts of (mode, tape) frames; mode 0, 1, 2 for the layouts, 3 for the tree text. None where it has none."""
     said = b''.join(bytes([m]) + struct.pack('<I', len(t)) + t for m, t in frames)
     out = subprocess.run([oracle(), 'batch'], input=said, stdout=subprocess.PIPE, check=True).stdout
     texts, at = [], 0
@@ -61,3 +70,8 @@ def ask(frames):
             texts.append(out[at:at + n])
             at += n
     return texts
+
+
+def ask(frames):
+    """The same, amended: what must be written."""
+    return [text and amended(text) for text in by_rust(frames)]

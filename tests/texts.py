@@ -1,4 +1,5 @@
-"""What the program `texts` must print, asked of the Rust (tests/oracle/build makes the oracle, for whoever has the Rust's files):
+"""What the program `texts` must print, asked of the Rust (tests/oracle/build makes the oracle, for whoever has the Rust's files), with control
+characters as document 02, A5, has them (`amended` of tests/tapes.py):
 
     python3 tests/texts.py > crates/texts/stdout
 """

@@ -4,11 +4,11 @@
     ION_RUST_FILES=folder tests/oracle/build
     python3 tests/vectors.py
 
-The first line builds the oracle, for whoever has the Rust's files; once is enough. The texts are the Rust's, asked of the oracle; the
-refusals are those of docs/FORMAT.md, from tests/model.py. Where both speak they must agree, and
-every text must read back to its tape by tests/grammar.py, or the script stops. Nothing is asked of our own crates. The tapes are the
-systematic ones below and random ones from a fixed seed, so a second run makes the same bytes. Prints what is covered, and stops where
-something that should be is not.
+The first line builds the oracle, for whoever has the Rust's files; once is enough. The texts are the Rust's, asked of the oracle, with control
+characters as document 02, A5, has them (`amended` of tests/tapes.py); the refusals are those of docs/FORMAT.md, from tests/model.py. Where both
+speak they must agree, and every text must read back to its tape by tests/grammar.py, or the script stops. Nothing is asked of our own crates. The
+tapes are the systematic ones below and random ones from a fixed seed, so a second run makes the same bytes. Prints what is covered, and stops
+where something that should be is not.
 """
 import collections
 import random
@@ -33,10 +33,11 @@ cover = collections.defaultdict(collections.Counter)
 
 
 class Record:
-    """Of a tape, which stands once: a comment, layouts over 2 to try, and whether the refusal 6 of every short room is written out."""
+    """Of a tape, which stands once: a comment, layouts over 2 to try, whether the refusal 6 of every short room is written out, and further texts that
+    mean the tape."""
 
     def __init__(self, said):
-        self.said, self.over, self.rooms = said, '', False
+        self.said, self.over, self.rooms, self.spellings = said, '', False, []
 
 
 def section(title):
@@ -53,6 +54,11 @@ def raw(t, said='', over='', rooms=False):
 
 def add(*values, **more):
     return raw(tape(values), **more)
+
+
+def spelt(texts, *values):
+    """Values that each of the texts means."""
+    records[add(*values)].spellings += texts
 
 
 def refused(number, t, said, layouts=LAYOUTS, **more):
@@ -188,6 +194,30 @@ for n in 7, 8, 9, 12, 15, 16, 17, 20, 27, 31, 32, 33, 40, 48, 64, 65:
     words = [b'$' + DIGITS[1:n], DIGITS[:n], b'$ion_' + DIGITS[:n - 7] + b'_1', b'$ion_1_' + DIGITS[:n - 7], b'$' + STEM[:n - 1], b'_' + DIGITS[:n - 1]]
     add(struct_(*((('sym', x), ('sym', x)) for x in words)))
     add(notes(NULL, *(('sym', x) for x in words)))
+
+section('control characters that hex digits escape: in texts of many lengths, at the borders of words of eight bytes and of blocks of 32')
+HEXED = bytes([*range(1, 7), *range(14, 32)])
+for n in *range(1, 10), 12, 15, 16, 17, 24, 31, 32, 33, 40, 64, 65:
+    places = sorted({0, 7, 8, 15, 16, 23, 24, 31, 32, n // 2, n - 9, n - 8, n - 1} & set(range(n)))
+    texts = [STEM[:i] + HEXED[(n + 5 * i) % 24:][:1] + STEM[i + 1:n] for i in places] + [(HEXED * 3)[n % 24:][:n]]
+    add(struct_(*((('sym', x), list_(('sym', x), ('str', x))) for x in texts)))
+    add(notes(string('a'), *(('sym', x) for x in texts)))
+for n in 255, 256, 1000:
+    add(('str', (HEXED * 42)[:n]))
+    add(('sym', (HEXED * 42)[:n]))
+
+section('these and their neighbours: twice, before hex digits, in a clob; and every spelling that is read, raw, by a letter and by hex digits')
+NEIGHBOURS = {0: '0', 7: 'a', 8: 'b', 9: 't', 10: 'n', 11: 'v', 12: 'f', 13: 'r', 0x20: None, 0x7F: None, 0x80: None}
+for b in *HEXED, *NEIGHBOURS:
+    c = chr(b)
+    add(struct_((c + '0f', list_(sym('F' + c + c + '1'), string(c + c + 'a'), clob(c.encode() + b'0f')))))
+    spellings = ['\\x%02x' % b, '\\x%02X' % b, '\\u%04x' % b, '\\U%08X' % b]
+    if c not in '\n\r':
+        spellings.append(c)
+    if NEIGHBOURS.get(b):
+        spellings.append('\\' + NEIGHBOURS[b])
+    texts = [("'%s'::{'%s':['%s',\"%s\"]}" % (s, s, s, s)).encode() for s in dict.fromkeys(spellings)]
+    spelt(texts, notes(struct_((c, list_(sym(c), string(c)))), sym(c)))
 
 section('UTF-8: borders of one to four bytes, and what is broken')
 BORDERS = [b'\x7f', b'\xc2\x80', b'\xdf\xbf', b'\xe0\xa0\x80', b'\xe0\xbf\xbf', b'\xe1\x80\x80', b'\xec\xbf\xbf', b'\xed\x80\x80', b'\xed\x9f\xbf',
@@ -414,6 +444,8 @@ for t in tape([notes(list_(TRUE), sym('a'))]), tape([sid(1)]), tape([struct_((si
 
 section('refusal 6: every room, written out')
 for values in ([list_(TRUE)], [struct_(('a', list_(int_(1))))], [struct_(('a', int_(1)), ('b c', sexp(NULL, string('é\n'))))], [clob(b'\x01"')],
+               [string('\x01')], [string('\x01\x02\x03\x04\x0e\x0f\x1fb')], [struct_(('\x1f', list_(sym('a\x06'), string('\x0e\x10b'))))],
+               [notes(sym('\x02\x11'), sym('\x1e'), sym("\x05'"))],
                [dec(116, -9)], [at(-5)], [MARKER, int_(-1)], [sym('é')], [notes(list_(dec(1, -9), sid(0)), sym('a'), sym('b c'))],
                [sexp(), list_(), struct_()]):
     add(*values, rooms=True)
@@ -440,6 +472,7 @@ def held(t, y, text):
     for room in {len(text) + 9, len(text), max(len(text) - 1, 0), len(text) // 2, 0}:
         due = (len(text), text + b'\xa5' * (room - len(text))) if room >= len(text) else (-6, text[:room])
         assert model.answer(text, b'\xa5' * room) == due
+    assert min(text.replace(b'\n', b' '), default=0x20) >= 0x20
     assert grammar.expect(text, len(t)) == (len(t), t) and grammar.expect(text, len(t) - 1) == (-9, b'')
     if y == '1':
         nodes = b''.join(buffer[:n - 8] for n, _, buffer in grammar.book(text, b'\xa5' * len(t)) if n)
@@ -481,6 +514,10 @@ def record_lines(t, record, rust, sums):
         else:
             assert rust[y, t] == said, (y, t.hex(), rust[y, t], said)
             yield from text_lines(y, t, rust[y, t], record.rooms, sums)
+    for text in record.spellings:
+        assert grammar.expect(text, len(t)) == (len(t), t), text
+        sums.update(texts=1, reads=3)
+        yield 'r=' + escaped(text)
 
 
 def main():

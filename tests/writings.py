@@ -2,7 +2,7 @@
 """The writer on worked tapes: a table of tapes and what they give by docs/FORMAT.md.
 
 `gives(layout, values, text)` has its text written down here by hand. `refuses(number, tape)` has its number so. The comments are sentences
-of document 01, which docs/FORMAT.md restates. `row(layout, tape, room)` is left to tests/model.py; the rows written by hand are held
+of documents 01 and 02, which docs/FORMAT.md restates. `row(layout, tape, room)` is left to tests/model.py; the rows written by hand are held
 against it too. Nothing expected here was ever asked of the program or of the Rust.
 Run it to write crates/writings/stdin (frames: layout or `t`, u32 room, u32 length, tape) and crates/writings/stdout (answer and whole buffer).
 """
@@ -198,9 +198,12 @@ gives_lines(*((sym(s), "'" + s + "'") for s in ('false', 'nan', 'null', '$07', '
 # "escape NUL `\0`, 7 `\a`, 8 `\b`, tab `\t`, LF `\n`, 11 `\v`, 12 `\f`, CR `\r`, backslash and both quote marks; other characters go raw"
 ESCAPED = '\0\x07\x08\t\n\x0b\x0c\r\\"\''
 ESCAPES = r'\0\a\b\t\n\v\f\r\\\"' + "\\'"
-RAW = '\x01\x1f /\x7f\x80é日\U0010ffff'
-gives_lines((string(ESCAPED), '"' + ESCAPES + '"'), (sym(ESCAPED), "'" + ESCAPES + "'"), (string(RAW), '"' + RAW + '"'),
-            (sym(RAW), "'" + RAW + "'"), (string(''), '""'))
+# .. and 02, A5: "U+0001 to U+0006 and U+000E to U+001F in strings and quoted symbols as `\x` with two lower-case hex digits"
+HEXED = '\x01\x02\x03\x04\x05\x06\x0e\x0f\x10\x11\x12\x13\x14\x15\x16\x17\x18\x19\x1a\x1b\x1c\x1d\x1e\x1f'
+HEXES = r'\x01\x02\x03\x04\x05\x06\x0e\x0f\x10\x11\x12\x13\x14\x15\x16\x17\x18\x19\x1a\x1b\x1c\x1d\x1e\x1f'
+RAW = ' /\x7f\x80é日\U0010ffff'
+gives_lines((string(ESCAPED), '"' + ESCAPES + '"'), (sym(ESCAPED), "'" + ESCAPES + "'"), (string(HEXED), '"' + HEXES + '"'),
+            (sym(HEXED), "'" + HEXES + "'"), (string(RAW), '"' + RAW + '"'), (sym(RAW), "'" + RAW + "'"), (string(''), '""'))
 # "leaves hex 20 to 7E raw but for `"` and backslash, uses the short letters above, and `\x` with two lower-case hex digits elsewhere"
 gives_lines((clob(b''), '{{""}}'), (clob(ESCAPED.encode()), r'{{"\0\a\b\t\n\v\f\r\\\"' + "'" + '"}}'),
             (clob(b'\x01\x1f ~\x7f\x80\xab\xff'), r'{{"\x01\x1f ~\x7f\x80\xab\xff"}}'))
@@ -292,7 +295,8 @@ ONE, TWO = ('int', 1), ('int', 2)
 for value, text in (
         (('list', [ONE, TWO]), '[1, 2]'), (('sexp', [ONE, TWO]), '(1 2)'), (('struct', [(sym('a'), ONE)]), '{a: 1}'),
         (notes(ONE, sym('a')), 'a::1'), (notes(('list', [notes(ONE, sym('b'))]), sym('a'), sym('true')), "a::'true'::[b::1]"),
-        (('struct', [(sym('a'), notes(('sexp', []), sid(0))), (sid(0), ('list', []))]), '{a: $0::(), $0: []}')):
+        (('struct', [(sym('a'), notes(('sexp', []), sid(0))), (sid(0), ('list', []))]), '{a: $0::(), $0: []}'),
+        (notes(('struct', [(sym('\x06'), sym('\x0e'))]), sym('\x01')), r"'\x01'::{'\x06': '\x0e'}")):
     gives(TREE, [value], text)
 # "not one top-level node, a marker, or an identifier but 0": 5, behind the count; then 6.
 refuses(5, tape([]), tape([ONE, TWO]), tape([('marker',)]), tape([sid(1)]), tape([notes(ONE, sid(7))]), layouts=(TREE,))

@@ -49,10 +49,11 @@ static void check(const char *what, int64_t answer, int64_t due, size_t n, const
 /* A call's tape or text: a literal without its closing 0. */
 #define BYTES(s) (const uint8_t *)(s), sizeof(s) - 1
 
-/* Tapes: no value; [true]; a::true; two bools where one is counted; 1.0; a broken bool. */
+/* Tapes: no value; [true]; a::true; the string of U+0001; two bools where one is counted; 1.0; a broken bool. */
 #define EMPTY "\0\0\0\0\0\0\0\0"
 #define LIST "\12\2\0\0\0\1\1\7\0\0\0\1\0\0\0"
 #define NOTED "\15\1\6\1\0\0\0a\1\1\12\0\0\0\1\0\0\0"
+#define CONTROL "\10\1\0\0\0\1\6\0\0\0\1\0\0\0"
 #define MISCOUNTED "\1\1\1\1\4\0\0\0\1\0\0\0"
 #define FLOAT "\3\0\0\0\0\0\0\360\77\11\0\0\0\1\0\0\0"
 #define BROKEN "\1\2\2\0\0\0\1\0\0\0"
@@ -67,6 +68,8 @@ static void writers(void) {
     check("no buffer", ion_write(ION_LINES, BYTES(LIST), NULL, 0), ION_TEXT_TOO_LONG, 0, "", 0, KEPT);
     check("Compact", ion_write(ION_COMPACT, BYTES(LIST), out, ROOM), 9, ROOM, "[true, ] ", 9, KEPT);
     check("Pretty", ion_write(ION_PRETTY, BYTES(LIST), out, ROOM), 12, ROOM, "[\n  true,\n]\n", 12, KEPT);
+    check("a control character", ion_write(ION_LINES, BYTES(CONTROL), out, ROOM), 7, ROOM, "\"\\x01\"\n", 7, KEPT);
+    check("its escape cut", ion_write(ION_LINES, BYTES(CONTROL), out, 4), ION_TEXT_TOO_LONG, 4, "\"\\x0", 4, KEPT);
     check("layout 3", ion_write(3, BYTES(EMPTY), out, ROOM), ION_NO_LAYOUT, ROOM, "", 0, KEPT);
     check("the last layout, no tape", ion_write(UINT32_MAX, NULL, 0, out, ROOM), ION_NO_LAYOUT, ROOM, "", 0, KEPT);
     check("broken node", ion_write(ION_LINES, BYTES(BROKEN), out, ROOM), ION_BAD_NODE, ROOM, "", 0, KEPT);
@@ -89,6 +92,7 @@ static void lengths(void) {
     check("length: Compact", ion_length(ION_COMPACT, BYTES(LIST)), 9, 0, "", 0, KEPT);
     check("length: Lines", ion_length(ION_LINES, BYTES(LIST)), 9, 0, "", 0, KEPT);
     check("length: Pretty", ion_length(ION_PRETTY, BYTES(LIST)), 12, 0, "", 0, KEPT);
+    check("length: a control character", ion_length(ION_LINES, BYTES(CONTROL)), 7, 0, "", 0, KEPT);
     check("length: layout 3, no tape", ion_length(3, NULL, 0), ION_NO_LAYOUT, 0, "", 0, KEPT);
     check("length: broken node", ion_length(ION_LINES, BYTES(BROKEN)), ION_BAD_NODE, 0, "", 0, KEPT);
     check("length: wrong count", ion_length(ION_LINES, BYTES(MISCOUNTED)), ION_BAD_NODE, 0, "", 0, KEPT);
@@ -270,6 +274,8 @@ static void readers(void) {
     check("read, room to spare", ion_read(BYTES("[true]"), out, ROOM), 15, ROOM, LIST, 15, KEPT);
     check("read, exactly full", ion_read(BYTES("[true]"), out, 15), 15, 15, LIST, 15, KEPT);
     check("read, one byte short", ion_read(BYTES("[true]"), out, 14), ION_TAPE_TOO_LONG, 14, "", 0, 0);
+    check("read, a control character escaped", ion_read(BYTES("\"\\x01\""), out, ROOM), 14, ROOM, CONTROL, 14, KEPT);
+    check("read, a control character raw", ion_read(BYTES("\"\1\""), out, ROOM), 14, ROOM, CONTROL, 14, KEPT);
     check("read, an open list", ion_read(BYTES("[true"), out, ROOM), ION_OUTSIDE_GRAMMAR, ROOM, "", 0, 0);
     check("read, 8 before 9", ion_read(BYTES("[true"), NULL, 0), ION_OUTSIDE_GRAMMAR, 0, "", 0, KEPT);
 }

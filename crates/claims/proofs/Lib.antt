@@ -1,4 +1,5 @@
 pub mod FirstBytes
+pub mod Former
 pub mod NumbersApart
 pub mod ScalarBack
 pub mod NoteBack

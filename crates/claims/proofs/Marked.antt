@@ -8,7 +8,7 @@ use Rattle.output.specs.Logic.{ascii}
 use Rattle.text_rules.specs.Texts.{starts, strip, same}
 use Rattle.text_rules.specs.Digits.{pad, count, digits, isDigit, run, behindDigits}
 use Rattle.text_rules.specs.Words.{isStart, isPart, behindWord, allDigits, isKeyword, resemblesSymbolId, version, resemblesVersionMarker, isIdentifier}
-use Rattle.text_rules.specs.Escapes.{textBody, textEscape, hasLetter, letterOf}
+use Rattle.text_rules.specs.Escapes.{textBody, textEscape, hasLetter, hasHex, letterOf}
 use Rattle.text_rules.specs.Text.{symbolText}
 use Rattle.numbers.specs.Decimal.{intText, pointed, scientific, above, below, form, sign, decimalText}
 use Rattle.numbers.specs.Timestamp.{hourAndMinute, offsetText}
@@ -45,7 +45,7 @@ unfolding noted
 list-writes = subst (λ (t : List ℕ). WritesText (streamText 0 list) (streamed 0 t) (leaves 0 t)) list-tape (tree-written 0 list (omega arith) list-fine refl (rw list-tape (omega arith)))
 
 pub marked : Marked
-unfolding symbolText textBody textEscape hasLetter letterOf isKeyword resemblesSymbolId resemblesVersionMarker version isIdentifier allDigits isStart isPart behindWord isDigit run behindDigits starts strip same pad count digits intText pointed scientific above below form sign decimalText hourAndMinute offsetText scalarText nameText opening closing separator broken deeper text texts streamText
+unfolding symbolText textBody textEscape hasLetter hasHex letterOf isKeyword resemblesSymbolId resemblesVersionMarker version isIdentifier allDigits isStart isPart behindWord isDigit run behindDigits starts strip same pad count digits intText pointed scientific above below form sign decimalText hourAndMinute offsetText scalarText nameText opening closing separator broken deeper text texts streamText
 marked = record {
   empty-symbol = refl;
   keyword = refl;

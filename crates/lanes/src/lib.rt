@@ -66,17 +66,24 @@ pub fn is_identifier_word(x: u64, n: usize) -> bool
     (!m | x) & high_bits(n) == 0
 }
 
-// The n lowest bytes are hex 20 at least, and no quote mark or backslash.
-pub fn is_raw_word(x: u64, n: usize) -> bool
-    requires { ⌜ (1 ≤ n) × (n ≤ 8) ⌝ }
-    ensures { λ r. ⌜ r ≡ every (unmarkedBy noRaw) (leBytes n x) ⌝ }
+// Marks of the bytes that are below hex 20, a quote mark or a backslash.
+pub fn not_raw(x: u64) -> u64
+    ensures { λ r. ⌜ Lane noRaw x r ⌝ }
 {
     let z = x & 0x7F7F7F7F7F7F7F7F;
     let r = (z + 0x6060606060606060)
         & ((z ^ 0x2222222222222222) + 0x7F7F7F7F7F7F7F7F)
         & ((z ^ 0x2727272727272727) + 0x7F7F7F7F7F7F7F7F)
         & ((z ^ 0x5C5C5C5C5C5C5C5C) + 0x7F7F7F7F7F7F7F7F);
-    !(r | x) & high_bits(n) == 0
+    !(r | x)
+}
+
+// The n lowest bytes are hex 20 at least, and no quote mark or backslash.
+pub fn is_raw_word(x: u64, n: usize) -> bool
+    requires { ⌜ (1 ≤ n) × (n ≤ 8) ⌝ }
+    ensures { λ r. ⌜ r ≡ every (unmarkedBy noRaw) (leBytes n x) ⌝ }
+{
+    not_raw(x) & high_bits(n) == 0
 }
 
 // The seven low bits of the lowest byte are a letter or `_`.

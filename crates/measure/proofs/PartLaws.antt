@@ -45,7 +45,7 @@ use Rattle.measure.proofs.TextSums.{length-3}
 -- ---- symbols
 
 -- of n bytes, which a u32 counts
-pub text-most : (n : ℕ) (s : List ℕ) → n < 4294967296 → length (symbolText (take n s)) ≤ 8589934592
+pub text-most : (n : ℕ) (s : List ℕ) → n < 4294967296 → length (symbolText (take n s)) ≤ 17179869184
 text-most n s h = omega (arith, symbol-most (take n s), length-take n s)
 
 -- ---- names
@@ -105,10 +105,10 @@ module _ (s : List ℕ) (at e : ℕ) (w : at ≤ e) (i : e ≤ length s) (size :
       (omega arith, omega arith)
 
   -- at most so long, on a tape of at most so many bytes
-  pub sym-length-most : e ≤ 1048576 → symLength (part s at e) + 2 ≤ 4000000
+  pub sym-length-most : e ≤ 1048576 → symLength (part s at e) + 2 ≤ 4200000
   sym-length-most g = go (decLe 7 (getD s at 0))
     where
-      go : Dec (7 ≤ getD s at 0) → symLength (part s at e) + 2 ≤ 4000000
+      go : Dec (7 ≤ getD s at 0) → symLength (part s at e) + 2 ≤ 4200000
       go (yes k) = let t = sym-id-length (leNumber 4 (drop (at + 1) s)) refl k .1 in let m = id-most (leNumber 4 (drop (at + 1) s)) in omega arith
       go (no k) =
           let t = sym-text-length (omega arith) .1 in

@@ -1,6 +1,6 @@
 -- The lengths of symbols, by their bytes in words. Assumes nothing.
 use mathlib.Core.Path.{_≡_, refl, sym, ap, ap₂, _∙_}
-use mathlib.Core.Bool.{Bool, true, false, _&&_, _||_, not}
+use mathlib.Core.Bool.{Bool, true, false, _&&_, not}
 use mathlib.Core.List.{List, [], _∷_, _++_}
 use Prim.Native.Nat.{ℕ, zero, suc, _+_, _-_, _%_, _≤_, _<_}
 use native.Mathlib.Decide.{decLe}
@@ -17,15 +17,14 @@ use Rattle.lanes.specs.Lanes.{every, unmarkedBy, letterMark, noPart}
 use Rattle.lanes.proofs.Table.{same as agree}
 use Rattle.text_rules.specs.Digits.{isDigit}
 use Rattle.text_rules.specs.Texts.{empty}
-use Rattle.text_rules.specs.Escapes.{hasLetter, textEscape, textBody}
+use Rattle.text_rules.specs.Escapes.{hasLetter, hasHex, textEscape, textBody}
 use Rattle.text_rules.specs.Words.{isStart, isPart, behindWord, isKeyword, resemblesSymbolId, resemblesVersionMarker, isIdentifier}
 use Rattle.text_rules.specs.WordSteps.{isBare, allPart}
 use Rattle.text_rules.specs.Text.{symbolText}
 use Rattle.text_rules.proofs.LaneTests.{part-word, word-part, other-marked, keyword-marked}
 use Rattle.text_rules.proofs.SymbolsText.{symbol-bare, symbol-marked}
 use Rattle.text_rules.proofs.WordsLaws.{same-long, part-small, no-keyword, starts-other, id-none, marker-none, identifier-other}
-use Rattle.measure.specs.MarkSteps.{escapeMark, markedCount}
-use Rattle.measure.proofs.EscapeLengths.{escaped-length, body-length-append, marked-length}
+use Rattle.measure.proofs.EscapeLengths.{body-length-append, marked-length}
 
 -- ---- bytes of identifiers
 
@@ -47,19 +46,19 @@ part-append (c ∷ s) t =
     part-cons c (s ++ t) ∙ ap (λ (b : Bool). isPart c && b) (part-append s t) ∙ and-assoc (isPart c) (allPart s) (allPart t) ∙ ap (λ (b : Bool). b && allPart t) (sym (part-cons c s))
 
 -- none of them is escaped
-part-test : (b : ℕ) → b < 256 → isPart b && (hasLetter b || eqb b (byte "'")) ≡ false
-unfolding isPart isStart isDigit hasLetter
-part-test = agree (λ b. isPart b && (hasLetter b || eqb b (byte "'"))) (λ b. false) 256 refl
+part-test : (b : ℕ) → b < 256 → if (isPart b) (textEscape b) (b ∷ []) ≡ b ∷ []
+unfolding isPart isStart isDigit textEscape hasHex hasLetter
+part-test = agree (λ b. if (isPart b) (textEscape b) (b ∷ [])) (λ b. b ∷ []) 256 refl
 
-part-escape : (b : ℕ) → isPart b ≡ true → hasLetter b || eqb b (byte "'") ≡ false
+part-escape : (b : ℕ) → isPart b ≡ true → textEscape b ≡ b ∷ []
 part-escape b h = go (decLe b 255)
   where
-    go : Dec (b ≤ 255) → hasLetter b || eqb b (byte "'") ≡ false
-    go (yes l) = ap (λ (p : Bool). p && (hasLetter b || eqb b (byte "'"))) (sym h) ∙ part-test b (omega arith)
+    go : Dec (b ≤ 255) → textEscape b ≡ b ∷ []
+    go (yes l) = ap (λ (p : Bool). if p (textEscape b) (b ∷ [])) (sym h) ∙ part-test b (omega arith)
     go (no l) = never (sym h ∙ sym (part-small b (omega arith)) ∙ lt-leb b 122 (omega arith))
 
 part-raw : (s : List ℕ) → allPart s ≡ true → textBody s ≡ s
-unfolding textBody textEscape
+unfolding textBody
 part-raw [] h = refl
 part-raw (c ∷ s) h =
     let p = both (isPart c) (allPart s) (sym (part-cons c s) ∙ h) in
@@ -147,8 +146,8 @@ module _ (n x : ℕ) where
     pub number-length : not (unmarkedBy letterMark (x % 256)) ≡ false → n + 2 ≡ length (symbolText (leBytes n x))
     number-length m = omega (arith, digit-length (leBytes n x) x (omega (arith, length-le n x)) (first-byte n x l) d word-parts m, length-le n x)
 
-  pub other-length : every (unmarkedBy noPart) (leBytes n x) ≡ false → n + 2 + markedCount escapeMark (leBytes n x) ≡ length (symbolText (leBytes n x))
-  other-length p = omega (arith, quoted-length (leBytes n x) (other-marked (leBytes n x) (sym (part-word n x) ∙ p)), escaped-length n x)
+  pub other-length : every (unmarkedBy noPart) (leBytes n x) ≡ false → length (symbolText (leBytes n x)) ≡ length (textBody (leBytes n x)) + 2
+  other-length p = quoted-length (leBytes n x) (other-marked (leBytes n x) (sym (part-word n x) ∙ p))
 
 -- ---- two words, the second behind eight bytes of the first
 
@@ -187,8 +186,8 @@ module _ (n x y : ℕ) (l : 9 ≤ n) (h : n ≤ 16) where
     words-number m = omega (arith, digit-length both-words x (omega (arith, words-length)) (unfold leBytes in refl) d words-parts m, words-length)
 
   pub words-other : every (unmarkedBy noPart) (leBytes 8 x) && every (unmarkedBy noPart) (leBytes (n - 8) y) ≡ false
-      → n + 2 + markedCount escapeMark (leBytes 8 x) + markedCount escapeMark (leBytes (n - 8) y) ≡ length (symbolText both-words)
-  words-other p = omega (arith, quoted-length both-words (other-marked both-words (words-part ∙ p)), body-length-append (leBytes 8 x) (leBytes (n - 8) y), escaped-length 8 x, escaped-length (n - 8) y)
+      → length (symbolText both-words) ≡ length (textBody (leBytes 8 x)) + length (textBody (leBytes (n - 8) y)) + 2
+  words-other p = omega (arith, quoted-length both-words (other-marked both-words (words-part ∙ p)), body-length-append (leBytes 8 x) (leBytes (n - 8) y))
 
 -- ---- many words
 

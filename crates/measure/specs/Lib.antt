@@ -1,4 +1,3 @@
-pub mod MarkSteps
 pub mod Sums
 pub mod Steps
 pub mod Outcome

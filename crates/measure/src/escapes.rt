@@ -1,12 +1,12 @@
 // The length of the body of quoted text and strings.
-ghost use Prim.Native.Nat.{_+_, _≤_, min};
+ghost use Prim.Native.Nat.{_+_, _<_, _≤_, _^_, min};
 ghost use mathlib.Core.Path.{_≡_};
 ghost use mathlib.Core.Bool.{true};
 ghost use mathlib.Core.List.{[], _∷_};
 ghost use lib.ListN.{length, take, drop};
 ghost use Rattle.text_rules.specs.Escapes.{textEscape, textBody};
 
-// 0 only for a byte that is raw in text. It says 1 of every byte below hex 20, which keeps the test short.
+// 0 only for a byte that is raw in text: hex 20 at least, no quote mark and no backslash.
 fn suspect(b: u8) -> u8
     ensures { λ r. ⌜ (r ≡ 0 → textEscape b ≡ b ∷ []) ⌝ }
 {
@@ -49,12 +49,13 @@ fn at_most_8(n: usize) -> usize
 // By how many bytes the body is longer than the n first bytes of s, word by word.
 fn escapes_of(s: &[u8], n: usize) -> usize
     requires { ⌜ n + 8 ≤ length (now s) ⌝ }
+    requires { ⌜ n < 2 ^ 32 ⌝ }
     ensures { λ r. ⌜ n + r ≡ length (textBody (take n (now (s .entry)))) ⌝ }
 {
     let mut c: usize = 0;
     let mut i: usize = 0;
     while i < n {
-        c = c + crate::marks::escaped_count(output::word_at(s, i), at_most_8(n - i));
+        c = c + crate::marks::escapes_add(output::word_at(s, i), at_most_8(n - i));
         i += 8;
     }
     c
@@ -97,6 +98,7 @@ fn is_raw(s: &[u8], n: usize) -> bool
 // The length of the body of the n first bytes of s, behind which eight bytes stand. Most text has no escapes, which is asked first.
 fn first_body_length(s: &[u8], n: usize) -> usize
     requires { ⌜ n + 8 ≤ length (now s) ⌝ }
+    requires { ⌜ n < 2 ^ 32 ⌝ }
     ensures { λ r. ⌜ r ≡ length (textBody (take n (now (s .entry)))) ⌝ }
 {
     if is_raw(s, n) {
@@ -108,6 +110,7 @@ fn first_body_length(s: &[u8], n: usize) -> usize
 // The same from a place on, at which s is only cut (`text_formatter::symbol_length_at` says why).
 pub fn escaped_text_body_length(s: &[u8], from: usize, n: usize) -> usize
     requires { ⌜ from + n + 8 ≤ length (now s) ⌝ }
+    requires { ⌜ n < 2 ^ 32 ⌝ }
     ensures { λ r. ⌜ r ≡ length (textBody (take n (drop from (now (s .entry))))) ⌝ }
 {
     let to = from + n + 8;

@@ -3,7 +3,7 @@ ghost use mathlib.Core.Path.{_≡_};
 ghost use mathlib.Core.Bool.{true, false};
 ghost use mathlib.Core.List.{[]};
 ghost use mathlib.Core.Option.{some};
-ghost use Prim.Native.Nat.{_+_, _<_, _≤_};
+ghost use Prim.Native.Nat.{_+_, _<_, _≤_, _^_};
 ghost use lib.ListN.{length, getD, take, drop};
 ghost use Rattle.text_rules.specs.Text.{symbolText};
 ghost use Rattle.tape.specs.Bytes.{part};
@@ -65,6 +65,7 @@ fn words_length(tape: &[u8], from: usize, n: usize) -> usize
 // The length of the symbol that is the n bytes of the tape from a place on.
 fn symbol_length(tape: &[u8], from: usize, n: usize) -> usize
     requires { ⌜ from + n + 8 ≤ length (now tape) ⌝ }
+    requires { ⌜ n < 2 ^ 32 ⌝ }
     ensures { λ r. ⌜ r ≡ length (symbolText (take n (drop from (now (tape .entry))))) ⌝ }
 {
     if n <= 16 {
@@ -134,6 +135,7 @@ fn no_notes() -> Notes
 fn sym_length(tape: &[u8], at: usize, end: usize, size: usize) -> usize
     requires { ⌜ at ≤ end ⌝ }
     requires { ⌜ end + 8 ≤ length (now tape) ⌝ }
+    requires { ⌜ length (now tape) ≤ 1048576 ⌝ }
     requires { ⌜ (size ≡ codeOf symFault (symOf (part (now tape) at end))) × (1 ≤ size) ⌝ }
     ensures { λ r. ⌜ r ≡ symLength (part (now (tape .entry)) at end) ⌝ }
 {

@@ -1,5 +1,5 @@
 // The lengths of what `text_rules::text_formatter` writes: nulls, bools, floats, identifiers, strings, symbols.
-ghost use Prim.Native.Nat.{_+_, _-_, _<_, _≤_};
+ghost use Prim.Native.Nat.{_+_, _-_, _<_, _≤_, _^_};
 ghost use mathlib.Core.Path.{_≡_};
 ghost use mathlib.Core.Bool.{true};
 ghost use mathlib.Core.List.{_++_};
@@ -73,6 +73,7 @@ pub fn symbol_id_length(n: u32) -> usize
 // A string that is the n bytes of s from a place on, behind which eight bytes stand.
 pub fn string_length_at(s: &[u8], from: usize, n: usize) -> usize
     requires { ⌜ from + n + 8 ≤ length (now s) ⌝ }
+    requires { ⌜ n < 2 ^ 32 ⌝ }
     ensures { λ r. ⌜ r ≡ length (stringText (take n (drop from (now (s .entry))))) ⌝ }
 {
     crate::escapes::escaped_text_body_length(s, from, n) + 2
@@ -97,7 +98,7 @@ pub fn short_symbol_length(x: u64, n: usize) -> usize
         }
         return n + 2;
     }
-    n + 2 + crate::marks::escaped_count(x, n)
+    n + 2 + crate::marks::escapes_add(x, n)
 }
 
 // Of the eight bytes of x and the n - 8 lowest of y, sixteen at most; 0 where that is not told, as they start with `$`.
@@ -116,7 +117,7 @@ pub fn long_symbol_length(x: u64, y: u64, n: usize) -> usize
             return n + 2;
         }
     }
-    n + 2 + crate::marks::escaped_count(x, 8) + crate::marks::escaped_count(y, n - 8)
+    n + 2 + crate::marks::escapes_add(x, 8) + crate::marks::escapes_add(y, n - 8)
 }
 
 // The n first bytes of s are letters, digits, `_` and `$`.
@@ -155,6 +156,7 @@ fn stands_bare(text: &[u8]) -> bool
 // A symbol that is the n first bytes of s, behind which eight bytes stand.
 fn first_symbol_length(s: &[u8], n: usize) -> usize
     requires { ⌜ n + 8 ≤ length (now s) ⌝ }
+    requires { ⌜ n < 2 ^ 32 ⌝ }
     ensures { λ r. ⌜ r ≡ length (symbolText (take n (now (s .entry)))) ⌝ }
 {
     if n == 0 {
@@ -175,6 +177,7 @@ fn first_symbol_length(s: &[u8], n: usize) -> usize
 // The same from a place on. It does nothing but cut: then the compiler hands on where s starts, and not s, which would go through memory.
 pub fn symbol_length_at(s: &[u8], from: usize, n: usize) -> usize
     requires { ⌜ from + n + 8 ≤ length (now s) ⌝ }
+    requires { ⌜ n < 2 ^ 32 ⌝ }
     ensures { λ r. ⌜ r ≡ length (symbolText (take n (drop from (now (s .entry))))) ⌝ }
 {
     let to = from + n + 8;

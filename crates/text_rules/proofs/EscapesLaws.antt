@@ -2,24 +2,50 @@
 use mathlib.Core.Path.{_≡_, refl, sym, ap, ap₂, _∙_}
 use mathlib.Core.Bool.{Bool, true, false, _||_}
 use mathlib.Core.List.{List, [], _∷_, _++_, append-assoc}
-use Prim.Native.Nat.{ℕ, zero, suc, _+_, _-_, _≤_, _<_}
+use Prim.Native.Nat.{ℕ, zero, suc, _+_, _-_, _*_, _≤_, _<_}
 use native.Mathlib.Omega.{arith}
 use lib.Dec.{eqb}
-use lib.ListN.{length, getD, take, drop, take-append-drop, length-drop}
+use lib.ListN.{length, getD, take, drop, take-append-drop, length-append, length-drop}
 use lib.Seq.{drop-drop, take-all}
 use Rattle.output.specs.Logic.{if, byte}
-use Rattle.text_rules.specs.Escapes.{letterOf, hasLetter, textEscape, textBody}
+use Rattle.text_rules.specs.Escapes.{letterOf, hasLetter, hexEscape, hasHex, textEscape, textBody}
 pub use Rattle.text_rules.proofs.Places.{byte-at}
 
 -- ---- text
 
-pub escape-short : (b : ℕ) → length (textEscape b) ≤ 2
+-- a byte takes one byte to four
+pub escape-short : (b : ℕ) → length (textEscape b) ≤ 4
 unfolding textEscape
-escape-short b = go (hasLetter b || eqb b (byte "'"))
+escape-short b = go (hasLetter b || eqb b (byte "'")) (hasHex b)
+  where
+    go : (e h : Bool) → length (if e (byte "\\" ∷ letterOf b ∷ []) (if h (hexEscape b) (b ∷ []))) ≤ 4
+    go true h = omega arith
+    go false true = omega arith
+    go false false = omega arith
+
+pub escape-some : (b : ℕ) → 1 ≤ length (textEscape b)
+unfolding textEscape
+escape-some b = go (hasLetter b || eqb b (byte "'")) (hasHex b)
+  where
+    go : (e h : Bool) → 1 ≤ length (if e (byte "\\" ∷ letterOf b ∷ []) (if h (hexEscape b) (b ∷ [])))
+    go true h = omega arith
+    go false true = omega arith
+    go false false = omega arith
+
+-- only hex digits take more than two
+pub escape-two : (b : ℕ) → hasHex b ≡ false → length (textEscape b) ≤ 2
+unfolding textEscape
+escape-two b n = rw n (go (hasLetter b || eqb b (byte "'")))
   where
     go : (e : Bool) → length (if e (byte "\\" ∷ letterOf b ∷ []) (b ∷ [])) ≤ 2
     go true = omega arith
     go false = omega arith
+
+-- at most four times as long as the text
+pub text-body-most : (s : List ℕ) → length (textBody s) ≤ 4 * length s
+unfolding textBody
+text-body-most [] = omega arith
+text-body-most (c ∷ s) = omega (arith, escape-short c, text-body-most s, length-append (textEscape c) (textBody s))
 
 pub body-step : (s : List ℕ) (i : ℕ) → i < length s → textBody (drop i s) ≡ textEscape (getD s i 0) ++ textBody (drop (i + 1) s)
 unfolding textBody
@@ -44,21 +70,18 @@ body-part s i k e g =
 
 -- an escape makes a text longer, so every part of a text that needs none needs none
 body-longer : (s : List ℕ) → length s ≤ length (textBody s)
-unfolding textBody textEscape
+unfolding textBody
 body-longer [] = omega arith
-body-longer (c ∷ s) = go (hasLetter c || eqb c (byte "'")) (body-longer s)
-  where
-    go : (b : Bool) → length s ≤ length (textBody s) → suc (length s) ≤ length (if b (byte "\\" ∷ letterOf c ∷ []) (c ∷ []) ++ textBody s)
-    go true h = omega arith
-    go false h = omega arith
+body-longer (c ∷ s) = omega (arith, escape-some c, body-longer s, length-append (textEscape c) (textBody s))
 
 body-tail : (c : ℕ) (s : List ℕ) → textBody (c ∷ s) ≡ c ∷ s → textBody s ≡ s
 unfolding textBody textEscape
-body-tail c s = go (hasLetter c || eqb c (byte "'"))
+body-tail c s = go (hasLetter c || eqb c (byte "'")) (hasHex c)
   where
-    go : (b : Bool) → if b (byte "\\" ∷ letterOf c ∷ []) (c ∷ []) ++ textBody s ≡ c ∷ s → textBody s ≡ s
-    go true e = absurd (omega (arith, ap length e, body-longer s))
-    go false e = ap (drop 1) e
+    go : (b h : Bool) → if b (byte "\\" ∷ letterOf c ∷ []) (if h (hexEscape c) (c ∷ [])) ++ textBody s ≡ c ∷ s → textBody s ≡ s
+    go true h e = absurd (omega (arith, ap length e, body-longer s))
+    go false true e = absurd (omega (arith, ap length e, body-longer s))
+    go false false e = ap (drop 1) e
 
 pub body-drop : (k : ℕ) (s : List ℕ) → textBody s ≡ s → textBody (drop k s) ≡ drop k s
 body-drop zero s e = e

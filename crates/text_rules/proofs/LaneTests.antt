@@ -21,7 +21,7 @@ use Rattle.lanes.specs.Lanes.{every, unmarkedBy, letterMark, noLetter, noPart, 
 use Rattle.lanes.proofs.LaneLaws.{two-digits, every-same}
 use Rattle.text_rules.specs.Texts.{empty, starts, strip, same}
 use Rattle.text_rules.specs.Digits.{isDigit}
-use Rattle.text_rules.specs.Escapes.{hasLetter, textEscape, textBody}
+use Rattle.text_rules.specs.Escapes.{hasLetter, hasHex, textEscape, textBody}
 use Rattle.text_rules.specs.Words.{isStart, isPart, behindWord, isKeyword, resemblesSymbolId, resemblesVersionMarker, isIdentifier}
 use Rattle.text_rules.specs.WordSteps.{isLetterOrUnderscore, isBare, allPart}
 use Rattle.text_rules.specs.Text.{symbolText}
@@ -33,10 +33,10 @@ use Rattle.text_rules.proofs.DigitLaws.{never, both}
 -- ---- bytes that text has raw
 
 abbrev isRaw : ℕ → Bool
-isRaw b = leb 0x20 b && not (hasLetter b || eqb b (byte "'"))
+isRaw b = not (hasHex b) && not (hasLetter b || eqb b (byte "'"))
 
 raw-test : (b : ℕ) → b < 256 → unmarkedBy noRaw b ≡ isRaw b
-unfolding unmarkedBy hasLetter
+unfolding unmarkedBy hasLetter hasHex
 raw-test = agree (unmarkedBy noRaw) isRaw 256 refl
 
 raw-body : (s : List ℕ) → every isRaw s ≡ true → textBody s ≡ s
@@ -44,8 +44,8 @@ unfolding textBody textEscape every
 raw-body [] h = refl
 raw-body (b ∷ s) h =
     let p = both (isRaw b) (every isRaw s) h in
-    let q = both (leb 0x20 b) (not (hasLetter b || eqb b (byte "'"))) (p .0) in
-    rw (not-true (hasLetter b || eqb b (byte "'")) (q .1), raw-body s (p .1))
+    let q = both (not (hasHex b)) (not (hasLetter b || eqb b (byte "'"))) (p .0) in
+    rw (not-true (hasHex b) (q .0), not-true (hasLetter b || eqb b (byte "'")) (q .1), raw-body s (p .1))
 
 pub raw-word : (n x : ℕ) → every (unmarkedBy noRaw) (leBytes n x) ≡ true → textBody (leBytes n x) ≡ leBytes n x
 raw-word n x h = raw-body (leBytes n x) (sym (every-same (unmarkedBy noRaw) isRaw raw-test n x) ∙ h)
@@ -154,7 +154,7 @@ word-part s i n x h e = sym (take-le n 8 x h) ∙ ap (take n) e ∙ take-take n 
 
 -- no byte of a keyword needs an escape
 pub keyword-raw : (s : List ℕ) → isKeyword s ≡ true → textBody s ≡ s
-unfolding isKeyword textBody textEscape hasLetter
+unfolding isKeyword textBody textEscape hasLetter hasHex
 keyword-raw s h = go (same (ascii "true") s) refl (same (ascii "false") s) refl (same (ascii "nan") s) refl (same (ascii "null") s) refl h
   where
     go : (a : Bool) → same (ascii "true") s ≡ a → (b : Bool) → same (ascii "false") s ≡ b → (c : Bool) → same (ascii "nan") s ≡ c → (d : Bool) → same (ascii "null") s ≡ d → a || b || c || d ≡ true → textBody s ≡ s

@@ -36,10 +36,21 @@ pub record EscapeTable (t : List ℕ) : Type 0 where
 unfoldable pub hexDigit : ℕ → ℕ
 hexDigit d = if (ltb d 10) (byte "0" + d) (byte "a" + (d - 10))
 
--- ---- text: quoted text and strings escape NUL, 7 to 13, backslash and both quote marks; other characters go raw
+-- `\x` with two lower-case hex digits
+abbrev pub hexEscape : ℕ → List ℕ
+hexEscape c = byte "\\" ∷ byte "x" ∷ hexDigit (c / 16) ∷ hexDigit (c % 16) ∷ []
+
+-- ---- text: quoted text and strings escape NUL, 7 to 13, backslash and both quote marks by a letter, the other control characters below U+0020 by
+-- hex digits (02, A5); other characters go raw
+
+-- U+0001 to U+0006 and U+000E to U+001F: escaped by hex digits in text
+unfoldable pub hasHex : ℕ → Bool
+hasHex c = leb 1 c && leb c 6 || leb 0x0E c && leb c 0x1F
 
 unfoldable pub textEscape : ℕ → List ℕ
-textEscape c = if (hasLetter c || eqb c (byte "'")) (byte "\\" ∷ letterOf c ∷ []) (c ∷ [])
+textEscape c =
+    if (hasLetter c || eqb c (byte "'")) (byte "\\" ∷ letterOf c ∷ [])
+    (if (hasHex c) (hexEscape c) (c ∷ []))
 
 unfoldable pub textBody : List ℕ → List ℕ
 textBody [] = []
@@ -50,7 +61,7 @@ textBody (c ∷ s) = textEscape c ++ textBody s
 unfoldable pub clobEscape : ℕ → List ℕ
 clobEscape c =
     if (hasLetter c) (byte "\\" ∷ letterOf c ∷ [])
-    (if (leb 0x20 c && leb c 0x7E) (c ∷ []) (byte "\\" ∷ byte "x" ∷ hexDigit (c / 16) ∷ hexDigit (c % 16) ∷ []))
+    (if (leb 0x20 c && leb c 0x7E) (c ∷ []) (hexEscape c))
 
 unfoldable pub clobBody : List ℕ → List ℕ
 clobBody [] = []

@@ -1,31 +1,10 @@
 // Clobs, written: `{{"`, bytes, `"}}`.
 ghost use mathlib.Core.Path.{_≡_};
 ghost use mathlib.Core.List.{[], _∷_};
-ghost use Prim.Native.Nat.{_<_, _≤_, _/_, _%_};
-ghost use Rattle.output.specs.Logic.{byte};
+ghost use Prim.Native.Nat.{_≤_};
 ghost use Rattle.output.specs.Wrote.{Wrote, limit};
-ghost use Rattle.text_rules.specs.Escapes.{escapeKind, EscapeTable, hexDigit, clobEscape, clobBody};
+ghost use Rattle.text_rules.specs.Escapes.{escapeKind, EscapeTable, clobEscape, clobBody};
 ghost use Rattle.text_rules.specs.Text.{clobText};
-
-// A lower-case hex digit.
-fn hex_digit(d: u8) -> u64
-    requires { ⌜ d < 16 ⌝ }
-    ensures { λ r. ⌜ (r ≡ hexDigit d) × (r < 256) ⌝ }
-{
-    if d < 10 {
-        return (b'0' + d) as u64;
-    }
-    (b'a' + (d - 10)) as u64
-}
-
-// `\x` and two hex digits, as the bytes of a word.
-fn put_hex(buf: &mut [u8], pos: usize, b: u8) -> usize
-    requires { ⌜ pos ≤ limit ⌝ }
-    ensures { λ r. ⌜ Wrote (now (buf .entry)) (now (buf .exit)) pos r (byte "\\" ∷ byte "x" ∷ hexDigit (b / 16) ∷ hexDigit (b % 16) ∷ []) ⌝ }
-{
-    let w = 0x785C + 65536 * hex_digit(b / 16) + 16777216 * hex_digit(b % 16);
-    output::put_le(buf, pos, w, 4)
-}
 
 // One byte of a clob, whose kind is at hand.
 fn put_clob_byte(buf: &mut [u8], pos: usize, b: u8, kind: u8) -> usize
@@ -36,7 +15,7 @@ fn put_clob_byte(buf: &mut [u8], pos: usize, b: u8, kind: u8) -> usize
         return crate::escapes::put_letter(buf, pos, b);
     }
     if kind == 2 {
-        return put_hex(buf, pos, b);
+        return crate::escapes::put_hex(buf, pos, b);
     }
     output::put(buf, pos, b)
 }

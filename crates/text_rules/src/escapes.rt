@@ -4,10 +4,10 @@ ghost use mathlib.Core.Bool.{true, _||_};
 ghost use mathlib.Core.List.{[], _∷_};
 ghost use lib.Dec.{eqb};
 ghost use lib.ListN.{length, drop};
-ghost use Prim.Native.Nat.{_+_, _*_, _≤_};
+ghost use Prim.Native.Nat.{_+_, _*_, _<_, _≤_};
 ghost use Rattle.output.specs.Logic.{byte};
 ghost use Rattle.output.specs.Wrote.{Wrote, limit};
-ghost use Rattle.text_rules.specs.Escapes.{letterOf, hasLetter, EscapeTable, textEscape, textBody};
+ghost use Rattle.text_rules.specs.Escapes.{letterOf, hasLetter, EscapeTable, hexDigit, hexEscape, hasHex, textEscape, textBody};
 
 // The kind of each byte in a clob: 0 raw, 1 a short letter, 2 `\x` with two hex digits. It is lent to the loop, since a constant table that is
 // indexed is built anew at each use.
@@ -303,8 +303,41 @@ pub fn put_letter(buf: &mut [u8], pos: usize, b: u8) -> usize
     output::put(buf, p, letter_of(b))
 }
 
-// Whether a byte of text is escaped. These few tests take less time than a table that is built anew for each text.
-fn is_escaped(b: u8) -> bool
+// A lower-case hex digit.
+fn hex_digit(d: u8) -> u64
+    requires { ⌜ d < 16 ⌝ }
+    ensures { λ r. ⌜ (r ≡ hexDigit d) × (r < 256) ⌝ }
+{
+    if d < 10 {
+        return (b'0' + d) as u64;
+    }
+    (b'a' + (d - 10)) as u64
+}
+
+// `\x` and two hex digits, as the bytes of a word.
+pub fn put_hex(buf: &mut [u8], pos: usize, b: u8) -> usize
+    requires { ⌜ pos ≤ limit ⌝ }
+    ensures { λ r. ⌜ Wrote (now (buf .entry)) (now (buf .exit)) pos r (hexEscape b) ⌝ }
+{
+    let w = 0x785C + 65536 * hex_digit(b / 16) + 16777216 * hex_digit(b % 16);
+    output::put_le(buf, pos, w, 4)
+}
+
+// Whether a byte of text is escaped by hex digits. These few tests, and those of the next, take less time than a table that is built anew for each text.
+fn takes_hex(b: u8) -> bool
+    ensures { λ r. ⌜ r ≡ hasHex b ⌝ }
+{
+    if 0x20 <= b {
+        return false;
+    }
+    if b <= 6 {
+        return 1 <= b;
+    }
+    0x0E <= b
+}
+
+// Whether a byte of text is escaped by a letter.
+fn takes_letter(b: u8) -> bool
     ensures { λ r. ⌜ r ≡ hasLetter b || eqb b (byte "'") ⌝ }
 {
     if 0x20 <= b {
@@ -330,8 +363,11 @@ fn put_text_byte(buf: &mut [u8], pos: usize, b: u8) -> usize
     requires { ⌜ pos ≤ limit ⌝ }
     ensures { λ r. ⌜ Wrote (now (buf .entry)) (now (buf .exit)) pos r (textEscape b) ⌝ }
 {
-    if is_escaped(b) {
+    if takes_letter(b) {
         return put_letter(buf, pos, b);
+    }
+    if takes_hex(b) {
+        return put_hex(buf, pos, b);
     }
     output::put(buf, pos, b)
 }
@@ -350,23 +386,26 @@ fn put_text_clipped(buf: &mut [u8], pos: usize, s: &[u8]) -> usize
     p
 }
 
-// One byte of text, where there is room for two.
+// One byte of text, where there is room for it.
 fn store_text_byte(buf: &mut [u8], pos: usize, b: u8) -> usize
-    requires { ⌜ pos + 2 ≤ length (now buf) ⌝ }
+    requires { ⌜ pos + length (textEscape b) ≤ length (now buf) ⌝ }
     ensures { λ r. ⌜ Wrote (now (buf .entry)) (now (buf .exit)) pos r (textEscape b) ⌝ }
 {
-    if is_escaped(b) {
+    if takes_letter(b) {
         buf[pos] = b'\\';
         buf[pos + 1] = letter_of(b);
         return pos + 2;
+    }
+    if takes_hex(b) {
+        return put_hex(buf, pos, b);
     }
     buf[pos] = b;
     pos + 1
 }
 
-// The bytes of s one by one, where there is room for two of each: nothing is asked of the buffer.
+// The bytes of s one by one, where there is room for all: but for hex digits nothing is asked of the buffer.
 fn store_text(buf: &mut [u8], pos: usize, s: &[u8]) -> usize
-    requires { ⌜ pos + 2 * length (now s) ≤ length (now buf) ⌝ }
+    requires { ⌜ pos + length (textBody (now s)) ≤ length (now buf) ⌝ }
     ensures { λ r. ⌜ Wrote (now (buf .entry)) (now (buf .exit)) pos r (textBody (now (s .entry))) ⌝ }
 {
     let mut p = pos;
@@ -378,20 +417,59 @@ fn store_text(buf: &mut [u8], pos: usize, s: &[u8]) -> usize
     p
 }
 
-// The bytes of s one by one.
+// 0 only for a byte that hex digits do not escape.
+fn hex_suspect(b: u8) -> u8
+    ensures { λ r. ⌜ (r ≡ 0 → length (textEscape b) ≤ 2) ⌝ }
+{
+    if 0x20 <= b {
+        return 0;
+    }
+    if 13 < b {
+        return 1;
+    }
+    if 6 < b {
+        return 0;
+    }
+    if 0 < b {
+        return 1;
+    }
+    0
+}
+
+// 0 only where no byte is escaped by hex digits, so that none takes more than two bytes. There is no way out of the loop, so that the compiler makes it a
+// vector loop.
+fn any_hex(s: &[u8]) -> u8
+    ensures { λ r. ⌜ (r ≡ 0 → length (textBody (now (s .entry))) ≤ 2 * length (now (s .entry))) ⌝ }
+{
+    let mut n = 0;
+    let mut i = 0;
+    while i < s.len() {
+        n = n | hex_suspect(s[i]);
+        i += 1;
+    }
+    n
+}
+
+// The bytes of s one by one. Most rooms have four bytes for each; a room as long as the text, which the lengths are for, has two where letters escape.
 fn put_text_escaped(buf: &mut [u8], pos: usize, s: &[u8]) -> usize
     requires { ⌜ pos ≤ limit ⌝ }
     ensures { λ r. ⌜ Wrote (now (buf .entry)) (now (buf .exit)) pos r (textBody (now (s .entry))) ⌝ }
 {
     if pos <= buf.len() {
-        if s.len() <= (buf.len() - pos) / 2 {
+        let room = buf.len() - pos;
+        if s.len() <= room / 4 {
             return store_text(buf, pos, s);
+        }
+        if s.len() <= room / 2 {
+            if any_hex(s) == 0 {
+                return store_text(buf, pos, s);
+            }
         }
     }
     put_text_clipped(buf, pos, s)
 }
 
-// 0 only for a byte that is raw in text. It says 1 of every byte below hex 20, which keeps the test short.
+// 0 only for a byte that is raw in text: hex 20 at least, no quote mark and no backslash.
 fn suspect(b: u8) -> u8
     ensures { λ r. ⌜ (r ≡ 0 → textEscape b ≡ b ∷ []) ⌝ }
 {
@@ -438,7 +516,7 @@ fn raw_bytes(s: &[u8]) -> bool
     true
 }
 
-// No byte needs an escape: many at a time, then words of eight, and the last eight again. It may say no too often, never yes.
+// No byte needs an escape: many at a time, then words of eight, and the last eight again. Only a yes is promised.
 fn is_raw(s: &[u8]) -> bool
     ensures { λ r. ⌜ (r ≡ true → textBody (now (s .entry)) ≡ now (s .entry)) ⌝ }
 {
@@ -459,7 +537,8 @@ fn is_raw(s: &[u8]) -> bool
     lanes::is_raw_word(output::word_at(s, n - 8), 8)
 }
 
-// The body of quoted text and strings: NUL, 7 to 13, the backslash and both quote marks escaped, other characters raw.
+// The body of quoted text and strings: NUL, 7 to 13, the backslash and both quote marks escaped by a letter, the other control characters below hex 20
+// by hex digits, other characters raw.
 pub fn format_escaped_text_body(buf: &mut [u8], pos: usize, s: &[u8]) -> usize
     requires { ⌜ pos ≤ limit ⌝ }
     ensures { λ r. ⌜ Wrote (now (buf .entry)) (now (buf .exit)) pos r (textBody (now (s .entry))) ⌝ }

@@ -2,19 +2,20 @@
 -- Assumes nothing.
 use Prim.Native.Nat.{ℕ, zero, suc, _+_, _≤_, _<_}
 use mathlib.Core.Path.{_≡_, refl, sym, ap, subst, _∙_}
-use mathlib.Core.Bool.{Bool, true, false, _||_}
+use mathlib.Core.Bool.{Bool, true, false}
 use mathlib.Core.List.{List, [], _∷_, _++_, append-assoc}
 use mathlib.Core.Option.{none, some}
 use native.Mathlib.Omega.{arith}
-use lib.Dec.{eqb, ltb}
+use lib.Dec.{ltb}
 use lib.ListN.{length, take, drop, length-append}
 use borrow.Author.Tests.{eq-eqb, ne-eqb, le-leb, lt-leb, ltb-true, ltb-false, leb-true}
 use Rattle.output.specs.Logic.{if, byte}
 use Rattle.text_rules.specs.Texts.{starts}
-use Rattle.text_rules.specs.Utf8.{leadOf, isCont, ok2, ok3, ok4, charOf, charAt, after, valid}
-use Rattle.text_rules.specs.Escapes.{letterOf, hasLetter, textEscape, textBody, letter}
-use Rattle.tokens.specs.Quoted.{Mark, symbolMark, stringMark, quote, letterEscape, escape, isRaw, raw, character, quoted, string}
+use Rattle.text_rules.specs.Utf8.{leadOf, isCont, ok2, ok3, ok4, charOf, charAt, after, valid, isScalar, utf8}
+use Rattle.text_rules.specs.Escapes.{letterOf, hasLetter, hexDigit, hasHex, textEscape, textBody, letter, hexValue, hex}
+use Rattle.tokens.specs.Quoted.{Mark, symbolMark, stringMark, quote, scalarEscape, letterEscape, escape, isRaw, raw, character, quoted, string}
 use Rattle.text_rules.specs.Text.{stringText}
+use Rattle.text_rules.proofs.EscapesLaws.{escape-some}
 use Rattle.text_rules.proofs.Table.{same}
 use Rattle.text_rules.proofs.Utf8Chars.{and-left, and-second, and-third}
 use Rattle.text_rules.proofs.Utf8View.{Char, one, two, three, four, char-at, char-some, valid-char, view}
@@ -49,27 +50,19 @@ mark-low stringMark = omega arith
 -- ---- a character below hex 80: one test over all of them
 
 quote-ascii : {q : ℕ} → Mark q → (t : List ℕ) (c : ℕ) → c < 0x80 → quote q (textEscape c ++ t) ≡ none
-unfolding quote textEscape hasLetter letterOf
+unfolding quote textEscape hasLetter hasHex letterOf
 quote-ascii symbolMark t = same (λ c. quote (byte "'") (textEscape c ++ t)) (λ c. none) 0x80 refl
 quote-ascii stringMark t = same (λ c. quote (byte "\"") (textEscape c ++ t)) (λ c. none) 0x80 refl
 
 read-ascii : (t : List ℕ) (c : ℕ) → c < 0x80 → character (textEscape c ++ t) ≡ some (c ∷ [], t)
-unfolding character starts escape letterEscape letter raw isRaw charOf leadOf textEscape hasLetter letterOf
+unfolding character starts escape letterEscape letter scalarEscape hex hexValue isScalar utf8 raw isRaw charOf leadOf textEscape hasLetter hasHex letterOf hexDigit
 read-ascii t = same (λ c. character (textEscape c ++ t)) (λ c. some (c ∷ [], t)) 0x80 refl
-
-escape-some : (c : ℕ) → 1 ≤ length (textEscape c)
-unfolding textEscape
-escape-some c = go (hasLetter c || eqb c (byte "'"))
-  where
-    go : (h : Bool) → 1 ≤ length (if h (byte "\\" ∷ letterOf c ∷ []) (c ∷ []))
-    go true = omega arith
-    go false = omega arith
 
 -- ---- a character from hex 80 on: its bytes are written as they are
 
 high-raw : (c : ℕ) → 0x80 ≤ c → textEscape c ≡ c ∷ []
-unfolding textEscape hasLetter
-high-raw c h = rw (ne-eqb c 0 (λ e. omega arith), le-leb 7 c (omega arith), lt-leb c 13 (omega arith), ne-eqb c (byte "\"") (λ e. omega arith), ne-eqb c (byte "\\") (λ e. omega arith), ne-eqb c (byte "'") (λ e. omega arith))
+unfolding textEscape hasLetter hasHex
+high-raw c h = rw (le-leb 1 c (omega arith), lt-leb c 6 (omega arith), le-leb 0x0E c (omega arith), lt-leb c 0x1F (omega arith), ne-eqb c 0 (λ e. omega arith), le-leb 7 c (omega arith), lt-leb c 13 (omega arith), ne-eqb c (byte "\"") (λ e. omega arith), ne-eqb c (byte "\\") (λ e. omega arith), ne-eqb c (byte "'") (λ e. omega arith))
 
 body-high : (c : ℕ) (s : List ℕ) → 0x80 ≤ c → textBody (c ∷ s) ≡ c ∷ textBody s
 unfolding textBody

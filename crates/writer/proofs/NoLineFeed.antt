@@ -14,7 +14,7 @@ use Rattle.output.specs.Logic.{if, byte, ascii}
 use Rattle.text_rules.specs.Digits.{isDigit, digits, pad}
 use Rattle.text_rules.specs.Words.{isStart, isPart, behindWord}
 use Rattle.text_rules.specs.WordSteps.{isBare}
-use Rattle.text_rules.specs.Escapes.{hasLetter, letterOf, hexDigit, textEscape, textBody, clobEscape, clobBody}
+use Rattle.text_rules.specs.Escapes.{hasLetter, letterOf, hexDigit, hexEscape, hasHex, textEscape, textBody, clobEscape, clobBody}
 use Rattle.text_rules.specs.Base64.{alphabet, base64Character, characters24, base64}
 use Rattle.text_rules.specs.Text.{Sym, marked, symbolText, symbolIdText, stringText, clobText, blobText, typeName, nullText, boolText, bitsText, floatText}
 use Rattle.numbers.specs.Decimal.{intText, pointed, scientific, above, below, form, sign, decimalText}
@@ -112,13 +112,21 @@ or-false : (a b : Bool) → a || b ≡ false → a ≡ false
 or-false false b h = refl
 or-false true b h = never h
 
+hex-not : (d : ℕ) → eqb (hexDigit d) 10 ≡ false
+unfolding hexDigit
+hex-not d = not-if (ltb d 10) (48 + d) (97 + (d - 10)) (ne-eqb (48 + d) 10 (λ (q : 48 + d ≡ 10). omega arith)) (ne-eqb (97 + (d - 10)) 10 (λ (q : 97 + (d - 10) ≡ 10). omega arith))
+
+unbroken-hex : (c : ℕ) → Unbroken (hexEscape c)
+unbroken-hex c = unbroken-byte (byte "\\") refl (unbroken-byte (byte "x") refl (unbroken-byte (hexDigit (c / 16)) (hex-not (c / 16)) (unbroken-byte (hexDigit (c % 16)) (hex-not (c % 16)) unbroken-nil)))
+
 unbroken-escape : (c : ℕ) → Unbroken (textEscape c)
 unfolding textEscape
-unbroken-escape c = go (hasLetter c || eqb c (byte "'")) refl
+unbroken-escape c = go (hasLetter c || eqb c (byte "'")) refl (hasHex c)
   where
-    go : (b : Bool) → hasLetter c || eqb c (byte "'") ≡ b → Unbroken (if b (byte "\\" ∷ letterOf c ∷ []) (c ∷ []))
-    go true e = unbroken-two c
-    go false e = unbroken-byte c (raw-not c (or-false (hasLetter c) (eqb c (byte "'")) e)) unbroken-nil
+    go : (b : Bool) → hasLetter c || eqb c (byte "'") ≡ b → (h : Bool) → Unbroken (if b (byte "\\" ∷ letterOf c ∷ []) (if h (hexEscape c) (c ∷ [])))
+    go true e h = unbroken-two c
+    go false e true = unbroken-hex c
+    go false e false = unbroken-byte c (raw-not c (or-false (hasLetter c) (eqb c (byte "'")) e)) unbroken-nil
 
 unbroken-body : (s : List ℕ) → Unbroken (textBody s)
 unfolding textBody
@@ -128,19 +136,13 @@ unbroken-body (c ∷ s) = unbroken-both (unbroken-escape c) (unbroken-body s)
 unbroken-marked : (q : ℕ) (s : List ℕ) → eqb q 10 ≡ false → Unbroken (marked q s)
 unbroken-marked q s h = unbroken-byte q h (unbroken-both (unbroken-body s) (unbroken-byte q h unbroken-nil))
 
-hex-not : (d : ℕ) → eqb (hexDigit d) 10 ≡ false
-unfolding hexDigit
-hex-not d = not-if (ltb d 10) (48 + d) (97 + (d - 10)) (ne-eqb (48 + d) 10 (λ (q : 48 + d ≡ 10). omega arith)) (ne-eqb (97 + (d - 10)) 10 (λ (q : 97 + (d - 10) ≡ 10). omega arith))
-
 unbroken-clob-byte : (c : ℕ) → Unbroken (clobEscape c)
 unfolding clobEscape
 unbroken-clob-byte c = go (hasLetter c) refl
   where
-    go : (b : Bool) → hasLetter c ≡ b → Unbroken (if b (byte "\\" ∷ letterOf c ∷ []) (if (leb 0x20 c && leb c 0x7E) (c ∷ []) (byte "\\" ∷ byte "x" ∷ hexDigit (c / 16) ∷ hexDigit (c % 16) ∷ [])))
+    go : (b : Bool) → hasLetter c ≡ b → Unbroken (if b (byte "\\" ∷ letterOf c ∷ []) (if (leb 0x20 c && leb c 0x7E) (c ∷ []) (hexEscape c)))
     go true e = unbroken-two c
-    go false e =
-        unbroken-if (leb 0x20 c && leb c 0x7E) (unbroken-byte c (raw-not c e) unbroken-nil)
-        (unbroken-byte (byte "\\") refl (unbroken-byte (byte "x") refl (unbroken-byte (hexDigit (c / 16)) (hex-not (c / 16)) (unbroken-byte (hexDigit (c % 16)) (hex-not (c % 16)) unbroken-nil))))
+    go false e = unbroken-if (leb 0x20 c && leb c 0x7E) (unbroken-byte c (raw-not c e) unbroken-nil) (unbroken-hex c)
 
 unbroken-clob-body : (s : List ℕ) → Unbroken (clobBody s)
 unfolding clobBody

@@ -41,6 +41,20 @@ fn tempting() {
     prints(blob(b"\xfb\xff"), "{{+/8=}}");
 }
 
+/// Control characters below U+0020 that have no letter are written as `\x` and two hex digits, and read raw too.
+#[test]
+fn control_characters() {
+    prints(string("\u{1}\u{1f} \u{7f}"), "\"\\x01\\x1f \u{7f}\"");
+    prints(symbol("\u{6}\0\u{e}"), r"'\x06\0\x0e'");
+    prints(clob(b"\x01"), r#"{{"\x01"}}"#);
+    let tape = tape(&[annotated(&[symbol("\u{1}")], structure(&[(symbol("\u{2}"), string("\u{1f}"))]))]);
+    let text: &[u8] = br#"'\x01'::{'\x02': "\x1f"}"#;
+    check_text(&tape, text, write_tree);
+    for text in [text, br#"'\x01'::{'\x02': "\x1F"}"#, b"'\x01'::{'\x02': \"\x1f\"}"] {
+        check_tape(text, &tape, read, |n| n);
+    }
+}
+
 #[test]
 fn layouts() {
     let values = tape(&[structure(&[(symbol("a"), list(&[int(1)]))]), sexp(&[null(0), null(12)]), marker(), list(&[])]);

@@ -149,7 +149,8 @@ fn r5_unsuited() {
 
 #[test]
 fn r6_text_too_long() {
-    let t = tape(&[list(&[string("\u{e9}\n"), clob(b"\xff")]), decimal(true, 116, -9), timestamp(0, [2026, 0, 0, 0, 0, 0], UNKNOWN, 0, 0)]);
+    let texts = list(&[string("\u{e9}\n"), clob(b"\xff"), string("\u{1}\u{2}\u{3}\u{4}\u{e}\u{f}\u{1f}b")]);
+    let t = tape(&[texts, decimal(true, 116, -9), timestamp(0, [2026, 0, 0, 0, 0, 0], UNKNOWN, 0, 0)]);
     for (layout, (stream, length)) in Layout::ALL.into_iter().zip(STREAMS) {
         let text = to_text(layout, &t).unwrap();
         // Every length of the buffer, escapes and characters cut in two among them.

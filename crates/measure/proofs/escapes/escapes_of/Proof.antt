@@ -6,9 +6,7 @@ use lib.ListN.{length, take, drop}
 use Rattle.output.specs.Wrote.{leBytes}
 use Rattle.text_rules.specs.Escapes.{textBody}
 use Rattle.text_rules.proofs.LaneTests.{word-part}
-use Rattle.measure.specs.MarkSteps.{escapeMark}
-use Rattle.measure.proofs.MarkLaws.{marked-most}
-use Rattle.measure.proofs.EscapeLengths.{body-more, escapes-most}
+use Rattle.measure.proofs.EscapeLengths.{body-more, word-body-most, escapes-most}
 use borrow.Author.Needs.{needs}
 use Rattle.measure.proofs.escapes.escapes_of.Statement.{statement}
 use Rattle.measure.proofs.escapes.escapes_of.Tie as tie
@@ -35,14 +33,14 @@ sub-at-most-8 c = search needs
 at-most-8-requires : tie.Need-at-most-8-requires Inv-loop μ-loop
 at-most-8-requires c κs = search needs
 
-escaped-count-requires : tie.Need-escaped-count-requires Inv-loop μ-loop
-escaped-count-requires c κs = search needs
+escapes-add-requires : tie.Need-escapes-add-requires Inv-loop μ-loop
+escapes-add-requires c κs = search needs
 
 add-c : tie.Need-add-c Inv-loop μ-loop
 add-c c =
     let b = c .before .before .before .before in
     let a = b .before .before .args in
-    record { fits = omega (arith, escapes-most (a .s .now) (min (b .loop .i) (a .n)) (b .loop .c) (b .loop .inv .1), c .escaped-count .ensures, marked-most escapeMark (c .before .at-most-8 .result) (c .before .before .word-at .result), c .before .at-most-8 .ensures, b .before .before .pre) }
+    record { fits = omega (arith, escapes-most (a .s .now) (min (b .loop .i) (a .n)) (b .loop .c) (b .loop .inv .1), c .escapes-add .ensures, word-body-most (c .before .at-most-8 .result) (c .before .before .word-at .result), c .before .at-most-8 .ensures, b .before .before .pre) }
 
 add-i : tie.Need-add-i Inv-loop μ-loop
 add-i c = search needs
@@ -60,7 +58,7 @@ loop-again c =
     let m : min (l .i) (a .n) ≡ l .i = omega (arith, c .before .before .before .loop-test .taken) in
     let p : min (l .i + 8) (a .n) ≡ l .i + k = omega (arith, c .before .at-most-8 .ensures, c .before .before .before .loop-test .taken) in
     let e : leBytes k (w .result) ≡ take k (drop (l .i) s) = word-part s (l .i) k (w .result) (omega (arith, c .before .at-most-8 .ensures)) (w .ensures) in
-    (omega (arith, c .before .before .before .loop-test .taken), rw (p, c .escaped-count .ensures) (body-more s (l .i) k (l .c) (w .result) (rw m at (l .inv .1)) e))
+    (omega (arith, c .before .before .before .loop-test .taken), rw p (body-more s (l .i) k (l .c) (c .escapes-add .result) (w .result) (rw m at (l .inv .1)) e (c .escapes-add .ensures)))
 
 returns : tie.Need-returns Inv-loop μ-loop
 returns c =
@@ -78,7 +76,7 @@ escapes-of-spec =
     word-at-requires
     sub-at-most-8
     at-most-8-requires
-    escaped-count-requires
+    escapes-add-requires
     add-c
     add-i
     loop-less

@@ -20,7 +20,7 @@ use Rattle.measure.proofs.parts.notes_from.Tie as tie
 
 abbrev Inv-loop : tie.InvT-loop
 Inv-loop tape at end n p₀ left₀ length₀ numbered₀ p left len numbered =
-    ((1 ≤ p) × (p ≤ end) × (left ≤ n) × (len + 4000000 * left ≤ 4000000 * n))
+    ((1 ≤ p) × (p ≤ end) × (left ≤ n) × (len + 4200000 * left ≤ 4200000 * n))
     × (symsFront p numbered (symsOf left (part tape p end)) ≡ symsFront at false (symsOf n (part tape at end)))
     × (notedFrom len (symsOf left (part tape p end)) ≡ notedFrom 0 (symsOf n (part tape at end)))
 
@@ -53,7 +53,7 @@ room c =
     sym-room (now (a .tape)) (l .p) (a .end) (l .inv .0 .1) (trailed (s .pre .1 .0)) _ (c .before .sym-size .ensures) (omega arith)
 
 -- and is not long
-most : (c : tie.Else1 Inv-loop μ-loop) → let a = c .before .before .before .before .before .args in symLength (part (now (a .tape)) (c .before .before .before .loop .p) (a .end)) + 2 ≤ 4000000
+most : (c : tie.Else1 Inv-loop μ-loop) → let a = c .before .before .before .before .before .args in symLength (part (now (a .tape)) (c .before .before .before .loop .p) (a .end)) + 2 ≤ 4200000
 most c =
     let s = c .before .before .before .before .before in
     let a = s .args in
@@ -67,7 +67,7 @@ sym-length-requires : tie.Need-sym-length-requires Inv-loop μ-loop
 sym-length-requires c κs =
     let s = c .before .before .before .before .before in
     let z = c .if1 .left in
-    (c .before .before .before .loop .inv .0 .1, (s .pre .1 .0, (c .before .sym-size .ensures, omega arith)))
+    (c .before .before .before .loop .inv .0 .1, (s .pre .1 .0, (s .pre .1 .1, (c .before .sym-size .ensures, omega arith))))
 
 add-length : tie.Need-add-length Inv-loop μ-loop
 add-length c = let m = most (c .before) in let r = c .sym-length .ensures in record { fits = omega arith }

@@ -15,14 +15,14 @@ use Rattle.measure.proofs.parts.sym_length.Tie as tie
 
 -- it ends within the part
 room : (c : tie.Start) → let a = c .args in a .at + a .size ≤ a .end
-room c = let a = c .args in sym-room (now (a .tape)) (a .at) (a .end) (c .pre .0) (trailed (c .pre .1 .0)) (a .size) (c .pre .1 .1 .0) (c .pre .1 .1 .1)
+room c = let a = c .args in sym-room (now (a .tape)) (a .at) (a .end) (c .pre .0) (trailed (c .pre .1 .0)) (a .size) (c .pre .1 .1 .1 .0) (c .pre .1 .1 .1 .1)
 
 -- what it is, where it is text
 text : (c : tie.Then1) → let a = c .before .before .before .args in (5 ≤ a .size) × (symLength (part (now (a .tape)) (a .at) (a .end)) ≡ length (symbolText (take (a .size - 5) (drop (a .at + 5) (now (a .tape))))))
 text c =
     let s = c .before .before .before in
     let a = s .args in
-    sym-text-length (now (a .tape)) (a .at) (a .end) (s .pre .0) (trailed (s .pre .1 .0)) (a .size) (s .pre .1 .1 .0) (s .pre .1 .1 .1) (c .if1 .taken)
+    sym-text-length (now (a .tape)) (a .at) (a .end) (s .pre .0) (trailed (s .pre .1 .0)) (a .size) (s .pre .1 .1 .1 .0) (s .pre .1 .1 .1 .1) (c .if1 .taken)
 
 shared-slice-read-if1 : tie.Need-shared-slice-read-if1
 shared-slice-read-if1 c = search needs
@@ -73,7 +73,7 @@ returns-3 c =
     let s = c .before .before .before .before .before in
     let a = s .args in
     c .symbol-id-length .ensures
-    ∙ sym (sym-id-length (now (a .tape)) (a .at) (a .end) (s .pre .0) (trailed (s .pre .1 .0)) (a .size) (s .pre .1 .1 .0) (s .pre .1 .1 .1) _ (c .before .u32-at .ensures .0) (c .before .before .if1 .left) .1)
+    ∙ sym (sym-id-length (now (a .tape)) (a .at) (a .end) (s .pre .0) (trailed (s .pre .1 .0)) (a .size) (s .pre .1 .1 .1 .0) (s .pre .1 .1 .1 .1) _ (c .before .u32-at .ensures .0) (c .before .before .if1 .left) .1)
 
 pub sym-length-spec : {M : Type 1} → statement M
 sym-length-spec =

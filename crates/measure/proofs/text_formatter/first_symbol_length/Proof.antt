@@ -7,9 +7,9 @@ use lib.ListN.{length, take, length-take}
 use lib.Seq.{getD-take, length-take-le}
 use Rattle.text_rules.specs.Words.{isStart}
 use Rattle.text_rules.specs.WordSteps.{isBare, allPart}
+use Rattle.text_rules.proofs.EscapesLaws.{text-body-most}
 use Rattle.text_rules.proofs.LaneTests.{other-marked}
 use Rattle.text_rules.proofs.SymbolsText.{symbol-bare}
-use Rattle.measure.proofs.EscapeLengths.{text-body-most}
 use Rattle.measure.proofs.SymbolLengths.{nothing-length, start-marked, plain-quoted, quoted-length}
 use borrow.Author.Needs.{needs}
 use Rattle.measure.proofs.text_formatter.first_symbol_length.Statement.{statement}

@@ -6,8 +6,7 @@ use mathlib.Core.Logic.{⊎-elim}
 use native.Mathlib.Omega.{arith}
 use Rattle.output.specs.Wrote.{leBytes}
 use Rattle.lanes.specs.Lanes.{every, unmarkedBy, noPart}
-use Rattle.measure.specs.MarkSteps.{escapeMark}
-use Rattle.measure.proofs.MarkLaws.{marked-most}
+use Rattle.measure.proofs.EscapeLengths.{word-body-most}
 use Rattle.measure.proofs.SymbolLengths.{words-bare, words-number, words-other}
 use borrow.Author.Needs.{needs}
 use Rattle.measure.proofs.text_formatter.long_symbol_length.Statement.{statement}
@@ -44,24 +43,24 @@ returns-3 c =
 add-result-2 : tie.Need-add-result-2
 add-result-2 c = search needs
 
-escaped-count-requires : tie.Need-escaped-count-requires
-escaped-count-requires c κs = search needs
+escapes-add-requires : tie.Need-escapes-add-requires
+escapes-add-requires c κs = search needs
 
 add-result-3 : tie.Need-add-result-3
 add-result-3 c =
     let a = c .before .before .before .before in
-    record { fits = omega (arith, c .escaped-count .ensures, marked-most escapeMark 8 (a .args .x), a .pre .1) }
+    record { fits = omega (arith, c .escapes-add .ensures, word-body-most 8 (a .args .x), a .pre .1) }
 
-sub-escaped-count : tie.Need-sub-escaped-count
-sub-escaped-count c = search needs
+sub-escapes-add : tie.Need-sub-escapes-add
+sub-escapes-add c = search needs
 
-escaped-count-requires-2 : tie.Need-escaped-count-requires-2
-escaped-count-requires-2 c κs = search needs
+escapes-add-requires-2 : tie.Need-escapes-add-requires-2
+escapes-add-requires-2 c κs = search needs
 
 add-result-4 : tie.Need-add-result-4
 add-result-4 c =
     let a = c .before .before .before .before .before in
-    record { fits = omega (arith, c .before .escaped-count .ensures, c .escaped-count2 .ensures, marked-most escapeMark 8 (a .args .x), marked-most escapeMark (a .args .n - 8) (a .args .y), a .pre .1) }
+    record { fits = omega (arith, c .before .escapes-add .ensures, c .escapes-add2 .ensures, word-body-most 8 (a .args .x), word-body-most (a .args .n - 8) (a .args .y), a .pre .1) }
 
 -- of one of the words not all bytes are an identifier's
 one-not : (c : tie.Joined2) → let a = c .before .before .before .args in every (unmarkedBy noPart) (leBytes 8 (a .x)) && every (unmarkedBy noPart) (leBytes (a .n - 8) (a .y)) ≡ false
@@ -74,7 +73,7 @@ one-not c = ⊎-elim (λ w. second (every (unmarkedBy noPart) (leBytes 8 (c .bef
 returns-4 : tie.Need-returns-4
 returns-4 c =
     let a = c .before .before .before .before .before in
-    λ z. omega (arith, c .before .escaped-count .ensures, c .escaped-count2 .ensures, words-other (a .args .n) (a .args .x) (a .args .y) (a .pre .0) (a .pre .1) (one-not (c .before .before)))
+    λ z. omega (arith, c .before .escapes-add .ensures, c .escapes-add2 .ensures, words-other (a .args .n) (a .args .x) (a .args .y) (a .pre .0) (a .pre .1) (one-not (c .before .before)))
 
 pub long-symbol-length-spec : {M : Type 1} → statement M
 long-symbol-length-spec =
@@ -89,9 +88,9 @@ long-symbol-length-spec =
     add-result
     returns-3
     add-result-2
-    escaped-count-requires
+    escapes-add-requires
     add-result-3
-    sub-escaped-count
-    escaped-count-requires-2
+    sub-escapes-add
+    escapes-add-requires-2
     add-result-4
     returns-4)

@@ -1,8 +1,7 @@
 -- `text_formatter::short_symbol_length` meets its contract. Assumes nothing.
 use mathlib.Core.Path.{sym, _∙_}
 use native.Mathlib.Omega.{arith}
-use Rattle.measure.specs.MarkSteps.{escapeMark}
-use Rattle.measure.proofs.MarkLaws.{marked-most}
+use Rattle.measure.proofs.EscapeLengths.{word-body-most}
 use Rattle.measure.proofs.SymbolLengths.{keyword-length, bare-length, number-length, other-length}
 use borrow.Author.Needs.{needs}
 use Rattle.measure.proofs.text_formatter.short_symbol_length.Statement.{statement}
@@ -44,18 +43,18 @@ returns-4 c =
 add-result-3 : tie.Need-add-result-3
 add-result-3 c = search needs
 
-escaped-count-requires : tie.Need-escaped-count-requires
-escaped-count-requires c κs = search needs
+escapes-add-requires : tie.Need-escapes-add-requires
+escapes-add-requires c κs = search needs
 
 add-result-4 : tie.Need-add-result-4
 add-result-4 c =
     let a = c .before .before .before .before in
-    record { fits = omega (arith, c .escaped-count .ensures, marked-most escapeMark (a .args .n) (a .args .x), a .pre .1) }
+    record { fits = omega (arith, c .escapes-add .ensures, word-body-most (a .args .n) (a .args .x), a .pre .1) }
 
 returns-5 : tie.Need-returns-5
 returns-5 c =
     let a = c .before .before .before .before .args in
-    λ z. omega (arith, c .escaped-count .ensures, other-length (a .n) (a .x) (sym (c .before .before .is-identifier-word .ensures) ∙ c .before .if2 .left))
+    λ z. omega (arith, c .escapes-add .ensures, other-length (a .n) (a .x) (sym (c .before .before .is-identifier-word .ensures) ∙ c .before .if2 .left))
 
 pub short-symbol-length-spec : {M : Type 1} → statement M
 short-symbol-length-spec =
@@ -71,6 +70,6 @@ short-symbol-length-spec =
     add-result-2
     returns-4
     add-result-3
-    escaped-count-requires
+    escapes-add-requires
     add-result-4
     returns-5)

@@ -3,7 +3,8 @@ use native.Mathlib.Omega.{arith}
 use lib.ListN.{take, drop, length-take}
 use Rattle.output.specs.Logic.{byte}
 use Rattle.text_rules.specs.Text.{stringText}
-use Rattle.measure.proofs.EscapeLengths.{text-body-most, marked-length}
+use Rattle.text_rules.proofs.EscapesLaws.{text-body-most}
+use Rattle.measure.proofs.EscapeLengths.{marked-length}
 use borrow.Author.Needs.{needs}
 use Rattle.measure.proofs.text_formatter.string_length_at.Statement.{statement}
 use Rattle.measure.proofs.text_formatter.string_length_at.Tie as tie

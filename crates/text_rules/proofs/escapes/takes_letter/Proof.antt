@@ -1,10 +1,10 @@
--- `escapes::is_escaped` meets its contract. Assumes nothing.
+-- `escapes::takes_letter` meets its contract. Assumes nothing.
 use mathlib.Core.Bool.{or-false}
 use native.Mathlib.Omega.{arith}
 use borrow.Author.Tests.{le-leb, lt-leb, eq-eqb, ne-eqb}
 use Rattle.text_rules.specs.Escapes.{hasLetter}
-use Rattle.text_rules.proofs.escapes.is_escaped.Statement.{statement}
-use Rattle.text_rules.proofs.escapes.is_escaped.Tie as tie
+use Rattle.text_rules.proofs.escapes.takes_letter.Statement.{statement}
+use Rattle.text_rules.proofs.escapes.takes_letter.Tie as tie
 
 returns : tie.Need-returns
 unfolding hasLetter
@@ -40,5 +40,5 @@ returns-6 c =
     let b = c .before .before .before .args .b in
     simp (ne-eqb _ _ (c .before .if4 .left), le-leb 7 b (omega arith), ne-eqb b 34 (λ z. omega arith), ne-eqb b 92 (λ z. omega arith), ne-eqb b 39 (λ z. omega arith), or-false)
 
-pub is-escaped-spec : {M : Type 1} → statement M
-is-escaped-spec = tie.close (tie.spec returns returns-2 returns-3 returns-4 returns-5 returns-6)
+pub takes-letter-spec : {M : Type 1} → statement M
+takes-letter-spec = tie.close (tie.spec returns returns-2 returns-3 returns-4 returns-5 returns-6)

@@ -1,10 +1,10 @@
--- `clobs::hex_digit` meets its contract. Assumes nothing.
+-- `escapes::hex_digit` meets its contract. Assumes nothing.
 use native.Mathlib.Omega.{arith}
 use borrow.Author.Tests.{lt-ltb, le-ltb}
 use Rattle.text_rules.specs.Escapes.{hexDigit}
 use borrow.Author.Needs.{needs}
-use Rattle.text_rules.proofs.clobs.hex_digit.Statement.{statement}
-use Rattle.text_rules.proofs.clobs.hex_digit.Tie as tie
+use Rattle.text_rules.proofs.escapes.hex_digit.Statement.{statement}
+use Rattle.text_rules.proofs.escapes.hex_digit.Tie as tie
 
 add-result : tie.Need-add-result
 add-result c = search needs

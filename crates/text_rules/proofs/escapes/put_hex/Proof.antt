@@ -1,10 +1,10 @@
--- `clobs::put_hex` meets its contract. Assumes nothing.
+-- `escapes::put_hex` meets its contract. Assumes nothing.
 use mathlib.Core.Path.{sym}
 use native.Mathlib.Omega.{arith}
 use Rattle.output.proofs.Words.{le-sum-4}
 use borrow.Author.Needs.{needs}
-use Rattle.text_rules.proofs.clobs.put_hex.Statement.{statement}
-use Rattle.text_rules.proofs.clobs.put_hex.Tie as tie
+use Rattle.text_rules.proofs.escapes.put_hex.Statement.{statement}
+use Rattle.text_rules.proofs.escapes.put_hex.Tie as tie
 
 hex-digit-requires : tie.Need-hex-digit-requires
 hex-digit-requires c κs = search needs
