@@ -12,6 +12,7 @@ use Rattle.tape.specs.Tape.{nodesOf}
 use Rattle.tape.specs.Refusal.{noteds}
 use Rattle.tape.specs.Fine.{Bytes, Fines}
 use Rattle.tape.specs.declared.Frame.the-variants.{Top}
+use Rattle.tokens.specs.Quoted.{rawRule}
 use Rattle.reader.specs.Outcome.{fits}
 use Rattle.line_reader.specs.Cut.{lf, linesOf, lfs, toFirst, fromLast}
 use Rattle.line_reader.specs.Book.{single, lineTape, play, book}
@@ -44,8 +45,8 @@ written-text (more h n ns) = ap (λ (t : List ℕ). line h n ++ t) (written-text
 
 -- A node's own Lines text is a line that the grammar reads to that node's tape.
 pub line-reads : (h : Head) (n : Node) → Fines 64 Top (more h n nil) → noteds (more h n nil) ≡ false → lineTape (streamText 1 (more h n nil)) ≡ some (tape (more h n nil))
-unfolding line single
-line-reads h n f q = ap lineTape (line-alone h n) ∙ line-tape (lineBody h n) ∙ rw (line-body-back h n f q)
+unfolding line single rawRule
+line-reads h n f q = ap lineTape (line-alone h n) ∙ line-tape (lineBody h n) ∙ rw (line-body-back true h n f q)
 
 pub tape-fits : (t : List ℕ) (n : ℕ) → length t ≤ n → length t ≤ 1048576 → fits t n ≡ true
 unfolding fits

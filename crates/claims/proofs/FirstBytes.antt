@@ -148,16 +148,16 @@ pub word-opens : (t : List ℕ) → First isStart t → opens t ≡ none
 unfolding isStart
 word-opens t f = no-opens isStart refl refl refl t f
 
-number-here : (m : Bool) (c : ℕ) (u : List ℕ) → numeric c ≡ true → scalar m (c ∷ u) ≡ numbers (c ∷ u)
+number-here : (isRaw : ℕ → Bool) (m : Bool) (c : ℕ) (u : List ℕ) → numeric c ≡ true → scalar isRaw m (c ∷ u) ≡ numbers (c ∷ u)
 unfolding scalar
-number-here m c u h =
+number-here isRaw m c u h =
     let a : eqb c 34 ≡ false = other numeric c 34 h (unfold numeric isDigit in refl) in
     let b : eqb c 39 ≡ false = other numeric c 39 h (unfold numeric isDigit in refl) in
     let d : eqb c 123 ≡ false = other numeric c 123 h (unfold numeric isDigit in refl) in
     rw (a, b, d, h)
 
-pub scalar-number : (m : Bool) (t : List ℕ) → First numeric t → scalar m t ≡ numbers t
-scalar-number m t f = ap (scalar m) (f .is) ∙ number-here m (f .byte₀) (f .rest) (f .tells) ∙ ap numbers (sym (f .is))
+pub scalar-number : (isRaw : ℕ → Bool) (m : Bool) (t : List ℕ) → First numeric t → scalar isRaw m t ≡ numbers t
+scalar-number isRaw m t f = ap (scalar isRaw m) (f .is) ∙ number-here isRaw m (f .byte₀) (f .rest) (f .tells) ∙ ap numbers (sym (f .is))
 
 digit-low : (c : ℕ) → 48 ≤ c → c ≤ 57 → isStart c ≡ false
 unfolding isStart
@@ -184,12 +184,12 @@ start-numeric c h = go (numeric c) refl
     go true e = never (sym h ∙ numeric-start c e)
     go false e = e
 
-word-here : (m : Bool) (c : ℕ) (u : List ℕ) → isStart c ≡ true → scalar m (c ∷ u) ≡ words m (c ∷ u)
+word-here : (isRaw : ℕ → Bool) (m : Bool) (c : ℕ) (u : List ℕ) → isStart c ≡ true → scalar isRaw m (c ∷ u) ≡ words m (c ∷ u)
 unfolding scalar isStart
-word-here m c u h = rw (other isStart c 34 h refl, other isStart c 39 h refl, other isStart c 123 h refl, start-numeric c h)
+word-here isRaw m c u h = rw (other isStart c 34 h refl, other isStart c 39 h refl, other isStart c 123 h refl, start-numeric c h)
 
-pub scalar-word : (m : Bool) (t : List ℕ) → First isStart t → scalar m t ≡ words m t
-scalar-word m t f = ap (scalar m) (f .is) ∙ word-here m (f .byte₀) (f .rest) (f .tells) ∙ ap (words m) (sym (f .is))
+pub scalar-word : (isRaw : ℕ → Bool) (m : Bool) (t : List ℕ) → First isStart t → scalar isRaw m t ≡ words m t
+scalar-word isRaw m t f = ap (scalar isRaw m) (f .is) ∙ word-here isRaw m (f .byte₀) (f .rest) (f .tells) ∙ ap (words m) (sym (f .is))
 
 -- a text that starts is not empty
 pub first-long : {P : ℕ → Bool} (t : List ℕ) → First P t → 1 ≤ length t

@@ -19,7 +19,7 @@ use Rattle.text_rules.specs.WordSteps.{allPart}
 use Rattle.text_rules.specs.Text.{Sym, marked, symbolText, stringText}
 use Rattle.text_rules.proofs.LaneTests.{identifier-part}
 use Rattle.text_rules.proofs.Table.{same}
-use Rattle.tokens.specs.Quoted.{scalarEscape, escape, isRaw, raw, character}
+use Rattle.tokens.specs.Quoted.{scalarEscape, escape, oldRaw, raw, character}
 use Rattle.tape.specs.Tree.{Scalar, Node, Nodes, null, bool, int, float, decimal, timestamp, symbol, string, clob, blob, scalar, nest, marker, nil, more}
 use Rattle.tape.specs.declared.Frame.{Frame}
 use Rattle.tape.specs.declared.Frame.the-variants.{Top}
@@ -262,18 +262,18 @@ written-out = refl
 
 -- ---- both spellings
 
-spellings-raw : (t : List ℕ) (c : ℕ) → c < 0x20 → if (hasHex c) (character (c ∷ t)) (some (c ∷ [], t)) ≡ some (c ∷ [], t)
-unfolding character starts raw isRaw charOf leadOf hasHex
-spellings-raw t = same (λ c. if (hasHex c) (character (c ∷ t)) (some (c ∷ [], t))) (λ c. some (c ∷ [], t)) 0x20 refl
+spellings-raw : (t : List ℕ) (c : ℕ) → c < 0x20 → if (hasHex c) (character oldRaw (c ∷ t)) (some (c ∷ [], t)) ≡ some (c ∷ [], t)
+unfolding character starts raw oldRaw charOf leadOf hasHex
+spellings-raw t = same (λ c. if (hasHex c) (character oldRaw (c ∷ t)) (some (c ∷ [], t))) (λ c. some (c ∷ [], t)) 0x20 refl
 
-spellings-hex : (t : List ℕ) (c : ℕ) → c < 0x20 → character (hexEscape c ++ t) ≡ some (c ∷ [], t)
+spellings-hex : (t : List ℕ) (c : ℕ) → c < 0x20 → character oldRaw (hexEscape c ++ t) ≡ some (c ∷ [], t)
 unfolding character starts escape scalarEscape hex hexValue hexDigit isScalar utf8
-spellings-hex t = same (λ c. character (hexEscape c ++ t)) (λ c. some (c ∷ [], t)) 0x20 refl
+spellings-hex t = same (λ c. character oldRaw (hexEscape c ++ t)) (λ c. some (c ∷ [], t)) 0x20 refl
 
--- "The reader accepts both spellings": raw, and as it is written now
-pub both-spellings : (c : ℕ) → hasHex c ≡ true → (t : List ℕ) → (character (c ∷ t) ≡ some (c ∷ [], t)) × (character (hexEscape c ++ t) ≡ some (c ∷ [], t))
+-- "The reader accepts both spellings", by 01's raw rule: raw, and as it is written now
+pub both-spellings : (c : ℕ) → hasHex c ≡ true → (t : List ℕ) → (character oldRaw (c ∷ t) ≡ some (c ∷ [], t)) × (character oldRaw (hexEscape c ++ t) ≡ some (c ∷ [], t))
 both-spellings c h t = go (decLe c 0x1F)
   where
-    go : Dec (c ≤ 0x1F) → (character (c ∷ t) ≡ some (c ∷ [], t)) × (character (hexEscape c ++ t) ≡ some (c ∷ [], t))
-    go (yes l) = (ap (λ (b : Bool). if b (character (c ∷ t)) (some (c ∷ [], t))) (sym h) ∙ spellings-raw t c (omega arith), spellings-hex t c (omega arith))
+    go : Dec (c ≤ 0x1F) → (character oldRaw (c ∷ t) ≡ some (c ∷ [], t)) × (character oldRaw (hexEscape c ++ t) ≡ some (c ∷ [], t))
+    go (yes l) = (ap (λ (b : Bool). if b (character oldRaw (c ∷ t)) (some (c ∷ [], t))) (sym h) ∙ spellings-raw t c (omega arith), spellings-hex t c (omega arith))
     go (no l) = never (sym h ∙ high-none c (omega arith))

@@ -2,7 +2,7 @@
 use Prim.Native.Nat.{ℕ, zero, suc, _*_, _≤_}
 use mathlib.Core.Path.{_≡_, refl, sym, ap, _∙_}
 use mathlib.Core.List.{List, [], _∷_, _++_, append-nil}
-use mathlib.Core.Bool.{false}
+use mathlib.Core.Bool.{Bool, false}
 use mathlib.Core.Option.{some}
 use native.Mathlib.Omega.{arith}
 use lib.ListN.{length, length-append}
@@ -12,6 +12,7 @@ use Rattle.tape.specs.Refusal.{annotated, noted, noteds}
 use Rattle.tape.specs.Fine.{Inner, Fine, Fines}
 use Rattle.tape.specs.declared.Frame.{Frame}
 use Rattle.tape.specs.declared.Frame.the-variants.{Top, List as ListF, Sexp, Struct}
+use Rattle.tokens.specs.Quoted.{rawRule}
 use Rattle.reader.specs.Grammar.{skip, closes, sequence, meaning}
 use Rattle.line_reader.specs.Cut.{lfs}
 use Rattle.writer.specs.Text.{nameText, separator, broken, deeper, blanks, unbroken, text, texts, streamText}
@@ -90,26 +91,28 @@ pub line-body : (h : Head) (n : Node) → Fines 64 Top (more h n nil) → lfs (l
 unfolding lineBody Fine
 line-body h n f = none-counted _ (unbroken-both (unbroken-name (h .0)) (unbroken-text n 0 64 Top (h .1) (f .1)))
 
--- ---- the line without its LF means the node
+-- By either raw rule.
+module _ (old : Bool) where
+  -- ---- the line without its LF means the node
 
-end-back : (f l : ℕ) → 1 ≤ f → sequence f Top l [] ≡ some (nil, [])
-end-back zero l h = absurd (omega arith)
-end-back (suc f) l h = sequence-end f l Top [] [] (unfold closes skip in refl)
+  end-back : (f l : ℕ) → 1 ≤ f → sequence (rawRule old) f Top l [] ≡ some (nil, [])
+  end-back zero l h = absurd (omega arith)
+  end-back (suc f) l h = sequence-end old f l Top [] [] (unfold closes skip in refl)
 
-bare-back : (h : Head) (n : Node) → Fines 64 Top (more h n nil) → noteds (more h n nil) ≡ false → sequence (suc (2 * length (lineBody h n))) Top 64 (lineBody h n) ≡ some (more h n nil, [])
-unfolding lineBody Fine noted
-bare-back h n g q =
-    let z = three-false (annotated (h .1)) (noted n) (noteds nil) q in
-    let f : ℕ = 2 * length (nameText (h .0) ++ text 1 0 n) in
-    let len = length-append (nameText (h .0)) (text 1 0 n) in
-    let some-byte = first-long (text 1 0 n ++ ([] ++ [])) (node-leads n 1 0 64 Top (h .1) ([] ++ []) (g .1) (parts-end .delimits) .begins) in
-    let long : 1 ≤ length (text 1 0 n) = omega (arith, length-append (text 1 0 n) []) in
-    let e : (blanks 0 ++ nameText (h .0) ++ text 1 0 n ++ []) ++ [] ≡ nameText (h .0) ++ text 1 0 n = append-nil _ ∙ append-nil _ in
-    ap (sequence (suc f) Top 64) (sym e)
-    ∙ child-back Top h n nil 1 0 64 f 64 [] [] [] (g .0) (no-notes (h .1) (z .0)) (g .1) parts-end
-    (body-back n 1 0 f 64 Top (h .1) [] (g .1) (z .1) (parts-end .delimits) (omega arith))
-    (end-back f 64 (omega arith))
+  bare-back : (h : Head) (n : Node) → Fines 64 Top (more h n nil) → noteds (more h n nil) ≡ false → sequence (rawRule old) (suc (2 * length (lineBody h n))) Top 64 (lineBody h n) ≡ some (more h n nil, [])
+  unfolding lineBody Fine noted
+  bare-back h n g q =
+      let z = three-false (annotated (h .1)) (noted n) (noteds nil) q in
+      let f : ℕ = 2 * length (nameText (h .0) ++ text 1 0 n) in
+      let len = length-append (nameText (h .0)) (text 1 0 n) in
+      let some-byte = first-long (text 1 0 n ++ ([] ++ [])) (node-leads old n 1 0 64 Top (h .1) ([] ++ []) (g .1) (parts-end .delimits) .begins) in
+      let long : 1 ≤ length (text 1 0 n) = omega (arith, length-append (text 1 0 n) []) in
+      let e : (blanks 0 ++ nameText (h .0) ++ text 1 0 n ++ []) ++ [] ≡ nameText (h .0) ++ text 1 0 n = append-nil _ ∙ append-nil _ in
+      ap (sequence (rawRule old) (suc f) Top 64) (sym e)
+      ∙ child-back old Top h n nil 1 0 64 f 64 [] [] [] (g .0) (no-notes (h .1) (z .0)) (g .1) parts-end
+      (body-back old n 1 0 f 64 Top (h .1) [] (g .1) (z .1) (parts-end .delimits) (omega arith))
+      (end-back f 64 (omega arith))
 
-pub line-body-back : (h : Head) (n : Node) → Fines 64 Top (more h n nil) → noteds (more h n nil) ≡ false → meaning (lineBody h n) ≡ some (more h n nil)
-unfolding meaning
-line-body-back h n f q = rw (bare-back h n f q)
+  pub line-body-back : (h : Head) (n : Node) → Fines 64 Top (more h n nil) → noteds (more h n nil) ≡ false → meaning (rawRule old) (lineBody h n) ≡ some (more h n nil)
+  unfolding meaning
+  line-body-back h n f q = rw (bare-back h n f q)

@@ -19,9 +19,9 @@ use Rattle.claims.specs.Lengths.{TellsLength}
 use Rattle.claims.specs.Reserved.{roomFor, reservedAnswer, reservedLeaves}
 
 -- an answer that is no count is handed on
-pub handed : (less : Bool) (a : Answer) → OneOf (1 ∷ 2 ∷ 3 ∷ 4 ∷ 5 ∷ 6 ∷ 7 ∷ 8 ∷ 9 ∷ 10 ∷ 11 ∷ []) (tagOf the-type a) → (s b : List ℕ)
+pub handed : (less : Bool) (a : Answer) → OneOf (1 ∷ 2 ∷ 3 ∷ 4 ∷ 5 ∷ 6 ∷ 7 ∷ 8 ∷ 9 ∷ 10 ∷ 11 ∷ 12 ∷ 13 ∷ []) (tagOf the-type a) → (s b : List ℕ)
     → (reservedAnswer less (outcome a) (length b) ≡ outcome a) × (reservedLeaves less (outcome a) s b ≡ b)
-handed less (A.Count n) h s b = absurd (miss (1 ∷ 2 ∷ 3 ∷ 4 ∷ 5 ∷ 6 ∷ 7 ∷ 8 ∷ 9 ∷ 10 ∷ 11 ∷ []) 0 tt h)
+handed less (A.Count n) h s b = absurd (miss (1 ∷ 2 ∷ 3 ∷ 4 ∷ 5 ∷ 6 ∷ 7 ∷ 8 ∷ 9 ∷ 10 ∷ 11 ∷ 12 ∷ 13 ∷ []) 0 tt h)
 handed less A.End h s b = (refl, refl)
 handed less A.Misfit h s b = (refl, refl)
 handed less A.BadNode h s b = (refl, refl)
@@ -33,6 +33,8 @@ handed less A.NoLayout h s b = (refl, refl)
 handed less A.OutsideGrammar h s b = (refl, refl)
 handed less A.TapeTooLong h s b = (refl, refl)
 handed less A.PastText h s b = (refl, refl)
+handed less A.OutsideOldGrammar h s b = (refl, refl)
+handed less A.OutputTooLong h s b = (refl, refl)
 
 -- no more than was measured
 pub room-most : (less : Bool) (k : ℕ) → roomFor less k ≤ k

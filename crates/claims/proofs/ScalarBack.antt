@@ -21,7 +21,7 @@ use Rattle.text_rules.specs.Utf8.{valid}
 use Rattle.text_rules.specs.Text.{Sym, marked, symbolText, symbolIdText, stringText, clobText, blobText, typeName, nullText, boolText, bitsText, floatText}
 use Rattle.text_rules.specs.declared.words.Kind.{Kind}
 use Rattle.text_rules.specs.declared.words.Kind.the-variants.{Null, True, False, Nan, Marker, Refused}
-use Rattle.tokens.specs.Quoted.{string, clob}
+use Rattle.tokens.specs.Quoted.{rawRule, string, clob}
 use Rattle.tokens.specs.Blob.{blob}
 use Rattle.tokens.specs.Token.{wordSymbol, bareSymbol, symbol, nullBehind, null as nullToken, float as floatToken}
 use Rattle.numbers.specs.Decimal.{intText, decimalText}
@@ -50,44 +50,6 @@ use Rattle.numbers.proofs.TimestampBack.{timestamp-back}
 use Rattle.claims.proofs.FirstBytes.{First, first-more, first-long, first-as, other, leads, numeric-leads, numeric-start, start-leads, number-opens, word-opens, scalar-number, scalar-word}
 use Rattle.claims.proofs.NumbersApart.{Plain, number-first, number-float, int-plain, decimal-plain, timestamp-number}
 
--- ---- what `symbol` makes of a text that starts as no symbol does
-
-refused-kind : (c : ℕ) (w : List ℕ) → isStart c ≡ false → kindOf (c ∷ w) ≡ Refused
-unfolding kindOf same strip resemblesVersionMarker resemblesSymbolId starts isIdentifier
-refused-kind c w h =
-    rw (
-      start-not c 110 h (unfold isStart in refl),
-      start-not c 116 h (unfold isStart in refl),
-      start-not c 102 h (unfold isStart in refl),
-      start-not c 36 h (unfold isStart in refl),
-      h,
-    )
-  where
-    start-not : (c x : ℕ) → isStart c ≡ false → isStart x ≡ true → eqb c x ≡ false
-    start-not c x h e = ne-eqb c x (λ q. never (sym e ∙ sym (ap isStart q) ∙ h))
-
-pub no-symbol : (c : ℕ) (t : List ℕ) → isStart c ≡ false → eqb c (byte "'") ≡ false → symbol (c ∷ t) ≡ none
-unfolding symbol starts bareSymbol
-no-symbol c t h e = rw (e, refused)
-  where
-    go : (b : Bool) → kindOf (if b (c ∷ word t) []) ≡ Refused
-    go true = refused-kind c (word t) h
-    go false = kind-nothing
-
-    refused : kindOf (word (c ∷ t)) ≡ Refused
-    refused = unfold word in go (isPart c)
-
--- a word that is no symbol
-word-symbol : (c : ℕ) (u : List ℕ) (k : Kind) → isStart c ≡ true → kindOf (word (c ∷ u)) ≡ k → wordSymbol k (word (c ∷ u)) ≡ none → symbol (c ∷ u) ≡ none
-unfolding symbol starts bareSymbol
-word-symbol c u k i g j = rw (other isStart c 39 i (unfold isStart in refl), g, j)
-
-keyword-symbol : (t : List ℕ) (k : Kind) → First isStart t → kindOf (word t) ≡ k → ((w : List ℕ) → wordSymbol k w ≡ none) → symbol t ≡ none
-keyword-symbol t k f e h = ap symbol (f .is) ∙ word-symbol (f .byte₀) (f .rest) k (f .tells) (ap (λ (x : List ℕ). kindOf (word x)) (sym (f .is)) ∙ e) (h (word (f .byte₀ ∷ f .rest)))
-
-pub number-symbol : (t : List ℕ) → First numeric t → symbol t ≡ none
-number-symbol t f = ap symbol (f .is) ∙ no-symbol (f .byte₀) (f .rest) (numeric-start (f .byte₀) (f .tells)) (other numeric (f .byte₀) 39 (f .tells) (unfold numeric isDigit in refl))
-
 -- ---- words
 
 -- a word by itself: it is one, of this kind
@@ -112,239 +74,279 @@ marker-is : Word (ascii "$ion_1_0") Marker
 unfolding behindWord isPart isStart isDigit kindOf same strip isKeyword resemblesVersionMarker version run behindDigits starts allDigits
 marker-is = record { all = refl; is = refl; first = record { byte₀ = byte "$"; rest = ascii "ion_1_0"; is = refl; tells = refl } }
 
--- behind it stands what ends it: it is a value, and no symbol
-module _ (w r : List ℕ) (k : Kind) (i : Word w k) (e : ended r ≡ true) where
-  word-kind : kindOf (word (w ++ r)) ≡ k
-  word-kind = ap kindOf (word-back w r (i .all) (stops r e)) ∙ i .is
-
-  word-value : (m : Bool) (n : Node) → byKind m k (w ++ r) ≡ some (n, behindWord (w ++ r)) → words m (w ++ r) ≡ some (n, r)
-  unfolding words
-  word-value m n h = rw (word-kind, h, behind-back w r (i .all) (stops r e))
-
-  word-none : ((v : List ℕ) → wordSymbol k v ≡ none) → symbol (w ++ r) ≡ none
-  word-none h = keyword-symbol (w ++ r) k (first-more r (i .first)) word-kind h
-
-null-first : (t : ℕ) → First isStart (nullText t)
-unfolding nullText isStart
-null-first zero = record { byte₀ = byte "n"; rest = ascii "ull"; is = refl; tells = refl }
-null-first (suc t) = record { byte₀ = byte "n"; rest = ascii "ull." ++ typeName (suc t); is = rw (ne-eqb (suc t) 0 (λ q. omega arith)); tells = refl }
-
-null-words : (m : Bool) (t : ℕ) (r : List ℕ) → t ≤ 12 → ended r ≡ true → words m (nullText t ++ r) ≡ some (Node.scalar (null t), r)
-unfolding words
-null-words m t r h e =
-    let k = null-kind t r e in
-    rw (ap kindOf (k .0) ∙ k .1, read)
-  where
-    word-is : same (ascii "null") (word (nullText t ++ r)) ≡ true
-    word-is = rw (null-kind t r e .0) (unfold same strip in refl)
-
-    read : nullBehind (behindWord (nullText t ++ r)) ≡ some (t, r)
-    read = let k : if (same (ascii "null") (word (nullText t ++ r))) (nullBehind (behindWord (nullText t ++ r))) none ≡ some (t, r) = unfold nullToken in null-back t r h e in rw word-is at k
-
-null-symbol : (t : ℕ) (r : List ℕ) → ended r ≡ true → symbol (nullText t ++ r) ≡ none
-null-symbol t r e = let k = null-kind t r e in keyword-symbol (nullText t ++ r) Null (first-more r (null-first t)) (ap kindOf (k .0) ∙ k .1) (λ w. refl)
-
 -- the marker
 pub marker-first : First isStart (ascii "$ion_1_0")
 marker-first = marker-is .first
 
-pub marker-symbol : (r : List ℕ) → ended r ≡ true → symbol (ascii "$ion_1_0" ++ r) ≡ none
-marker-symbol r e = word-none (ascii "$ion_1_0") r Marker marker-is e (λ w. refl)
+-- By either raw rule.
+module _ (old : Bool) where
+  -- ---- what `symbol` makes of a text that starts as no symbol does
 
-pub marker-back : (r : List ℕ) → ended r ≡ true → scalar true (ascii "$ion_1_0" ++ r) ≡ some (Node.marker, r)
-marker-back r e = scalar-word true (ascii "$ion_1_0" ++ r) (first-more r marker-first) ∙ word-value (ascii "$ion_1_0") r Marker marker-is e true Node.marker refl
+  refused-kind : (c : ℕ) (w : List ℕ) → isStart c ≡ false → kindOf (c ∷ w) ≡ Refused
+  unfolding kindOf same strip resemblesVersionMarker resemblesSymbolId starts isIdentifier
+  refused-kind c w h =
+      rw (
+        start-not c 110 h (unfold isStart in refl),
+        start-not c 116 h (unfold isStart in refl),
+        start-not c 102 h (unfold isStart in refl),
+        start-not c 36 h (unfold isStart in refl),
+        h,
+      )
+    where
+      start-not : (c x : ℕ) → isStart c ≡ false → isStart x ≡ true → eqb c x ≡ false
+      start-not c x h e = ne-eqb c x (λ q. never (sym e ∙ sym (ap isStart q) ∙ h))
 
--- ---- symbols
+  pub no-symbol : (c : ℕ) (t : List ℕ) → isStart c ≡ false → eqb c (byte "'") ≡ false → symbol (rawRule old) (c ∷ t) ≡ none
+  unfolding symbol starts bareSymbol
+  no-symbol c t h e = rw (e, refused)
+    where
+      go : (b : Bool) → kindOf (if b (c ∷ word t) []) ≡ Refused
+      go true = refused-kind c (word t) h
+      go false = kind-nothing
 
-bare-first : (s : List ℕ) → isBare s ≡ true → First isStart s
-bare-first [] h = never (sym (let b = bare-is [] h in unfold isIdentifier in b .identifier))
-bare-first (c ∷ w) h = record { byte₀ = c; rest = w; is = refl; tells = identifier-parts c w (bare-is (c ∷ w) h .identifier) .0 }
+      refused : kindOf (word (c ∷ t)) ≡ Refused
+      refused = unfold word in go (isPart c)
 
-pub id-first : (n : ℕ) → First isStart (symbolIdText n)
-unfolding symbolIdText isStart
-id-first n = record { byte₀ = byte "$"; rest = _; is = refl; tells = refl }
+  -- a word that is no symbol
+  word-symbol : (c : ℕ) (u : List ℕ) (k : Kind) → isStart c ≡ true → kindOf (word (c ∷ u)) ≡ k → wordSymbol k (word (c ∷ u)) ≡ none → symbol (rawRule old) (c ∷ u) ≡ none
+  unfolding symbol starts bareSymbol
+  word-symbol c u k i g j = rw (other isStart c 39 i (unfold isStart in refl), g, j)
 
-bare-words : (m : Bool) (s r : List ℕ) → isBare s ≡ true → ended r ≡ true → words m (s ++ r) ≡ some (Node.scalar (Scalar.symbol (Sym.text s)), r)
-unfolding words
-bare-words m s r h e = let w = bare-word s r h e in rw (w .0, bare-kind s h, w .0, w .1)
+  keyword-symbol : (t : List ℕ) (k : Kind) → First isStart t → kindOf (word t) ≡ k → ((w : List ℕ) → wordSymbol k w ≡ none) → symbol (rawRule old) t ≡ none
+  keyword-symbol t k f e h = ap (symbol (rawRule old)) (f .is) ∙ word-symbol (f .byte₀) (f .rest) k (f .tells) (ap (λ (x : List ℕ). kindOf (word x)) (sym (f .is)) ∙ e) (h (word (f .byte₀ ∷ f .rest)))
 
-id-words : (m : Bool) (n : ℕ) (r : List ℕ) → n < 2 ^ 32 → ended r ≡ true → words m (symbolIdText n ++ r) ≡ some (Node.scalar (Scalar.symbol (Sym.id n)), r)
-unfolding words
-id-words m n r h e = let w = id-word n r e in rw (w .0, id-kind n h, w .1)
+  pub number-symbol : (t : List ℕ) → First numeric t → symbol (rawRule old) t ≡ none
+  number-symbol t f = ap (symbol (rawRule old)) (f .is) ∙ no-symbol (f .byte₀) (f .rest) (numeric-start (f .byte₀) (f .tells)) (other numeric (f .byte₀) 39 (f .tells) (unfold numeric isDigit in refl))
 
-marked-scalar : (m : Bool) (s r : List ℕ) → symbol (marked (byte "'") s ++ r) ≡ some (Sym.text s, r) → scalar m (marked (byte "'") s ++ r) ≡ some (Node.scalar (Scalar.symbol (Sym.text s)), r)
-unfolding scalar
-marked-scalar m s r h = rw h
+  -- behind it stands what ends it: it is a value, and no symbol
+  module _ (w r : List ℕ) (k : Kind) (i : Word w k) (e : ended r ≡ true) where
+    word-kind : kindOf (word (w ++ r)) ≡ k
+    word-kind = ap kindOf (word-back w r (i .all) (stops r e)) ∙ i .is
 
--- what is read back of a scalar's text t, and what other rules make of it
-pub record Told (m : Bool) (s : Scalar) (t r : List ℕ) : Type 0 where
-  pub reads : scalar m (t ++ r) ≡ some (Node.scalar s, r)
-  pub no-bracket : opens (t ++ r) ≡ none
-  pub begins : First leads (t ++ r)
-  -- a symbol that is read there is the whole scalar
-  pub as-symbol : Option Sym
-  pub symbol-is : symbol (t ++ r) ≡ then as-symbol (λ x. some (x, r))
+    word-value : (m : Bool) (n : Node) → byKind m k (w ++ r) ≡ some (n, behindWord (w ++ r)) → words m (w ++ r) ≡ some (n, r)
+    unfolding words
+    word-value m n h = rw (word-kind, h, behind-back w r (i .all) (stops r e))
 
-word-told : (m : Bool) (s : Scalar) (t r : List ℕ) (x : Option Sym) → First isStart t → words m (t ++ r) ≡ some (Node.scalar s, r) → symbol (t ++ r) ≡ then x (λ y. some (y, r)) → Told m s t r
-word-told m s t r x f h y =
-    let g = first-more r f in record {
-      reads = scalar-word m (t ++ r) g ∙ h;
-      no-bracket = word-opens (t ++ r) g;
-      begins = first-as start-leads g;
-      as-symbol = x;
-      symbol-is = y;
-    }
+    word-none : ((v : List ℕ) → wordSymbol k v ≡ none) → symbol (rawRule old) (w ++ r) ≡ none
+    word-none h = keyword-symbol (w ++ r) k (first-more r (i .first)) word-kind h
 
-number-told : (m : Bool) (s : Scalar) (t r : List ℕ) → First numeric (t ++ r) → numbers (t ++ r) ≡ some (Node.scalar s, r) → Told m s t r
-number-told m s t r f h = record {
-  reads = scalar-number m (t ++ r) f ∙ h;
-  no-bracket = number-opens (t ++ r) f;
-  begins = first-as numeric-leads f;
-  as-symbol = none;
-  symbol-is = number-symbol (t ++ r) f;
-}
+  null-first : (t : ℕ) → First isStart (nullText t)
+  unfolding nullText isStart
+  null-first zero = record { byte₀ = byte "n"; rest = ascii "ull"; is = refl; tells = refl }
+  null-first (suc t) = record { byte₀ = byte "n"; rest = ascii "ull." ++ typeName (suc t); is = rw (ne-eqb (suc t) 0 (λ q. omega arith)); tells = refl }
 
--- a whole word that is no symbol
-keyword-told : (m : Bool) (s : Scalar) (w r : List ℕ) (k : Kind) → Word w k → ended r ≡ true → byKind m k (w ++ r) ≡ some (Node.scalar s, behindWord (w ++ r)) → ((v : List ℕ) → wordSymbol k v ≡ none) → Told m s w r
-keyword-told m s w r k i e h g = word-told m s w r none (i .first) (word-value w r k i e m (Node.scalar s) h) (word-none w r k i e g)
+  null-words : (m : Bool) (t : ℕ) (r : List ℕ) → t ≤ 12 → ended r ≡ true → words m (nullText t ++ r) ≡ some (Node.scalar (null t), r)
+  unfolding words
+  null-words m t r h e =
+      let k = null-kind t r e in
+      rw (ap kindOf (k .0) ∙ k .1, read)
+    where
+      word-is : same (ascii "null") (word (nullText t ++ r)) ≡ true
+      word-is = rw (null-kind t r e .0) (unfold same strip in refl)
 
-symbol-told : (m : Bool) (s r : List ℕ) → valid s ≡ true → ended r ≡ true → Told m (Scalar.symbol (Sym.text s)) (symbolText s) r
-symbol-told m s r h e = go (isBare s) refl
-  where
-    quoted : symbolText s ≡ marked (byte "'") s → Told m (Scalar.symbol (Sym.text s)) (marked (byte "'") s) r
-    quoted q =
-        let b : symbol (marked (byte "'") s ++ r) ≡ some (Sym.text s, r) = rw q at (symbol-back s r h e) in record {
-          reads = marked-scalar m s r b;
-          no-bracket = unfold opens opener in refl;
-          begins = record { byte₀ = byte "'"; rest = _; is = refl; tells = unfold leads numeric isDigit isStart in refl };
-          as-symbol = some (Sym.text s);
-          symbol-is = b;
-        }
+      read : nullBehind (behindWord (nullText t ++ r)) ≡ some (t, r)
+      read = let k : if (same (ascii "null") (word (nullText t ++ r))) (nullBehind (behindWord (nullText t ++ r))) none ≡ some (t, r) = unfold nullToken in null-back t r h e in rw word-is at k
 
-    go : (b : Bool) → isBare s ≡ b → Told m (Scalar.symbol (Sym.text s)) (symbolText s) r
-    go true i = rw (symbol-bare s i) (word-told m (Scalar.symbol (Sym.text s)) s r (some (Sym.text s)) (bare-first s i) (bare-words m s r i e) (rw (symbol-bare s i) at (symbol-back s r h e)))
-    go false i = rw (symbol-marked s i) (quoted (symbol-marked s i))
+  null-symbol : (t : ℕ) (r : List ℕ) → ended r ≡ true → symbol (rawRule old) (nullText t ++ r) ≡ none
+  null-symbol t r e = let k = null-kind t r e in keyword-symbol (nullText t ++ r) Null (first-more r (null-first t)) (ap kindOf (k .0) ∙ k .1) (λ w. refl)
 
--- ---- strings, clobs and blobs
+  pub marker-symbol : (r : List ℕ) → ended r ≡ true → symbol (rawRule old) (ascii "$ion_1_0" ++ r) ≡ none
+  marker-symbol r e = word-none (ascii "$ion_1_0") r Marker marker-is e (λ w. refl)
 
-string-scalar : (m : Bool) (s r : List ℕ) → string (stringText s ++ r) ≡ some (s, r) → scalar m (stringText s ++ r) ≡ some (Node.scalar (Scalar.string s), r)
-unfolding stringText scalar
-string-scalar m s r h = rw h
+  pub marker-back : (r : List ℕ) → ended r ≡ true → scalar (rawRule old) true (ascii "$ion_1_0" ++ r) ≡ some (Node.marker, r)
+  marker-back r e = scalar-word (rawRule old) true (ascii "$ion_1_0" ++ r) (first-more r marker-first) ∙ word-value (ascii "$ion_1_0") r Marker marker-is e true Node.marker refl
 
-string-told : (m : Bool) (s r : List ℕ) → valid s ≡ true → Told m (Scalar.string s) (stringText s) r
-unfolding stringText
-string-told m s r h = record {
-  reads = string-scalar m s r (string-back s r h);
-  no-bracket = unfold opens opener in refl;
-  begins = record { byte₀ = byte "\""; rest = _; is = refl; tells = unfold leads numeric isDigit isStart in refl };
-  as-symbol = none;
-  symbol-is = no-symbol (byte "\"") _ (unfold isStart in refl) refl;
-}
+  -- ---- symbols
 
-clob-scalar : (m : Bool) (s r : List ℕ) → clob (clobText s ++ r) ≡ some (s, r) → scalar m (clobText s ++ r) ≡ some (Node.scalar (Scalar.clob s), r)
-unfolding clobText scalar braces starts
-clob-scalar m s r h = rw h
+  bare-first : (s : List ℕ) → isBare s ≡ true → First isStart s
+  bare-first [] h = never (sym (let b = bare-is [] h in unfold isIdentifier in b .identifier))
+  bare-first (c ∷ w) h = record { byte₀ = c; rest = w; is = refl; tells = identifier-parts c w (bare-is (c ∷ w) h .identifier) .0 }
 
-clob-told : (m : Bool) (s r : List ℕ) → FineBytes s → Told m (Scalar.clob s) (clobText s) r
-unfolding clobText
-clob-told m s r h = record {
-  reads = clob-scalar m s r (clob-back s r (h .bytes));
-  no-bracket = unfold opens starts in refl;
-  begins = record { byte₀ = byte "{"; rest = _; is = refl; tells = unfold leads numeric isDigit isStart in refl };
-  as-symbol = none;
-  symbol-is = no-symbol (byte "{") _ (unfold isStart in refl) refl;
-}
+  pub id-first : (n : ℕ) → First isStart (symbolIdText n)
+  unfolding symbolIdText isStart
+  id-first n = record { byte₀ = byte "$"; rest = _; is = refl; tells = refl }
 
--- behind `{{` no quote mark stands
-blob-scalar : (m : Bool) (s r : List ℕ) → starts (byte "\"") (drop 2 (blobText s ++ r)) ≡ false → blob (blobText s ++ r) ≡ some (s, r) → scalar m (blobText s ++ r) ≡ some (Node.scalar (Scalar.blob s), r)
-unfolding blobText scalar braces
-blob-scalar m s r q h = rw (q, h)
+  bare-words : (m : Bool) (s r : List ℕ) → isBare s ≡ true → ended r ≡ true → words m (s ++ r) ≡ some (Node.scalar (Scalar.symbol (Sym.text s)), r)
+  unfolding words
+  bare-words m s r h e = let w = bare-word s r h e in rw (w .0, bare-kind s h, w .0, w .1)
 
-blob-told : (m : Bool) (s r : List ℕ) → FineBytes s → Told m (Scalar.blob s) (blobText s) r
-unfolding blobText
-blob-told m s r h = record {
-  reads = blob-scalar m s r (blob-unquoted s r (h .bytes)) (blob-back s r (h .bytes));
-  no-bracket = unfold opens starts in refl;
-  begins = record { byte₀ = byte "{"; rest = _; is = refl; tells = unfold leads numeric isDigit isStart in refl };
-  as-symbol = none;
-  symbol-is = no-symbol (byte "{") _ (unfold isStart in refl) refl;
-}
+  id-words : (m : Bool) (n : ℕ) (r : List ℕ) → n < 2 ^ 32 → ended r ≡ true → words m (symbolIdText n ++ r) ≡ some (Node.scalar (Scalar.symbol (Sym.id n)), r)
+  unfolding words
+  id-words m n r h e = let w = id-word n r e in rw (w .0, id-kind n h, w .1)
 
--- ---- numbers
+  marked-scalar : (m : Bool) (s r : List ℕ) → symbol (rawRule old) (marked (byte "'") s ++ r) ≡ some (Sym.text s, r) → scalar (rawRule old) m (marked (byte "'") s ++ r) ≡ some (Node.scalar (Scalar.symbol (Sym.text s)), r)
+  unfolding scalar
+  marked-scalar m s r h = rw h
 
-plain-number : (t : List ℕ) → Plain t → numbers t ≡ taken numeralNode (numeral t)
-unfolding numbers
-plain-number t p = rw (number-float (p .number), p .no-timestamp)
+  -- what is read back of a scalar's text t, and what other rules make of it
+  pub record Told (m : Bool) (s : Scalar) (t r : List ℕ) : Type 0 where
+    pub reads : scalar (rawRule old) m (t ++ r) ≡ some (Node.scalar s, r)
+    pub no-bracket : opens (t ++ r) ≡ none
+    pub begins : First leads (t ++ r)
+    -- a symbol that is read there is the whole scalar
+    pub as-symbol : Option Sym
+    pub symbol-is : symbol (rawRule old) (t ++ r) ≡ then as-symbol (λ x. some (x, r))
 
-int-told : (m : Bool) (n : ℤ) (r : List ℕ) → SFits w64 n → ended r ≡ true → Told m (int n) (intText n) r
-int-told m n r h e =
-    let p = int-plain n r e in
-    number-told m (int n) (intText n) r (number-first (p .number)) (plain-number (intText n ++ r) p ∙ ap (taken numeralNode) (int-back n r h e))
+  word-told : (m : Bool) (s : Scalar) (t r : List ℕ) (x : Option Sym) → First isStart t → words m (t ++ r) ≡ some (Node.scalar s, r) → symbol (rawRule old) (t ++ r) ≡ then x (λ y. some (y, r)) → Told m s t r
+  word-told m s t r x f h y =
+      let g = first-more r f in record {
+        reads = scalar-word (rawRule old) m (t ++ r) g ∙ h;
+        no-bracket = word-opens (t ++ r) g;
+        begins = first-as start-leads g;
+        as-symbol = x;
+        symbol-is = y;
+      }
 
-decimal-told : (m neg : Bool) (k : ℕ) (x : ℤ) (r : List ℕ) → k < 2 ^ 64 → SFits w32 x → ended r ≡ true → Told m (decimal neg k x) (decimalText neg k x) r
-decimal-told m neg k x r h f e =
-    let p = decimal-plain neg k x r in
-    number-told m (decimal neg k x) (decimalText neg k x) r (number-first (p .number)) (plain-number (decimalText neg k x ++ r) p ∙ ap (taken numeralNode) (decimal-back neg k x r h f e))
+  number-told : (m : Bool) (s : Scalar) (t r : List ℕ) → First numeric (t ++ r) → numbers (t ++ r) ≡ some (Node.scalar s, r) → Told m s t r
+  number-told m s t r f h = record {
+    reads = scalar-number (rawRule old) m (t ++ r) f ∙ h;
+    no-bracket = number-opens (t ++ r) f;
+    begins = first-as numeric-leads f;
+    as-symbol = none;
+    symbol-is = number-symbol (t ++ r) f;
+  }
 
-timestamp-number-back : (x : Timestamp) (t r : List ℕ) → floatToken t ≡ none → timestampToken t ≡ some (x, r) → numbers t ≡ some (Node.scalar (timestamp x), r)
-unfolding numbers
-timestamp-number-back x t r h e = rw (h, e)
+  -- a whole word that is no symbol
+  keyword-told : (m : Bool) (s : Scalar) (w r : List ℕ) (k : Kind) → Word w k → ended r ≡ true → byKind m k (w ++ r) ≡ some (Node.scalar s, behindWord (w ++ r)) → ((v : List ℕ) → wordSymbol k v ≡ none) → Told m s w r
+  keyword-told m s w r k i e h g = word-told m s w r none (i .first) (word-value w r k i e m (Node.scalar s) h) (word-none w r k i e g)
 
-timestamp-told : (m : Bool) (x : Timestamp) (r : List ℕ) → wellFormed x ≡ true → ended r ≡ true → Told m (timestamp x) (timestampText x) r
-timestamp-told m x r h e =
-    let n = timestamp-number x r in
-    number-told m (timestamp x) (timestampText x) r (number-first n) (timestamp-number-back x (timestampText x ++ r) r (number-float n) (timestamp-back x r h e))
+  symbol-told : (m : Bool) (s r : List ℕ) → valid s ≡ true → ended r ≡ true → Told m (Scalar.symbol (Sym.text s)) (symbolText s) r
+  symbol-told m s r h e = go (isBare s) refl
+    where
+      quoted : symbolText s ≡ marked (byte "'") s → Told m (Scalar.symbol (Sym.text s)) (marked (byte "'") s) r
+      quoted q =
+          let b : symbol (rawRule old) (marked (byte "'") s ++ r) ≡ some (Sym.text s, r) = rw q at (symbol-back old s r h e) in record {
+            reads = marked-scalar m s r b;
+            no-bracket = unfold opens opener in refl;
+            begins = record { byte₀ = byte "'"; rest = _; is = refl; tells = unfold leads numeric isDigit isStart in refl };
+            as-symbol = some (Sym.text s);
+            symbol-is = b;
+          }
 
-float-number : (x : Float) (t r : List ℕ) → floatToken t ≡ some (x, r) → numbers t ≡ some (Node.scalar (float x), r)
-unfolding numbers
-float-number x t r h = rw h
+      go : (b : Bool) → isBare s ≡ b → Told m (Scalar.symbol (Sym.text s)) (symbolText s) r
+      go true i = rw (symbol-bare s i) (word-told m (Scalar.symbol (Sym.text s)) s r (some (Sym.text s)) (bare-first s i) (bare-words m s r i e) (rw (symbol-bare s i) at (symbol-back old s r h e)))
+      go false i = rw (symbol-marked s i) (quoted (symbol-marked s i))
 
--- the infinities and the zeros, by computation
-record Spelled (x : Float) : Type 0 where
-  fits-here : T (fits binary64 x)
-  starts-so : First numeric (floatText x)
+  -- ---- strings, clobs and blobs
 
-spelled-told : (m : Bool) (x : Float) (r : List ℕ) → Spelled x → ended r ≡ true → Told m (float x) (floatText x) r
-spelled-told m x r p e =
-    number-told m (float x) (floatText x) r (first-more r (p .starts-so)) (float-number x (floatText x ++ r) r (float-back x r (p .fits-here) (λ q. full (sym (p .starts-so .is) ∙ q)) e))
-  where
-    full : p .starts-so .byte₀ ∷ p .starts-so .rest ≡ [] → ⊥
-    full q = let z : _≡_ {A = ℕ} 0 1 = cc in omega arith
+  string-scalar : (m : Bool) (s r : List ℕ) → string (rawRule old) (stringText s ++ r) ≡ some (s, r) → scalar (rawRule old) m (stringText s ++ r) ≡ some (Node.scalar (Scalar.string s), r)
+  unfolding stringText scalar
+  string-scalar m s r h = rw h
 
-four-spelled : (x : Float) → FineFloat x → isNan x ≡ false → Spelled x
-unfolding floatText bitsText isNan toBits numeric isDigit fits
-four-spelled nan h q = never q
-four-spelled (inf true) h q = record { fits-here = tt; starts-so = record { byte₀ = byte "-"; rest = ascii "inf"; is = refl; tells = refl } }
-four-spelled (inf false) h q = record { fits-here = tt; starts-so = record { byte₀ = byte "+"; rest = ascii "inf"; is = refl; tells = refl } }
-four-spelled (fin true k d) h q = rw (h .0, h .1) record { fits-here = tt; starts-so = record { byte₀ = byte "-"; rest = ascii "0e0"; is = refl; tells = refl } }
-four-spelled (fin false k d) h q = rw (h .0, h .1) record { fits-here = tt; starts-so = record { byte₀ = byte "0"; rest = ascii "e0"; is = refl; tells = refl } }
+  string-told : (m : Bool) (s r : List ℕ) → valid s ≡ true → Told m (Scalar.string s) (stringText s) r
+  unfolding stringText
+  string-told m s r h = record {
+    reads = string-scalar m s r (string-back old s r h);
+    no-bracket = unfold opens opener in refl;
+    begins = record { byte₀ = byte "\""; rest = _; is = refl; tells = unfold leads numeric isDigit isStart in refl };
+    as-symbol = none;
+    symbol-is = no-symbol (byte "\"") _ (unfold isStart in refl) refl;
+  }
 
-nan-told : (m : Bool) (r : List ℕ) → ended r ≡ true → Told m (float nan) (floatText nan) r
-unfolding floatText isNan
-nan-told m r e = keyword-told m (float nan) (ascii "nan") r Nan nan-is e refl (λ w. refl)
+  clob-scalar : (m : Bool) (s r : List ℕ) → clob (clobText s ++ r) ≡ some (s, r) → scalar (rawRule old) m (clobText s ++ r) ≡ some (Node.scalar (Scalar.clob s), r)
+  unfolding clobText scalar braces starts
+  clob-scalar m s r h = rw h
 
-float-told : (m : Bool) (x : Float) (r : List ℕ) → FineFloat x → ended r ≡ true → Told m (float x) (floatText x) r
-float-told m nan r h e = nan-told m r e
-float-told m (inf s) r h e = spelled-told m (inf s) r (four-spelled (inf s) h (unfold isNan in refl)) e
-float-told m (fin s k d) r h e = spelled-told m (fin s k d) r (four-spelled (fin s k d) h (unfold isNan in refl)) e
+  clob-told : (m : Bool) (s r : List ℕ) → FineBytes s → Told m (Scalar.clob s) (clobText s) r
+  unfolding clobText
+  clob-told m s r h = record {
+    reads = clob-scalar m s r (clob-back s r (h .bytes));
+    no-bracket = unfold opens starts in refl;
+    begins = record { byte₀ = byte "{"; rest = _; is = refl; tells = unfold leads numeric isDigit isStart in refl };
+    as-symbol = none;
+    symbol-is = no-symbol (byte "{") _ (unfold isStart in refl) refl;
+  }
 
--- ---- every scalar
+  -- behind `{{` no quote mark stands
+  blob-scalar : (m : Bool) (s r : List ℕ) → starts (byte "\"") (drop 2 (blobText s ++ r)) ≡ false → blob (blobText s ++ r) ≡ some (s, r) → scalar (rawRule old) m (blobText s ++ r) ≡ some (Node.scalar (Scalar.blob s), r)
+  unfolding blobText scalar braces
+  blob-scalar m s r q h = rw (q, h)
 
-pub scalar-told : (m : Bool) (s : Scalar) (r : List ℕ) → FineScalar s → ended r ≡ true → Told m s (scalarText s) r
-unfolding scalarText symText boolText
-scalar-told m (null t) r h e = word-told m (null t) (nullText t) r none (null-first t) (null-words m t r h e) (null-symbol t r e)
-scalar-told m (bool true) r h e = keyword-told m (bool true) (ascii "true") r True true-is e refl (λ w. refl)
-scalar-told m (bool false) r h e = keyword-told m (bool false) (ascii "false") r False false-is e refl (λ w. refl)
-scalar-told m (int n) r h e = int-told m n r h e
-scalar-told m (float x) r h e = float-told m x r h e
-scalar-told m (decimal neg k x) r h e = decimal-told m neg k x r (h .0) (h .1) e
-scalar-told m (timestamp x) r h e = timestamp-told m x r h e
-scalar-told m (Scalar.symbol (Sym.text s)) r h e = symbol-told m s r (h .utf8) e
-scalar-told m (Scalar.symbol (Sym.id n)) r h e = word-told m (Scalar.symbol (Sym.id n)) (symbolIdText n) r (some (Sym.id n)) (id-first n) (id-words m n r h e) (symbol-id-back n r h e)
-scalar-told m (Scalar.string s) r h e = string-told m s r (h .utf8)
-scalar-told m (Scalar.clob s) r h e = clob-told m s r h
-scalar-told m (Scalar.blob s) r h e = blob-told m s r h
+  blob-told : (m : Bool) (s r : List ℕ) → FineBytes s → Told m (Scalar.blob s) (blobText s) r
+  unfolding blobText
+  blob-told m s r h = record {
+    reads = blob-scalar m s r (blob-unquoted s r (h .bytes)) (blob-back s r (h .bytes));
+    no-bracket = unfold opens starts in refl;
+    begins = record { byte₀ = byte "{"; rest = _; is = refl; tells = unfold leads numeric isDigit isStart in refl };
+    as-symbol = none;
+    symbol-is = no-symbol (byte "{") _ (unfold isStart in refl) refl;
+  }
+
+  -- ---- numbers
+
+  plain-number : (t : List ℕ) → Plain t → numbers t ≡ taken numeralNode (numeral t)
+  unfolding numbers
+  plain-number t p = rw (number-float (p .number), p .no-timestamp)
+
+  int-told : (m : Bool) (n : ℤ) (r : List ℕ) → SFits w64 n → ended r ≡ true → Told m (int n) (intText n) r
+  int-told m n r h e =
+      let p = int-plain n r e in
+      number-told m (int n) (intText n) r (number-first (p .number)) (plain-number (intText n ++ r) p ∙ ap (taken numeralNode) (int-back n r h e))
+
+  decimal-told : (m neg : Bool) (k : ℕ) (x : ℤ) (r : List ℕ) → k < 2 ^ 64 → SFits w32 x → ended r ≡ true → Told m (decimal neg k x) (decimalText neg k x) r
+  decimal-told m neg k x r h f e =
+      let p = decimal-plain neg k x r in
+      number-told m (decimal neg k x) (decimalText neg k x) r (number-first (p .number)) (plain-number (decimalText neg k x ++ r) p ∙ ap (taken numeralNode) (decimal-back neg k x r h f e))
+
+  timestamp-number-back : (x : Timestamp) (t r : List ℕ) → floatToken t ≡ none → timestampToken t ≡ some (x, r) → numbers t ≡ some (Node.scalar (timestamp x), r)
+  unfolding numbers
+  timestamp-number-back x t r h e = rw (h, e)
+
+  timestamp-told : (m : Bool) (x : Timestamp) (r : List ℕ) → wellFormed x ≡ true → ended r ≡ true → Told m (timestamp x) (timestampText x) r
+  timestamp-told m x r h e =
+      let n = timestamp-number x r in
+      number-told m (timestamp x) (timestampText x) r (number-first n) (timestamp-number-back x (timestampText x ++ r) r (number-float n) (timestamp-back x r h e))
+
+  float-number : (x : Float) (t r : List ℕ) → floatToken t ≡ some (x, r) → numbers t ≡ some (Node.scalar (float x), r)
+  unfolding numbers
+  float-number x t r h = rw h
+
+  -- the infinities and the zeros, by computation
+  record Spelled (x : Float) : Type 0 where
+    fits-here : T (fits binary64 x)
+    starts-so : First numeric (floatText x)
+
+  spelled-told : (m : Bool) (x : Float) (r : List ℕ) → Spelled x → ended r ≡ true → Told m (float x) (floatText x) r
+  spelled-told m x r p e =
+      number-told m (float x) (floatText x) r (first-more r (p .starts-so)) (float-number x (floatText x ++ r) r (float-back x r (p .fits-here) (λ q. full (sym (p .starts-so .is) ∙ q)) e))
+    where
+      full : p .starts-so .byte₀ ∷ p .starts-so .rest ≡ [] → ⊥
+      full q = let z : _≡_ {A = ℕ} 0 1 = cc in omega arith
+
+  four-spelled : (x : Float) → FineFloat x → isNan x ≡ false → Spelled x
+  unfolding floatText bitsText isNan toBits numeric isDigit fits
+  four-spelled nan h q = never q
+  four-spelled (inf true) h q = record { fits-here = tt; starts-so = record { byte₀ = byte "-"; rest = ascii "inf"; is = refl; tells = refl } }
+  four-spelled (inf false) h q = record { fits-here = tt; starts-so = record { byte₀ = byte "+"; rest = ascii "inf"; is = refl; tells = refl } }
+  four-spelled (fin true k d) h q = rw (h .0, h .1) record { fits-here = tt; starts-so = record { byte₀ = byte "-"; rest = ascii "0e0"; is = refl; tells = refl } }
+  four-spelled (fin false k d) h q = rw (h .0, h .1) record { fits-here = tt; starts-so = record { byte₀ = byte "0"; rest = ascii "e0"; is = refl; tells = refl } }
+
+  nan-told : (m : Bool) (r : List ℕ) → ended r ≡ true → Told m (float nan) (floatText nan) r
+  unfolding floatText isNan
+  nan-told m r e = keyword-told m (float nan) (ascii "nan") r Nan nan-is e refl (λ w. refl)
+
+  float-told : (m : Bool) (x : Float) (r : List ℕ) → FineFloat x → ended r ≡ true → Told m (float x) (floatText x) r
+  float-told m nan r h e = nan-told m r e
+  float-told m (inf s) r h e = spelled-told m (inf s) r (four-spelled (inf s) h (unfold isNan in refl)) e
+  float-told m (fin s k d) r h e = spelled-told m (fin s k d) r (four-spelled (fin s k d) h (unfold isNan in refl)) e
+
+  -- ---- every scalar
+
+  pub scalar-told : (m : Bool) (s : Scalar) (r : List ℕ) → FineScalar s → ended r ≡ true → Told m s (scalarText s) r
+  unfolding scalarText symText boolText
+  scalar-told m (null t) r h e = word-told m (null t) (nullText t) r none (null-first t) (null-words m t r h e) (null-symbol t r e)
+  scalar-told m (bool true) r h e = keyword-told m (bool true) (ascii "true") r True true-is e refl (λ w. refl)
+  scalar-told m (bool false) r h e = keyword-told m (bool false) (ascii "false") r False false-is e refl (λ w. refl)
+  scalar-told m (int n) r h e = int-told m n r h e
+  scalar-told m (float x) r h e = float-told m x r h e
+  scalar-told m (decimal neg k x) r h e = decimal-told m neg k x r (h .0) (h .1) e
+  scalar-told m (timestamp x) r h e = timestamp-told m x r h e
+  scalar-told m (Scalar.symbol (Sym.text s)) r h e = symbol-told m s r (h .utf8) e
+  scalar-told m (Scalar.symbol (Sym.id n)) r h e = word-told m (Scalar.symbol (Sym.id n)) (symbolIdText n) r (some (Sym.id n)) (id-first n) (id-words m n r h e) (symbol-id-back (rawRule old) n r h e)
+  scalar-told m (Scalar.string s) r h e = string-told m s r (h .utf8)
+  scalar-told m (Scalar.clob s) r h e = clob-told m s r h
+  scalar-told m (Scalar.blob s) r h e = blob-told m s r h
 
 -- a written scalar has a byte at least
 pub scalar-long : (s : Scalar) → FineScalar s → 1 ≤ length (scalarText s)
-scalar-long s h = let b = first-long (scalarText s ++ []) (scalar-told true s [] h (unfold ended in refl) .begins) in omega (arith, length-append (scalarText s) [])
+scalar-long s h = let b = first-long (scalarText s ++ []) (scalar-told true true s [] h (unfold ended in refl) .begins) in omega (arith, length-append (scalarText s) [])

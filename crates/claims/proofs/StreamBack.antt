@@ -16,6 +16,7 @@ use Rattle.tape.specs.Refusal.{annotated, noted, noteds}
 use Rattle.tape.specs.Fine.{FineScalar, FineHead, FineMarker, Inner, Fine, Fines}
 use Rattle.tape.specs.declared.Frame.{Frame}
 use Rattle.tape.specs.declared.Frame.the-variants.{Top, List as ListF, Sexp, Struct}
+use Rattle.tokens.specs.Quoted.{rawRule}
 use Rattle.reader.specs.Grammar.{skip, opener, opens, closes, comma, gap, head, free, scalar as scalarOf, body, sequence, meaning}
 use Rattle.writer.specs.Text.{symText, scalarText, nameText, notesText, opening, closing, separator, broken, deeper, blanks, text, texts, streamText}
 use Rattle.text_rules.proofs.DigitLaws.{never}
@@ -38,12 +39,6 @@ skip-broken y t = go (eqb y 2)
     go : (b : Bool) → skip (if b (ascii "\n") [] ++ t) ≡ skip t
     go true = unfold skip blank in refl
     go false = refl
-
--- blanks before a sequence change nothing
-pub blanks-before : (f l : ℕ) (k : Frame) (t u : List ℕ) → skip t ≡ skip u → sequence f k l t ≡ sequence f k l u
-unfolding body
-blanks-before zero l k t u e = refl
-blanks-before (suc f) l k t u e = rw e
 
 -- ---- separators
 
@@ -146,64 +141,22 @@ opening-opens ListF y w v d ns r i h = refl
 opening-opens Sexp y w v d ns r i h = refl
 opening-opens Struct y w v d ns r i h = rw (struct-brace y w v d ns r h)
 
--- ---- values
+pub brackets-long : (k : Frame) → Inner k → (length (opening k) ≡ 1) × (length (closing k) ≡ 1)
+unfolding opening closing
+brackets-long Top h = absurd h
+brackets-long ListF h = (refl, refl)
+brackets-long Sexp h = (refl, refl)
+brackets-long Struct h = (refl, refl)
 
-body-scalar : (f : ℕ) (m : Bool) (l : ℕ) (t : List ℕ) (o : Option (Node × List ℕ)) → opens t ≡ none → scalarOf m t ≡ o → body (suc f) m l t ≡ o
-unfolding body
-body-scalar f m l t o h e = rw (h, e)
-
-pub body-nest : (f : ℕ) (m : Bool) (l : ℕ) (k : Frame) (t : List ℕ) (ns : Nodes) (r : List ℕ) → Inner k → opens (opening k ++ t) ≡ some k → sequence f k l t ≡ some (ns, r) → body (suc f) m (suc l) (opening k ++ t) ≡ some (nest k ns, r)
-unfolding body opening
-body-nest f m l Top t ns r i h e = absurd i
-body-nest f m l ListF t ns r i h e = rw (h, e)
-body-nest f m l Sexp t ns r i h e = rw (h, e)
-body-nest f m l Struct t ns r i h e = rw (h, e)
-
--- a container, by what is inside it
-nest-back : (k : Frame) (y w d f : ℕ) (m : Bool) (ns : Nodes) (r : List ℕ) → Inner k → Fines d k ns
-    → sequence f k d (texts y k (deeper y w) ns ++ (blanks w ++ (closing k ++ r))) ≡ some (ns, r)
-    → body (suc f) m (suc d) (text y w (nest k ns) ++ r) ≡ some (nest k ns, r)
+-- the brackets take two bytes
+nest-long : (k : Frame) (y w : ℕ) (ns : Nodes) → Inner k → 2 + length (texts y k (deeper y w) ns) ≤ length (text y w (nest k ns))
 unfolding text
-nest-back k y w d f m ns r i h e =
-    let u : List ℕ = texts y k (deeper y w) ns ++ (blanks w ++ (closing k ++ r)) in
-    simp append-assoc (body-nest f m d k (broken y ++ u) ns r i (opening-opens k y w (deeper y w) d ns r i h) (blanks-before f d k (broken y ++ u) u (skip-broken y u) ∙ e))
+nest-long k y w ns i = let b = brackets-long k i in simp length-append (omega arith)
 
--- ---- sequences
-
-pub sequence-end : (f l : ℕ) (k : Frame) (t r : List ℕ) → closes k (skip t) ≡ some r → sequence (suc f) k l t ≡ some (nil, r)
-unfolding body
-sequence-end f l k t r h = rw h
-
-sequence-child : (f l : ℕ) (k : Frame) (t u v x : List ℕ) (h : Head) (n : Node) (o : Option (Nodes × List ℕ))
-    → closes k (skip t) ≡ none → head k (skip t) ≡ some (h, u) → body f (free k (h .1)) l u ≡ some (n, v) → gap k v ≡ some x → sequence f k l x ≡ o
-    → sequence (suc f) k l t ≡ then o (λ ns. some (more h n (ns .0), ns .1))
-unfolding body
-sequence-child f l k t u v x h n o a b c d e = rw (a, b, c, d, e)
-
--- a child whose value has the text v, with s behind it, and the rest t of the sequence
-pub headed-back : (k : Frame) (h : Head) (n : Node) (ns : Nodes) (w f l : ℕ) (v s t r : List ℕ) → FineHead k h → Leads (v ++ (s ++ t)) → Parts k s t
-    → body f (free k (h .1)) l (v ++ (s ++ t)) ≡ some (n, s ++ t)
-    → sequence f k l t ≡ some (ns, r)
-    → sequence (suc f) k l (blanks w ++ (nameText (h .0) ++ (notesText (h .1) ++ (v ++ (s ++ t))))) ≡ some (more h n ns, r)
-headed-back k h n ns w f l v s t r a i p b e =
-    let z : List ℕ = v ++ (s ++ t) in
-    let x : List ℕ = nameText (h .0) ++ (notesText (h .1) ++ z) in
-    let j : First leads x = head-first k h z a (i .begins) in
-    let q : skip (blanks w ++ x) ≡ x = skip-blanks w x ∙ no-blank x j in
-    let e′ : sequence f k l (p .next) ≡ some (ns, r) = blanks-before f l k (p .next) t (p .next-is) ∙ e in
-    sequence-child f l k (blanks w ++ x) z (s ++ t) (p .next) h n (some (ns, r)) (ap (closes k) q ∙ no-end k x j) (ap (head k) q ∙ head-back k h z a i) b (p .gap-is) e′
-
--- the same without annotations
-pub child-back : (k : Frame) (h : Head) (n : Node) (ns : Nodes) (y w d f l : ℕ) (s t r : List ℕ) → FineHead k h → h .1 ≡ [] → Fine d k (h .1) n → Parts k s t
-    → body f (free k (h .1)) l (text y w n ++ (s ++ t)) ≡ some (n, s ++ t)
-    → sequence f k l t ≡ some (ns, r)
-    → sequence (suc f) k l ((blanks w ++ nameText (h .0) ++ text y w n ++ s) ++ t) ≡ some (more h n ns, r)
-unfolding notesText
-child-back k h n ns y w d f l s t r a b c p v e =
-    let z : List ℕ = text y w n ++ (s ++ t) in
-    let all : (blanks w ++ nameText (h .0) ++ text y w n ++ s) ++ t ≡ blanks w ++ (nameText (h .0) ++ z) = simp append-assoc in
-    ap (sequence (suc f) k l) (all ∙ ap (λ (ss : List Sym). blanks w ++ (nameText (h .0) ++ (notesText ss ++ z))) (sym b))
-    ∙ headed-back k h n ns w f l (text y w n) s t r a (node-leads n y w d k (h .1) (s ++ t) c (p .delimits)) p v e
+-- the separator takes one
+child-long : (k : Frame) (h : Head) (n : Node) (ns : Nodes) (y w : ℕ) → 1 + length (text y w n) + length (texts y k w ns) ≤ length (texts y k w (more h n ns))
+unfolding text
+child-long k h n ns y w = let b = separator-long y k in simp length-append (omega arith)
 
 -- ---- what is free of annotations
 
@@ -225,71 +178,121 @@ free-marker ListF ss h = absurd h
 free-marker Sexp ss h = absurd h
 free-marker Struct ss h = absurd h
 
-pub marker-body : (f : ℕ) (m : Bool) (l : ℕ) (r : List ℕ) → m ≡ true → Delimits r → body (suc f) m l (ascii "$ion_1_0" ++ r) ≡ some (marker, r)
-marker-body f m l r h d =
-    body-scalar f m l (ascii "$ion_1_0" ++ r) (some (marker, r)) (word-opens _ (first-more r marker-first)) (ap (λ (b : Bool). scalarOf b (ascii "$ion_1_0" ++ r)) h ∙ marker-back r (d .ends))
+-- By either raw rule.
+module _ (old : Bool) where
+  -- ---- values
 
-pub scalar-body : (f : ℕ) (m : Bool) (l : ℕ) (s : Scalar) (r : List ℕ) → FineScalar s → Delimits r → body (suc f) m l (scalarText s ++ r) ≡ some (scalar s, r)
-scalar-body f m l s r h d = let t = scalar-told m s r h (d .ends) in body-scalar f m l (scalarText s ++ r) (some (scalar s, r)) (t .no-bracket) (t .reads)
+  -- blanks before a sequence change nothing
+  pub blanks-before : (f l : ℕ) (k : Frame) (t u : List ℕ) → skip t ≡ skip u → sequence (rawRule old) f k l t ≡ sequence (rawRule old) f k l u
+  unfolding body
+  blanks-before zero l k t u e = refl
+  blanks-before (suc f) l k t u e = rw e
 
-pub brackets-long : (k : Frame) → Inner k → (length (opening k) ≡ 1) × (length (closing k) ≡ 1)
-unfolding opening closing
-brackets-long Top h = absurd h
-brackets-long ListF h = (refl, refl)
-brackets-long Sexp h = (refl, refl)
-brackets-long Struct h = (refl, refl)
+  body-scalar : (f : ℕ) (m : Bool) (l : ℕ) (t : List ℕ) (o : Option (Node × List ℕ)) → opens t ≡ none → scalarOf (rawRule old) m t ≡ o → body (rawRule old) (suc f) m l t ≡ o
+  unfolding body
+  body-scalar f m l t o h e = rw (h, e)
 
--- the brackets take two bytes
-nest-long : (k : Frame) (y w : ℕ) (ns : Nodes) → Inner k → 2 + length (texts y k (deeper y w) ns) ≤ length (text y w (nest k ns))
-unfolding text
-nest-long k y w ns i = let b = brackets-long k i in simp length-append (omega arith)
+  pub body-nest : (f : ℕ) (m : Bool) (l : ℕ) (k : Frame) (t : List ℕ) (ns : Nodes) (r : List ℕ) → Inner k → opens (opening k ++ t) ≡ some k → sequence (rawRule old) f k l t ≡ some (ns, r) → body (rawRule old) (suc f) m (suc l) (opening k ++ t) ≡ some (nest k ns, r)
+  unfolding body opening
+  body-nest f m l Top t ns r i h e = absurd i
+  body-nest f m l ListF t ns r i h e = rw (h, e)
+  body-nest f m l Sexp t ns r i h e = rw (h, e)
+  body-nest f m l Struct t ns r i h e = rw (h, e)
 
--- the separator takes one
-child-long : (k : Frame) (h : Head) (n : Node) (ns : Nodes) (y w : ℕ) → 1 + length (text y w n) + length (texts y k w ns) ≤ length (texts y k w (more h n ns))
-unfolding text
-child-long k h n ns y w = let b = separator-long y k in simp length-append (omega arith)
+  -- a container, by what is inside it
+  nest-back : (k : Frame) (y w d f : ℕ) (m : Bool) (ns : Nodes) (r : List ℕ) → Inner k → Fines d k ns
+      → sequence (rawRule old) f k d (texts y k (deeper y w) ns ++ (blanks w ++ (closing k ++ r))) ≡ some (ns, r)
+      → body (rawRule old) (suc f) m (suc d) (text y w (nest k ns) ++ r) ≡ some (nest k ns, r)
+  unfolding text
+  nest-back k y w d f m ns r i h e =
+      let u : List ℕ = texts y k (deeper y w) ns ++ (blanks w ++ (closing k ++ r)) in
+      simp append-assoc (body-nest f m d k (broken y ++ u) ns r i (opening-opens k y w (deeper y w) d ns r i h) (blanks-before f d k (broken y ++ u) u (skip-broken y u) ∙ e))
 
--- ---- trees, for every number of calls that is large enough
+  -- ---- sequences
 
-mutual
-  unfolding text Fine noted
+  pub sequence-end : (f l : ℕ) (k : Frame) (t r : List ℕ) → closes k (skip t) ≡ some r → sequence (rawRule old) (suc f) k l t ≡ some (nil, r)
+  unfolding body
+  sequence-end f l k t r h = rw h
 
-  pub body-back : (n : Node) (y w f d : ℕ) (k : Frame) (ss : List Sym) (r : List ℕ) → Fine d k ss n → noted n ≡ false → Delimits r → 2 * length (text y w n) ≤ f
-      → body f (free k ss) d (text y w n ++ r) ≡ some (n, r)
-  body-back (scalar s) y w zero d k ss r h q e g = absurd (omega (arith, scalar-long s h))
-  body-back (scalar s) y w (suc f) d k ss r h q e g = scalar-body f (free k ss) d s r h e
-  body-back marker y w zero d k ss r h q e g = absurd (omega arith)
-  body-back marker y w (suc f) d k ss r h q e g = marker-body f (free k ss) d r (free-marker k ss h) e
-  body-back (nest i ns) y w zero zero k ss r h q e g = absurd h
-  body-back (nest i ns) y w (suc f) zero k ss r h q e g = absurd h
-  body-back (nest i ns) y w zero (suc d) k ss r h q e g = absurd (omega (arith, nest-long i y w ns (h .0)))
-  body-back (nest i ns) y w (suc f) (suc d) k ss r h q e g =
-      nest-back i y w d f (free k ss) ns r (h .0) (h .2)
-      (sequence-back ns y (deeper y w) f d i (blanks w ++ (closing i ++ r)) r (h .2) q (closing-ends i w r (h .0)) (omega (arith, nest-long i y w ns (h .0))))
+  sequence-child : (f l : ℕ) (k : Frame) (t u v x : List ℕ) (h : Head) (n : Node) (o : Option (Nodes × List ℕ))
+      → closes k (skip t) ≡ none → head (rawRule old) k (skip t) ≡ some (h, u) → body (rawRule old) f (free k (h .1)) l u ≡ some (n, v) → gap k v ≡ some x → sequence (rawRule old) f k l x ≡ o
+      → sequence (rawRule old) (suc f) k l t ≡ then o (λ ns. some (more h n (ns .0), ns .1))
+  unfolding body
+  sequence-child f l k t u v x h n o a b c d e = rw (a, b, c, d, e)
 
-  pub sequence-back : (ns : Nodes) (y w f d : ℕ) (k : Frame) (t r : List ℕ) → Fines d k ns → noteds ns ≡ false → closes k (skip t) ≡ some r → suc (2 * length (texts y k w ns)) ≤ f
-      → sequence f k d (texts y k w ns ++ t) ≡ some (ns, r)
-  sequence-back nil y w zero d k t r h q e g = absurd (omega arith)
-  sequence-back nil y w (suc f) d k t r h q e g = sequence-end f d k t r e
-  sequence-back (more x n ns) y w zero d k t r h q e g = absurd (omega arith)
-  sequence-back (more x n ns) y w (suc f) d k t r h q e g =
-      let z = three-false (annotated (x .1)) (noted n) (noteds ns) q in
-      let l = child-long k x n ns y w in
-      let u : List ℕ = texts y k w ns ++ t in
-      let p : Parts k (separator y k) u = parts y k u in
-      ap (sequence (suc f) k d) (append-assoc (blanks w ++ nameText (x .0) ++ text y w n ++ separator y k) (texts y k w ns) t)
-      ∙ child-back k x n ns y w d f d (separator y k) u r (h .0) (no-notes (x .1) (z .0)) (h .1) p
-      (body-back n y w f d k (x .1) (separator y k ++ u) (h .1) (z .1) (p .delimits) (omega arith))
-      (sequence-back ns y w f d k t r (h .2) (z .2) e (omega arith))
+  -- a child whose value has the text v, with s behind it, and the rest t of the sequence
+  pub headed-back : (k : Frame) (h : Head) (n : Node) (ns : Nodes) (w f l : ℕ) (v s t r : List ℕ) → FineHead k h → Leads old (v ++ (s ++ t)) → Parts k s t
+      → body (rawRule old) f (free k (h .1)) l (v ++ (s ++ t)) ≡ some (n, s ++ t)
+      → sequence (rawRule old) f k l t ≡ some (ns, r)
+      → sequence (rawRule old) (suc f) k l (blanks w ++ (nameText (h .0) ++ (notesText (h .1) ++ (v ++ (s ++ t))))) ≡ some (more h n ns, r)
+  headed-back k h n ns w f l v s t r a i p b e =
+      let z : List ℕ = v ++ (s ++ t) in
+      let x : List ℕ = nameText (h .0) ++ (notesText (h .1) ++ z) in
+      let j : First leads x = head-first k h z a (i .begins) in
+      let q : skip (blanks w ++ x) ≡ x = skip-blanks w x ∙ no-blank x j in
+      let e′ : sequence (rawRule old) f k l (p .next) ≡ some (ns, r) = blanks-before f l k (p .next) t (p .next-is) ∙ e in
+      sequence-child f l k (blanks w ++ x) z (s ++ t) (p .next) h n (some (ns, r)) (ap (closes k) q ∙ no-end k x j) (ap (head (rawRule old) k) q ∙ head-back old k h z a i) b (p .gap-is) e′
 
--- what the text of a tree's nodes means, at top level and with all of it read
-pub read-back : (ns : Nodes) (y : ℕ) → Fines 64 Top ns → noteds ns ≡ false → sequence (suc (2 * length (streamText y ns))) Top 64 (streamText y ns) ≡ some (ns, [])
-unfolding streamText
-read-back ns y h q =
-    ap (sequence (suc (2 * length (texts y Top 0 ns))) Top 64) (sym (append-nil (texts y Top 0 ns)))
-    ∙ sequence-back ns y 0 (suc (2 * length (texts y Top 0 ns))) 64 Top [] [] h q (unfold closes skip in refl) (omega arith)
+  -- the same without annotations
+  pub child-back : (k : Frame) (h : Head) (n : Node) (ns : Nodes) (y w d f l : ℕ) (s t r : List ℕ) → FineHead k h → h .1 ≡ [] → Fine d k (h .1) n → Parts k s t
+      → body (rawRule old) f (free k (h .1)) l (text y w n ++ (s ++ t)) ≡ some (n, s ++ t)
+      → sequence (rawRule old) f k l t ≡ some (ns, r)
+      → sequence (rawRule old) (suc f) k l ((blanks w ++ nameText (h .0) ++ text y w n ++ s) ++ t) ≡ some (more h n ns, r)
+  unfolding notesText
+  child-back k h n ns y w d f l s t r a b c p v e =
+      let z : List ℕ = text y w n ++ (s ++ t) in
+      let all : (blanks w ++ nameText (h .0) ++ text y w n ++ s) ++ t ≡ blanks w ++ (nameText (h .0) ++ z) = simp append-assoc in
+      ap (sequence (rawRule old) (suc f) k l) (all ∙ ap (λ (ss : List Sym). blanks w ++ (nameText (h .0) ++ (notesText ss ++ z))) (sym b))
+      ∙ headed-back k h n ns w f l (text y w n) s t r a (node-leads old n y w d k (h .1) (s ++ t) c (p .delimits)) p v e
 
--- The streaming text of a well-formed tree without annotations means that tree, for every layout number.
-pub stream-back : (y : ℕ) (ns : Nodes) → Fines 64 Top ns → noteds ns ≡ false → meaning (streamText y ns) ≡ some ns
-unfolding meaning
-stream-back y ns h q = rw (read-back ns y h q)
+  pub marker-body : (f : ℕ) (m : Bool) (l : ℕ) (r : List ℕ) → m ≡ true → Delimits r → body (rawRule old) (suc f) m l (ascii "$ion_1_0" ++ r) ≡ some (marker, r)
+  marker-body f m l r h d =
+      body-scalar f m l (ascii "$ion_1_0" ++ r) (some (marker, r)) (word-opens _ (first-more r marker-first)) (ap (λ (b : Bool). scalarOf (rawRule old) b (ascii "$ion_1_0" ++ r)) h ∙ marker-back old r (d .ends))
+
+  pub scalar-body : (f : ℕ) (m : Bool) (l : ℕ) (s : Scalar) (r : List ℕ) → FineScalar s → Delimits r → body (rawRule old) (suc f) m l (scalarText s ++ r) ≡ some (scalar s, r)
+  scalar-body f m l s r h d = let t = scalar-told old m s r h (d .ends) in body-scalar f m l (scalarText s ++ r) (some (scalar s, r)) (t .no-bracket) (t .reads)
+
+  -- ---- trees, for every number of calls that is large enough
+
+  mutual
+    unfolding text Fine noted
+
+    pub body-back : (n : Node) (y w f d : ℕ) (k : Frame) (ss : List Sym) (r : List ℕ) → Fine d k ss n → noted n ≡ false → Delimits r → 2 * length (text y w n) ≤ f
+        → body (rawRule old) f (free k ss) d (text y w n ++ r) ≡ some (n, r)
+    body-back (scalar s) y w zero d k ss r h q e g = absurd (omega (arith, scalar-long s h))
+    body-back (scalar s) y w (suc f) d k ss r h q e g = scalar-body f (free k ss) d s r h e
+    body-back marker y w zero d k ss r h q e g = absurd (omega arith)
+    body-back marker y w (suc f) d k ss r h q e g = marker-body f (free k ss) d r (free-marker k ss h) e
+    body-back (nest i ns) y w zero zero k ss r h q e g = absurd h
+    body-back (nest i ns) y w (suc f) zero k ss r h q e g = absurd h
+    body-back (nest i ns) y w zero (suc d) k ss r h q e g = absurd (omega (arith, nest-long i y w ns (h .0)))
+    body-back (nest i ns) y w (suc f) (suc d) k ss r h q e g =
+        nest-back i y w d f (free k ss) ns r (h .0) (h .2)
+        (sequence-back ns y (deeper y w) f d i (blanks w ++ (closing i ++ r)) r (h .2) q (closing-ends i w r (h .0)) (omega (arith, nest-long i y w ns (h .0))))
+
+    pub sequence-back : (ns : Nodes) (y w f d : ℕ) (k : Frame) (t r : List ℕ) → Fines d k ns → noteds ns ≡ false → closes k (skip t) ≡ some r → suc (2 * length (texts y k w ns)) ≤ f
+        → sequence (rawRule old) f k d (texts y k w ns ++ t) ≡ some (ns, r)
+    sequence-back nil y w zero d k t r h q e g = absurd (omega arith)
+    sequence-back nil y w (suc f) d k t r h q e g = sequence-end f d k t r e
+    sequence-back (more x n ns) y w zero d k t r h q e g = absurd (omega arith)
+    sequence-back (more x n ns) y w (suc f) d k t r h q e g =
+        let z = three-false (annotated (x .1)) (noted n) (noteds ns) q in
+        let l = child-long k x n ns y w in
+        let u : List ℕ = texts y k w ns ++ t in
+        let p : Parts k (separator y k) u = parts y k u in
+        ap (sequence (rawRule old) (suc f) k d) (append-assoc (blanks w ++ nameText (x .0) ++ text y w n ++ separator y k) (texts y k w ns) t)
+        ∙ child-back k x n ns y w d f d (separator y k) u r (h .0) (no-notes (x .1) (z .0)) (h .1) p
+        (body-back n y w f d k (x .1) (separator y k ++ u) (h .1) (z .1) (p .delimits) (omega arith))
+        (sequence-back ns y w f d k t r (h .2) (z .2) e (omega arith))
+
+  -- what the text of a tree's nodes means, at top level and with all of it read
+  pub read-back : (ns : Nodes) (y : ℕ) → Fines 64 Top ns → noteds ns ≡ false → sequence (rawRule old) (suc (2 * length (streamText y ns))) Top 64 (streamText y ns) ≡ some (ns, [])
+  unfolding streamText
+  read-back ns y h q =
+      ap (sequence (rawRule old) (suc (2 * length (texts y Top 0 ns))) Top 64) (sym (append-nil (texts y Top 0 ns)))
+      ∙ sequence-back ns y 0 (suc (2 * length (texts y Top 0 ns))) 64 Top [] [] h q (unfold closes skip in refl) (omega arith)
+
+  -- The streaming text of a well-formed tree without annotations means that tree, for every layout number.
+  pub stream-back : (y : ℕ) (ns : Nodes) → Fines 64 Top ns → noteds ns ≡ false → meaning (rawRule old) (streamText y ns) ≡ some ns
+  unfolding meaning
+  stream-back y ns h q = rw (read-back ns y h q)

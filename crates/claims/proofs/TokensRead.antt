@@ -116,18 +116,20 @@ char-bytes (four a b c d e o) =
 
 -- ---- text: UTF-8, and bytes
 
-quoted-bytes : (q : ℕ) (t x r : List ℕ) → quoted q t ≡ some (x, r) → Bytes x
-unfolding quoted
-quoted-bytes q t x r e =
-    many-all character Bytes bytes-none (λ t v u y s h. bytes-append v y (char-bytes (character-char t v u s)) h)
-    (suc (length t)) q t x r (sym (characters-many (suc (length t)) q t) ∙ e)
+-- By any raw rule.
+module _ (isRaw : ℕ → Bool) where
+  quoted-bytes : (q : ℕ) (t x r : List ℕ) → quoted isRaw q t ≡ some (x, r) → Bytes x
+  unfolding quoted
+  quoted-bytes q t x r e =
+      many-all (character isRaw) Bytes bytes-none (λ t v u y s h. bytes-append v y (char-bytes (character-char isRaw t v u s)) h)
+      (suc (length t)) q t x r (sym (characters-many isRaw (suc (length t)) q t) ∙ e)
 
-quoted-text : (q : ℕ) (t : List ℕ) → Got IsText (quoted q t)
-quoted-text q t = got-of IsText (quoted q t) (λ x r e. record { bytes = quoted-bytes q t x r e; utf8 = quoted-valid q t x r e })
+  quoted-text : (q : ℕ) (t : List ℕ) → Got IsText (quoted isRaw q t)
+  quoted-text q t = got-of IsText (quoted isRaw q t) (λ x r e. record { bytes = quoted-bytes q t x r e; utf8 = quoted-valid isRaw q t x r e })
 
-pub string-text : (t : List ℕ) → Got IsText (string t)
-unfolding string
-string-text t = if-all (Got IsText) {b = starts (byte "\"") t} (λ _. quoted-text (byte "\"") (drop 1 t)) (λ _. got-none)
+  pub string-text : (t : List ℕ) → Got IsText (string isRaw t)
+  unfolding string
+  string-text t = if-all (Got IsText) {b = starts (byte "\"") t} (λ _. quoted-text (byte "\"") (drop 1 t)) (λ _. got-none)
 
 part-low : (c : ℕ) → isPart c ≡ true → c < 128
 part-low c h = go (decLt c 128)
@@ -219,13 +221,13 @@ bare-got t = go (kindOf (word t)) (kind-fits (word t))
     go Marker h = got-none
     go Refused h = got-none
 
-quoted-got : (t : List ℕ) → Got SymInRange (quotedSymbol t)
+quoted-got : (isRaw : ℕ → Bool) (t : List ℕ) → Got SymInRange (quotedSymbol isRaw t)
 unfolding quotedSymbol
-quoted-got t = got-taken IsText SymInRange Sym.text text-sym (quoted (byte "'") t) (quoted-text (byte "'") t)
+quoted-got isRaw t = got-taken IsText SymInRange Sym.text text-sym (quoted isRaw (byte "'") t) (quoted-text isRaw (byte "'") t)
 
-pub symbol-got : (t : List ℕ) → Got SymInRange (symbol t)
+pub symbol-got : (isRaw : ℕ → Bool) (t : List ℕ) → Got SymInRange (symbol isRaw t)
 unfolding symbol
-symbol-got t = if-all (Got SymInRange) {b = starts (byte "'") t} (λ _. quoted-got (drop 1 t)) (λ _. bare-got t)
+symbol-got isRaw t = if-all (Got SymInRange) {b = starts (byte "'") t} (λ _. quoted-got isRaw (drop 1 t)) (λ _. bare-got t)
 
 -- ---- scalars
 

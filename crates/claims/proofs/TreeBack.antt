@@ -3,7 +3,7 @@
 use Prim.Native.Nat.{ℕ, zero, suc, _+_, _*_, _≤_}
 use mathlib.Core.Path.{_≡_, refl, sym, ap, subst, _∙_}
 use mathlib.Core.List.{List, [], _++_, append-assoc, append-nil}
-use mathlib.Core.Bool.{true, false}
+use mathlib.Core.Bool.{Bool, true, false}
 use mathlib.Core.Option.{none, some}
 use native.Mathlib.Omega.{arith}
 use lib.ListN.{length, take, drop, length-append}
@@ -20,6 +20,7 @@ use Rattle.tape.specs.Answer.{counted, refused}
 use Rattle.tape.specs.Fine.{Bytes, Inner, Fine, Fines}
 use Rattle.tape.specs.declared.Frame.{Frame}
 use Rattle.tape.specs.declared.Frame.the-variants.{Top, List as ListF, Sexp, Struct}
+use Rattle.tokens.specs.Quoted.{rawRule}
 use Rattle.reader.specs.Grammar.{skip, opener, opens, closes, free, body, sequence, meaning}
 use Rattle.reader.specs.Outcome.{answer, leaves}
 use Rattle.writer.specs.Text.{scalarText, nameText, notesText, opening, closing, separator}
@@ -68,16 +69,6 @@ parts-between k (more h n ns) t p = rw (lead-separator k) (parts 0 k _)
 
 -- ---- what an element's text starts with
 
-element-leads : (n : Node) (d : ℕ) (k : Frame) (ss : List Sym) (r : List ℕ) → Fine d k ss n → Delimits r → Leads (element n ++ r)
-unfolding element Fine
-element-leads (scalar s) d k ss r h e = scalar-leads s r h e
-element-leads (nest i ns) zero k ss r h e = absurd h
-element-leads (nest i ns) (suc d) k ss r h e = simp append-assoc (opening-leads i _ (h .0))
-element-leads marker d k ss r h e = marker-leads r e
-
-element-long : (n : Node) (d : ℕ) (k : Frame) (ss : List Sym) → Fine d k ss n → 1 ≤ length (element n)
-element-long n d k ss h = let b = first-long (element n ++ []) (element-leads n d k ss [] h (parts-end .delimits) .begins) in omega (arith, length-append (element n) [])
-
 -- no `{` stands behind the opening bracket of a struct
 fields-brace : (d : ℕ) (ns : Nodes) (r : List ℕ) → Fines d Struct ns → starts (byte "{") (elements false Struct ns ++ (closing Struct ++ r)) ≡ false
 unfolding element lead Fine nameText closing
@@ -103,58 +94,70 @@ child-long : (k : Frame) (h : Head) (n : Node) (ns : Nodes) → length (element 
 unfolding element lead
 child-long k h n ns = rw (elements-true k ns) (simp length-append (omega arith))
 
--- ---- trees, for every number of calls that is large enough
+-- By either raw rule.
+module _ (old : Bool) where
+  -- ---- trees, for every number of calls that is large enough
 
--- a container, by what is inside it
-nest-back : (k : Frame) (d f : ℕ) (ss : List Sym) (i : Frame) (ns : Nodes) (r : List ℕ) → Inner i → Fines d i ns
-    → sequence f i d (elements false i ns ++ (closing i ++ r)) ≡ some (ns, r)
-    → body (suc f) (free k ss) (suc d) (element (nest i ns) ++ r) ≡ some (nest i ns, r)
-unfolding element
-nest-back k d f ss i ns r j h e = simp append-assoc (body-nest f (free k ss) d i (elements false i ns ++ (closing i ++ r)) ns r j (opening-opens i d ns r j h) e)
-
-mutual
+  element-leads : (n : Node) (d : ℕ) (k : Frame) (ss : List Sym) (r : List ℕ) → Fine d k ss n → Delimits r → Leads old (element n ++ r)
   unfolding element Fine
+  element-leads (scalar s) d k ss r h e = scalar-leads old s r h e
+  element-leads (nest i ns) zero k ss r h e = absurd h
+  element-leads (nest i ns) (suc d) k ss r h e = simp append-assoc (opening-leads old i _ (h .0))
+  element-leads marker d k ss r h e = marker-leads old r e
 
-  body-back : (n : Node) (f d : ℕ) (k : Frame) (ss : List Sym) (r : List ℕ) → Fine d k ss n → Delimits r → 2 * length (element n) ≤ f
-      → body f (free k ss) d (element n ++ r) ≡ some (n, r)
-  body-back (scalar s) zero d k ss r h e g = absurd (omega (arith, element-long (scalar s) d k ss h))
-  body-back (scalar s) (suc f) d k ss r h e g = scalar-body f (free k ss) d s r h e
-  body-back marker zero d k ss r h e g = absurd (omega arith)
-  body-back marker (suc f) d k ss r h e g = marker-body f (free k ss) d r (free-marker k ss h) e
-  body-back (nest i ns) zero zero k ss r h e g = absurd h
-  body-back (nest i ns) (suc f) zero k ss r h e g = absurd h
-  body-back (nest i ns) zero (suc d) k ss r h e g = absurd (omega (arith, nest-long i ns (h .0)))
-  body-back (nest i ns) (suc f) (suc d) k ss r h e g =
-      nest-back k d f ss i ns r (h .0) (h .2)
-      (sequence-back ns f d i (closing i ++ r) r (h .2) (parts-closing i r (h .0)) (closing-ends i 0 r (h .0)) (omega (arith, nest-long i ns (h .0))))
+  element-long : (n : Node) (d : ℕ) (k : Frame) (ss : List Sym) → Fine d k ss n → 1 ≤ length (element n)
+  element-long n d k ss h = let b = first-long (element n ++ []) (element-leads n d k ss [] h (parts-end .delimits) .begins) in omega (arith, length-append (element n) [])
 
-  sequence-back : (ns : Nodes) (f d : ℕ) (k : Frame) (t r : List ℕ) → Fines d k ns → Parts k [] t → closes k (skip t) ≡ some r → suc (2 * length (elements false k ns)) ≤ f
-      → sequence f k d (elements false k ns ++ t) ≡ some (ns, r)
-  sequence-back nil zero d k t r h p e g = absurd (omega arith)
-  sequence-back nil (suc f) d k t r h p e g = sequence-end f d k t r e
-  sequence-back (more x n ns) zero d k t r h p e g = absurd (omega arith)
-  sequence-back (more x n ns) (suc f) d k t r h p e g =
-      let l = child-long k x n ns in
-      let m = element-long n d k (x .1) (h .1) in
-      let u : List ℕ = elements false k ns ++ t in
-      let q : Parts k (between k ns) u = parts-between k ns t p in
-      ap (sequence (suc f) k d) (elements-more k x n ns t)
-      ∙ headed-back k x n ns 0 f d (element n) (between k ns) u r (h .0) (element-leads n d k (x .1) (between k ns ++ u) (h .1) (q .delimits)) q
-      (body-back n f d k (x .1) (between k ns ++ u) (h .1) (q .delimits) (omega arith))
-      (sequence-back ns f d k t r (h .2) p e (omega arith))
+  -- a container, by what is inside it
+  nest-back : (k : Frame) (d f : ℕ) (ss : List Sym) (i : Frame) (ns : Nodes) (r : List ℕ) → Inner i → Fines d i ns
+      → sequence (rawRule old) f i d (elements false i ns ++ (closing i ++ r)) ≡ some (ns, r)
+      → body (rawRule old) (suc f) (free k ss) (suc d) (element (nest i ns) ++ r) ≡ some (nest i ns, r)
+  unfolding element
+  nest-back k d f ss i ns r j h e = simp append-assoc (body-nest old f (free k ss) d i (elements false i ns ++ (closing i ++ r)) ns r j (opening-opens i d ns r j h) e)
 
--- what the tree text means, with all of it read
-read-back : (ns : Nodes) → Fines 64 Top ns → sequence (suc (2 * length (treeText ns))) Top 64 (treeText ns) ≡ some (ns, [])
-unfolding treeText
-read-back ns h =
-    ap (sequence (suc (2 * length (elements false Top ns))) Top 64) (sym (append-nil (elements false Top ns)))
-    ∙ sequence-back ns (suc (2 * length (elements false Top ns))) 64 Top [] [] h parts-end (unfold closes skip in refl) (omega arith)
+  mutual
+    unfolding element Fine
 
--- The tree text of well-formed nodes means these nodes, with annotations anywhere. What 5 refuses needs no exception: several top-level
--- nodes, a marker and any identifier are read back too.
-pub tree-back : (ns : Nodes) → Fines 64 Top ns → meaning (treeText ns) ≡ some ns
-unfolding meaning
-tree-back ns h = rw (read-back ns h)
+    body-back : (n : Node) (f d : ℕ) (k : Frame) (ss : List Sym) (r : List ℕ) → Fine d k ss n → Delimits r → 2 * length (element n) ≤ f
+        → body (rawRule old) f (free k ss) d (element n ++ r) ≡ some (n, r)
+    body-back (scalar s) zero d k ss r h e g = absurd (omega (arith, element-long (scalar s) d k ss h))
+    body-back (scalar s) (suc f) d k ss r h e g = scalar-body old f (free k ss) d s r h e
+    body-back marker zero d k ss r h e g = absurd (omega arith)
+    body-back marker (suc f) d k ss r h e g = marker-body old f (free k ss) d r (free-marker k ss h) e
+    body-back (nest i ns) zero zero k ss r h e g = absurd h
+    body-back (nest i ns) (suc f) zero k ss r h e g = absurd h
+    body-back (nest i ns) zero (suc d) k ss r h e g = absurd (omega (arith, nest-long i ns (h .0)))
+    body-back (nest i ns) (suc f) (suc d) k ss r h e g =
+        nest-back k d f ss i ns r (h .0) (h .2)
+        (sequence-back ns f d i (closing i ++ r) r (h .2) (parts-closing i r (h .0)) (closing-ends i 0 r (h .0)) (omega (arith, nest-long i ns (h .0))))
+
+    sequence-back : (ns : Nodes) (f d : ℕ) (k : Frame) (t r : List ℕ) → Fines d k ns → Parts k [] t → closes k (skip t) ≡ some r → suc (2 * length (elements false k ns)) ≤ f
+        → sequence (rawRule old) f k d (elements false k ns ++ t) ≡ some (ns, r)
+    sequence-back nil zero d k t r h p e g = absurd (omega arith)
+    sequence-back nil (suc f) d k t r h p e g = sequence-end old f d k t r e
+    sequence-back (more x n ns) zero d k t r h p e g = absurd (omega arith)
+    sequence-back (more x n ns) (suc f) d k t r h p e g =
+        let l = child-long k x n ns in
+        let m = element-long n d k (x .1) (h .1) in
+        let u : List ℕ = elements false k ns ++ t in
+        let q : Parts k (between k ns) u = parts-between k ns t p in
+        ap (sequence (rawRule old) (suc f) k d) (elements-more k x n ns t)
+        ∙ headed-back old k x n ns 0 f d (element n) (between k ns) u r (h .0) (element-leads n d k (x .1) (between k ns ++ u) (h .1) (q .delimits)) q
+        (body-back n f d k (x .1) (between k ns ++ u) (h .1) (q .delimits) (omega arith))
+        (sequence-back ns f d k t r (h .2) p e (omega arith))
+
+  -- what the tree text means, with all of it read
+  read-back : (ns : Nodes) → Fines 64 Top ns → sequence (rawRule old) (suc (2 * length (treeText ns))) Top 64 (treeText ns) ≡ some (ns, [])
+  unfolding treeText
+  read-back ns h =
+      ap (sequence (rawRule old) (suc (2 * length (elements false Top ns))) Top 64) (sym (append-nil (elements false Top ns)))
+      ∙ sequence-back ns (suc (2 * length (elements false Top ns))) 64 Top [] [] h parts-end (unfold closes skip in refl) (omega arith)
+
+  -- The tree text of well-formed nodes means these nodes, with annotations anywhere. What 5 refuses needs no exception: several top-level
+  -- nodes, a marker and any identifier are read back too.
+  pub tree-back : (ns : Nodes) → Fines 64 Top ns → meaning (rawRule old) (treeText ns) ≡ some ns
+  unfolding meaning
+  tree-back ns h = rw (read-back ns h)
 
 -- ---- from a tape to its tree text and back
 
@@ -163,14 +166,14 @@ pub tree-through : (t : List ℕ) → refusal t ≡ 0 → (verdict t ≡ 0) × (
 unfolding refusal
 tree-through t e = suited t (unsuited (nodesOf t)) e
 
--- For every tape that is let through: its tree text means its nodes.
-pub tree-means : (t : List ℕ) → Bytes t → refusal t ≡ 0 → meaning (treeText (nodesOf t)) ≡ some (nodesOf t)
-tree-means t b e = tree-back (nodesOf t) (tape-fine t b (tree-through t e .0))
+-- For every tape that is let through: its tree text means its nodes, by either raw rule.
+pub tree-means : (old : Bool) (t : List ℕ) → Bytes t → refusal t ≡ 0 → meaning (rawRule old) (treeText (nodesOf t)) ≡ some (nodesOf t)
+tree-means old t b e = tree-back old (nodesOf t) (tape-fine t b (tree-through t e .0))
 
 -- Reading it back with room gives the tape itself: its length is answered, and it lies at the buffer's start, the rest kept.
 pub tree-round-trip : (t b : List ℕ) → Bytes t → refusal t ≡ 0 → length t ≤ length b
     → (answer (treeText (nodesOf t)) (length b) ≡ counted (length t)) × (leaves (treeText (nodesOf t)) b ≡ t ++ drop (length t) b)
-tree-round-trip t b h e l = means-tape (treeText (nodesOf t)) t b h (tree-through t e .0) (tree-means t h e) l
+tree-round-trip t b h e l = means-tape (treeText (nodesOf t)) t b h (tree-through t e .0) (unfold rawRule in tree-means true t h e) l
 
 -- ---- which tapes have a tree text
 

@@ -79,7 +79,7 @@ tape-small t n = go (leb (length t) (min n 1_048_576)) refl
 
 pub answer-small : (t : List ℕ) (n : ℕ) → Small (answer t n)
 unfolding answer
-answer-small t n = go (meaning t)
+answer-small t n = go (meaning _ t)
   where
     go : (m : Option Nodes) → Small (on m (λ ns. tapeAnswer (tape ns) n) (refused 8))
     go none = tt

@@ -34,6 +34,8 @@ fn code_of(a: Answer) -> i64
         Answer::OutsideGrammar => -8,
         Answer::TapeTooLong => -9,
         Answer::PastText => -10,
+        Answer::OutsideOldGrammar => -13,
+        Answer::OutputTooLong => -14,
     }
 }
 

@@ -11,9 +11,9 @@ use Rattle.tape.specs.declared.answer.Answer.{Answer}
 use Rattle.tape.specs.declared.answer.Answer.the-variants as A
 
 -- by the numbers of the cases in the code, of which `Count` is 0 and `End` is 1
-pub is-refusal : (a : Answer) → OneOf (2 ∷ 3 ∷ 4 ∷ 5 ∷ 6 ∷ 7 ∷ 8 ∷ 9 ∷ 10 ∷ 11 ∷ []) (tagOf the-type a) → (outcome a ≡ refused (numberOf (outcome a))) × (0 < numberOf (outcome a))
-is-refusal (A.Count n) h = absurd (miss (2 ∷ 3 ∷ 4 ∷ 5 ∷ 6 ∷ 7 ∷ 8 ∷ 9 ∷ 10 ∷ 11 ∷ []) 0 tt h)
-is-refusal A.End h = absurd (miss (2 ∷ 3 ∷ 4 ∷ 5 ∷ 6 ∷ 7 ∷ 8 ∷ 9 ∷ 10 ∷ 11 ∷ []) 1 tt h)
+pub is-refusal : (a : Answer) → OneOf (2 ∷ 3 ∷ 4 ∷ 5 ∷ 6 ∷ 7 ∷ 8 ∷ 9 ∷ 10 ∷ 11 ∷ 12 ∷ 13 ∷ []) (tagOf the-type a) → (outcome a ≡ refused (numberOf (outcome a))) × (0 < numberOf (outcome a))
+is-refusal (A.Count n) h = absurd (miss (2 ∷ 3 ∷ 4 ∷ 5 ∷ 6 ∷ 7 ∷ 8 ∷ 9 ∷ 10 ∷ 11 ∷ 12 ∷ 13 ∷ []) 0 tt h)
+is-refusal A.End h = absurd (miss (2 ∷ 3 ∷ 4 ∷ 5 ∷ 6 ∷ 7 ∷ 8 ∷ 9 ∷ 10 ∷ 11 ∷ 12 ∷ 13 ∷ []) 1 tt h)
 is-refusal A.Misfit h = (refl, lit< tt)
 is-refusal A.BadNode h = (refl, lit< tt)
 is-refusal A.TooDeep h = (refl, lit< tt)
@@ -24,3 +24,5 @@ is-refusal A.NoLayout h = (refl, lit< tt)
 is-refusal A.OutsideGrammar h = (refl, lit< tt)
 is-refusal A.TapeTooLong h = (refl, lit< tt)
 is-refusal A.PastText h = (refl, lit< tt)
+is-refusal A.OutsideOldGrammar h = (refl, lit< tt)
+is-refusal A.OutputTooLong h = (refl, lit< tt)

@@ -78,23 +78,25 @@ module _ (text : List ℕ) (at : ℕ) where
 
 -- ---- strings
 
-marked : (t : List ℕ) → starts (byte "\"") t ≡ true → string t ≡ quoted (byte "\"") (drop 1 t)
-unfolding string
-marked t h = rw h
+-- By any raw rule.
+module _ (isRaw : ℕ → Bool) where
+  marked : (t : List ℕ) → starts (byte "\"") t ≡ true → string isRaw t ≡ quoted isRaw (byte "\"") (drop 1 t)
+  unfolding string
+  marked t h = rw h
 
-module _ (text : List ℕ) (at : ℕ) (i : at < length text) (h : getD text at 0 ≡ byte "\"") where
-  string-is : string (drop at text) ≡ quoted (byte "\"") (drop (at + 1) text)
-  string-is = marked (drop at text) (ap (starts (byte "\"")) (byte-at text at i) ∙ unfold starts in eq-eqb _ _ h) ∙ ap (quoted (byte "\"")) (next text at)
+  module _ (text : List ℕ) (at : ℕ) (i : at < length text) (h : getD text at 0 ≡ byte "\"") where
+    string-is : string isRaw (drop at text) ≡ quoted isRaw (byte "\"") (drop (at + 1) text)
+    string-is = marked (drop at text) (ap (starts (byte "\"")) (byte-at text at i) ∙ unfold starts in eq-eqb _ _ h) ∙ ap (quoted isRaw (byte "\"")) (next text at)
 
-  pub string-none : quoted (byte "\"") (drop (at + 1) text) ≡ none → taken stringNode (string (drop at text)) ≡ none
-  string-none e = taken-none stringNode (string-is ∙ e)
+    pub string-none : quoted isRaw (byte "\"") (drop (at + 1) text) ≡ none → taken stringNode (string isRaw (drop at text)) ≡ none
+    string-none e = taken-none stringNode (string-is ∙ e)
 
-  pub copied-string : {s p a e z : ℕ} {b b1 b2 : List ℕ} → s ≡ min (p + 5) limit → Copies text (suc (at + 1)) b b1 s (quoted (byte "\"") (drop (at + 1) text)) (Next a e) → Wrote b1 b2 p z (8 ∷ leBytes 4 (e - s))
-      → Read encode text (suc at) b b2 p (taken stringNode (string (drop at text))) (Next a e)
-  unfolding encode encodeScalar
-  copied-string m c w =
-      let r = copied 8 stringNode (λ x. refl) m c w in
-      (r .0, ap (taken stringNode) string-is ∙ r .1, omega (arith, r .2), r .3, r .4)
+    pub copied-string : {s p a e z : ℕ} {b b1 b2 : List ℕ} → s ≡ min (p + 5) limit → Copies text (suc (at + 1)) b b1 s (quoted isRaw (byte "\"") (drop (at + 1) text)) (Next a e) → Wrote b1 b2 p z (8 ∷ leBytes 4 (e - s))
+        → Read encode text (suc at) b b2 p (taken stringNode (string isRaw (drop at text))) (Next a e)
+    unfolding encode encodeScalar
+    copied-string m c w =
+        let r = copied 8 stringNode (λ x. refl) m c w in
+        (r .0, ap (taken stringNode) string-is ∙ r .1, omega (arith, r .2), r .3, r .4)
 
 -- ---- bare words
 
@@ -183,35 +185,37 @@ float-digit text at i lo hi =
 
 -- ---- a scalar, by its first byte
 
-pub scalar-end : (m : Bool) (text : List ℕ) (at : ℕ) → at ≡ length text → scalar m (drop at text) ≡ none
-unfolding scalar
-scalar-end m text at h = rw (end-at text at h)
-
-module _ (m : Bool) (text : List ℕ) (at : ℕ) (i : at < length text) where
-  pub scalar-string : getD text at 0 ≡ byte "\"" → scalar m (drop at text) ≡ taken stringNode (string (drop at text))
+-- By any raw rule.
+module _ (isRaw : ℕ → Bool) where
+  pub scalar-end : (m : Bool) (text : List ℕ) (at : ℕ) → at ≡ length text → scalar isRaw m (drop at text) ≡ none
   unfolding scalar
-  scalar-string h = rw (byte-at text at i, eq-eqb _ _ h)
+  scalar-end m text at h = rw (end-at text at h)
 
-  module _ (s : getD text at 0 ≡ byte "\"" → ⊥) where
-    scalar-symbol : getD text at 0 ≡ byte "'" → scalar m (drop at text) ≡ taken (λ x. Node.scalar (Scalar.symbol x)) (symbol (drop at text))
+  module _ (m : Bool) (text : List ℕ) (at : ℕ) (i : at < length text) where
+    pub scalar-string : getD text at 0 ≡ byte "\"" → scalar isRaw m (drop at text) ≡ taken stringNode (string isRaw (drop at text))
     unfolding scalar
-    scalar-symbol h = rw (byte-at text at i, ne-eqb _ _ s, eq-eqb _ _ h)
+    scalar-string h = rw (byte-at text at i, eq-eqb _ _ h)
 
-    pub scalar-quoted : (p : ℕ) (b b' : List ℕ) (r : Step) → getD text at 0 ≡ byte "'" → Read encodeSym text (suc at) b b' p (symbol (drop at text)) r → Read encode text (suc at) b b' p (scalar m (drop at text)) r
-    unfolding encode encodeScalar
-    scalar-quoted p b b' (Next a e) h g = (Node.scalar (Scalar.symbol (g .0)), scalar-symbol h ∙ rw (g .1), g .2, g .3, g .4)
-    scalar-quoted p b b' Bad h g = (scalar-symbol h ∙ rw (g .0), g .1)
-
-    module _ (q : getD text at 0 ≡ byte "'" → ⊥) where
-      pub scalar-braces : getD text at 0 ≡ byte "{" → scalar m (drop at text) ≡ braces (drop at text)
+    module _ (s : getD text at 0 ≡ byte "\"" → ⊥) where
+      scalar-symbol : getD text at 0 ≡ byte "'" → scalar isRaw m (drop at text) ≡ taken (λ x. Node.scalar (Scalar.symbol x)) (symbol isRaw (drop at text))
       unfolding scalar
-      scalar-braces h = rw (byte-at text at i, ne-eqb _ _ s, ne-eqb _ _ q, eq-eqb _ _ h)
+      scalar-symbol h = rw (byte-at text at i, ne-eqb _ _ s, eq-eqb _ _ h)
 
-      module _ (z : getD text at 0 ≡ byte "{" → ⊥) where
-        pub scalar-number : numeric (getD text at 0) ≡ true → scalar m (drop at text) ≡ numbers (drop at text)
-        unfolding scalar
-        scalar-number h = rw (byte-at text at i, ne-eqb _ _ s, ne-eqb _ _ q, ne-eqb _ _ z, h)
+      pub scalar-quoted : (p : ℕ) (b b' : List ℕ) (r : Step) → getD text at 0 ≡ byte "'" → Read encodeSym text (suc at) b b' p (symbol isRaw (drop at text)) r → Read encode text (suc at) b b' p (scalar isRaw m (drop at text)) r
+      unfolding encode encodeScalar
+      scalar-quoted p b b' (Next a e) h g = (Node.scalar (Scalar.symbol (g .0)), scalar-symbol h ∙ rw (g .1), g .2, g .3, g .4)
+      scalar-quoted p b b' Bad h g = (scalar-symbol h ∙ rw (g .0), g .1)
 
-        pub scalar-word : numeric (getD text at 0) ≡ false → scalar m (drop at text) ≡ words m (drop at text)
+      module _ (q : getD text at 0 ≡ byte "'" → ⊥) where
+        pub scalar-braces : getD text at 0 ≡ byte "{" → scalar isRaw m (drop at text) ≡ braces (drop at text)
         unfolding scalar
-        scalar-word h = rw (byte-at text at i, ne-eqb _ _ s, ne-eqb _ _ q, ne-eqb _ _ z, h)
+        scalar-braces h = rw (byte-at text at i, ne-eqb _ _ s, ne-eqb _ _ q, eq-eqb _ _ h)
+
+        module _ (z : getD text at 0 ≡ byte "{" → ⊥) where
+          pub scalar-number : numeric (getD text at 0) ≡ true → scalar isRaw m (drop at text) ≡ numbers (drop at text)
+          unfolding scalar
+          scalar-number h = rw (byte-at text at i, ne-eqb _ _ s, ne-eqb _ _ q, ne-eqb _ _ z, h)
+
+          pub scalar-word : numeric (getD text at 0) ≡ false → scalar isRaw m (drop at text) ≡ words m (drop at text)
+          unfolding scalar
+          scalar-word h = rw (byte-at text at i, ne-eqb _ _ s, ne-eqb _ _ q, ne-eqb _ _ z, h)

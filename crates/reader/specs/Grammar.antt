@@ -62,33 +62,7 @@ gap Sexp [] = none
 gap Sexp (c ∷ t) = if (blank c || eqb c (byte ")")) (some (c ∷ t)) none
 gap Struct t = comma (byte "}") (skip t)
 
--- ---- what stands before a value
-
--- Annotations are symbols, each followed by `::`, with no blank beside it
-unfoldable pub note : List ℕ → Option (Sym × List ℕ)
-note t = then (symbol t) (λ s. then (strip (ascii "::") (s .1)) (λ r. some (s .0, r)))
-
--- the annotations that a text starts with, if they are at most n
-unfoldable pub notes : ℕ → List ℕ → Option (List Sym × List ℕ)
-notes zero t = on (note t) (λ s. none) (some ([], t))
-notes (suc n) t = on (note t) (λ s. then (notes n (s .1)) (λ ss. some (s .0 ∷ ss .0, ss .1))) (some ([], t))
-
--- A field is a name, `:` and a value. Names are symbols
-unfoldable pub field : List ℕ → Option (Sym × List ℕ)
-field t = then (symbol t) (λ s. then (strip (ascii ":") (skip (s .1))) (λ r. some (s .0, skip r)))
-
--- in a struct each value has a name, elsewhere none has
-unfoldable pub name : Frame → List ℕ → Option (Option Sym × List ℕ)
-name Top t = some (none, t)
-name ListF t = some (none, t)
-name Sexp t = some (none, t)
-name Struct t = taken some (field t)
-
--- at most 16 annotations
-unfoldable pub head : Frame → List ℕ → Option (Head × List ℕ)
-head k t = then (name k t) (λ m. then (notes 16 (m .1)) (λ ss. some ((m .0, ss .0), ss .1)))
-
--- ---- values
+-- ---- values without quoted text
 
 -- `$ion_1_0` bare is the marker, at top level, unannotated
 unfoldable pub free : Frame → List Sym → Bool
@@ -134,15 +108,6 @@ braces t =
     (taken (λ s. Node.scalar (Scalar.clob s)) (clob t))
     (taken (λ s. Node.scalar (Scalar.blob s)) (blob t))
 
--- a value that is no container, told by its first byte
-unfoldable pub scalar : Bool → List ℕ → Option (Node × List ℕ)
-scalar m [] = none
-scalar m (c ∷ t) =
-    if (eqb c (byte "\"")) (taken (λ s. Node.scalar (Scalar.string s)) (string (c ∷ t)))
-    (if (eqb c (byte "'")) (taken (λ s. Node.scalar (Scalar.symbol s)) (symbol (c ∷ t)))
-    (if (eqb c (byte "{")) (braces (c ∷ t))
-    (if (numeric c) (numbers (c ∷ t)) (words m (c ∷ t)))))
-
 -- `{{` opens a clob or a blob, and no struct: a name does not start with `{`
 unfoldable pub opens : List ℕ → Option Frame
 opens [] = none
@@ -153,34 +118,73 @@ abbrev pub within : {A : Type 0} → ℕ → (ℕ → Option A) → Option A
 within zero g = none
 within (suc left) g = g left
 
--- a value with its head, by what reads the value
-abbrev pub headed : (Bool → List ℕ → Option (Node × List ℕ)) → Frame → List ℕ → Option ((Head × Node) × List ℕ)
-headed g k t = then (head k t) (λ h. then (g (free k (h .0 .1)) (h .1)) (λ n. some ((h .0, n .0), n .1)))
+-- The rules that quoted text is part of, by what a raw character may be: `oldRaw` and `strictRaw` are the two cases.
+module _ (isRaw : ℕ → Bool) where
+  -- ---- what stands before a value
 
--- A value leads into a sequence and a sequence back into values.
-unfoldable mutual
-  -- a value behind its head
-  pub body : ℕ → Bool → ℕ → List ℕ → Option (Node × List ℕ)
-  body zero m left t = none
-  body (suc f) m left t =
-      on (opens t)
-      (λ k. within left (λ l. taken (Node.nest k) (sequence f k l (drop 1 t))))
-      (scalar m t)
+  -- Annotations are symbols, each followed by `::`, with no blank beside it
+  unfoldable pub note : List ℕ → Option (Sym × List ℕ)
+  note t = then (symbol isRaw t) (λ s. then (strip (ascii "::") (s .1)) (λ r. some (s .0, r)))
 
-  -- children through the frame's end
-  pub sequence : ℕ → Frame → ℕ → List ℕ → Option (Nodes × List ℕ)
-  sequence zero k left t = none
-  sequence (suc f) k left t =
-      on (closes k (skip t))
-      (λ r. some (Nodes.nil, r))
-      (then (headed (λ m u. body f m left u) k (skip t)) (λ n.
-      then (gap k (n .1)) (λ u.
-      then (sequence f k left u) (λ ns. some (Nodes.more (n .0 .0) (n .0 .1) (ns .0), ns .1)))))
+  -- the annotations that a text starts with, if they are at most n
+  unfoldable pub notes : ℕ → List ℕ → Option (List Sym × List ℕ)
+  notes zero t = on (note t) (λ s. none) (some ([], t))
+  notes (suc n) t = on (note t) (λ s. then (notes n (s .1)) (λ ss. some (s .0 ∷ ss .0, ss .1))) (some ([], t))
 
--- a value in the frame k
-unfoldable pub value : ℕ → Frame → ℕ → List ℕ → Option ((Head × Node) × List ℕ)
-value f k left t = headed (λ m u. body f m left u) k t
+  -- A field is a name, `:` and a value. Names are symbols
+  unfoldable pub field : List ℕ → Option (Sym × List ℕ)
+  field t = then (symbol isRaw t) (λ s. then (strip (ascii ":") (skip (s .1))) (λ r. some (s .0, skip r)))
 
--- what a whole text means: the number of steps is enough
-unfoldable pub meaning : List ℕ → Option Nodes
-meaning t = then (sequence (suc (2 * length t)) Top 64 t) (λ r. some (r .0))
+  -- in a struct each value has a name, elsewhere none has
+  unfoldable pub name : Frame → List ℕ → Option (Option Sym × List ℕ)
+  name Top t = some (none, t)
+  name ListF t = some (none, t)
+  name Sexp t = some (none, t)
+  name Struct t = taken some (field t)
+
+  -- at most 16 annotations
+  unfoldable pub head : Frame → List ℕ → Option (Head × List ℕ)
+  head k t = then (name k t) (λ m. then (notes 16 (m .1)) (λ ss. some ((m .0, ss .0), ss .1)))
+
+  -- ---- values
+
+  -- a value that is no container, told by its first byte
+  unfoldable pub scalar : Bool → List ℕ → Option (Node × List ℕ)
+  scalar m [] = none
+  scalar m (c ∷ t) =
+      if (eqb c (byte "\"")) (taken (λ s. Node.scalar (Scalar.string s)) (string isRaw (c ∷ t)))
+      (if (eqb c (byte "'")) (taken (λ s. Node.scalar (Scalar.symbol s)) (symbol isRaw (c ∷ t)))
+      (if (eqb c (byte "{")) (braces (c ∷ t))
+      (if (numeric c) (numbers (c ∷ t)) (words m (c ∷ t)))))
+
+  -- a value with its head, by what reads the value
+  abbrev pub headed : (Bool → List ℕ → Option (Node × List ℕ)) → Frame → List ℕ → Option ((Head × Node) × List ℕ)
+  headed g k t = then (head k t) (λ h. then (g (free k (h .0 .1)) (h .1)) (λ n. some ((h .0, n .0), n .1)))
+
+  -- A value leads into a sequence and a sequence back into values.
+  unfoldable mutual
+    -- a value behind its head
+    pub body : ℕ → Bool → ℕ → List ℕ → Option (Node × List ℕ)
+    body zero m left t = none
+    body (suc f) m left t =
+        on (opens t)
+        (λ k. within left (λ l. taken (Node.nest k) (sequence f k l (drop 1 t))))
+        (scalar m t)
+
+    -- children through the frame's end
+    pub sequence : ℕ → Frame → ℕ → List ℕ → Option (Nodes × List ℕ)
+    sequence zero k left t = none
+    sequence (suc f) k left t =
+        on (closes k (skip t))
+        (λ r. some (Nodes.nil, r))
+        (then (headed (λ m u. body f m left u) k (skip t)) (λ n.
+        then (gap k (n .1)) (λ u.
+        then (sequence f k left u) (λ ns. some (Nodes.more (n .0 .0) (n .0 .1) (ns .0), ns .1)))))
+
+  -- a value in the frame k
+  unfoldable pub value : ℕ → Frame → ℕ → List ℕ → Option ((Head × Node) × List ℕ)
+  value f k left t = headed (λ m u. body f m left u) k t
+
+  -- what a whole text means: the number of steps is enough
+  unfoldable pub meaning : List ℕ → Option Nodes
+  meaning t = then (sequence (suc (2 * length t)) Top 64 t) (λ r. some (r .0))

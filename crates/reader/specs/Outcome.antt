@@ -5,6 +5,7 @@ use mathlib.Core.Bool.{Bool}
 use lib.ListN.{length, drop, replicate}
 use lib.Dec.{leb}
 use Rattle.output.specs.Logic.{if, on}
+use Rattle.tokens.specs.Quoted.{oldRaw}
 use Rattle.tape.specs.Tree.{tape}
 use Rattle.tape.specs.Answer.{Outcome, counted, refused}
 use Rattle.reader.specs.Grammar.{meaning}
@@ -26,8 +27,8 @@ tapeLeaves t b = if (fits t (length b)) (t ++ drop (length t) b) (zeros b)
 
 -- the answer for a text and a buffer's length: 8 where the text is outside the grammar
 unfoldable pub answer : List ℕ → ℕ → Outcome
-answer t n = on (meaning t) (λ ns. tapeAnswer (tape ns) n) (refused 8)
+answer t n = on (meaning oldRaw t) (λ ns. tapeAnswer (tape ns) n) (refused 8)
 
 -- the whole buffer after the call
 unfoldable pub leaves : List ℕ → List ℕ → List ℕ
-leaves t b = on (meaning t) (λ ns. tapeLeaves (tape ns) b) (zeros b)
+leaves t b = on (meaning oldRaw t) (λ ns. tapeLeaves (tape ns) b) (zeros b)

@@ -67,19 +67,14 @@ abbrev pub Counted : {A : Type 0} → (A → List ℕ) → (A → ℕ) → List 
 Counted {A} enc parts text lo b b' p m o (Whole at pos count) = (x : A) × (o ≡ some (x, drop at text)) × (count ≡ m + parts x) × (lo ≤ at) × (at ≤ length text) × Laid b b' p pos (enc x)
 Counted enc parts text lo b b' p m o Broken = (o ≡ none) × Kept p b b'
 
--- no annotation stands at a place, if r is false
+-- no annotation stands at a place by any raw rule, if r is false
 pub record MayNote (text : List ℕ) (at : ℕ) (r : Bool) : Type 0 where
-  pub none-here : r ≡ false → note (drop at text) ≡ none
+  pub none-here : r ≡ false → (isRaw : ℕ → Bool) → note isRaw (drop at text) ≡ none
 
 -- how many annotations there are at most
 abbrev pub Few : ℕ → Run → Type 0
 Few n (Whole at pos count) = count ≤ n
 Few n Broken = Unit
-
--- what `marks_at` says of its result, where m annotations were read before and n more may come
-pub record MarksAt (text : List ℕ) (from n : ℕ) (b b' : List ℕ) (p m : ℕ) (r : Run) : Type 0 where
-  pub told : Counted encodeSyms length text from b b' p m (notes n (drop from text)) r
-  pub few : Few (m + n) r
 
 -- how many annotations a head has
 abbrev pub noteCount : Head → ℕ
@@ -113,19 +108,26 @@ nullNode t = Node.scalar (Scalar.null t)
 unfoldable pub timedNumber : List ℕ → Option (Node × List ℕ)
 timedNumber t = or (taken (λ x. Node.scalar (Scalar.timestamp x)) (timestamp t)) (taken numeralNode (numeral t))
 
--- what is said of a value behind its head, for every number f that is large enough for the text that is left
-pub record BodyAt (text : List ℕ) (from : ℕ) (m : Bool) (left : ℕ) (b b' : List ℕ) (p : ℕ) (r : Step) : Type 0 where
-  pub told : (f : ℕ) → 2 * (length text - from) ≤ f → Read encode text (suc from) b b' p (body f m left (drop from text)) r
+-- What is said of the rules that quoted text is part of, by what a raw character may be.
+module _ (isRaw : ℕ → Bool) where
+  -- what `marks_at` says of its result, where m annotations were read before and n more may come
+  pub record MarksAt (text : List ℕ) (from n : ℕ) (b b' : List ℕ) (p m : ℕ) (r : Run) : Type 0 where
+    pub told : Counted encodeSyms length text from b b' p m (notes isRaw n (drop from text)) r
+    pub few : Few (m + n) r
 
--- what `value` says of its result
-pub record ValueAt (text : List ℕ) (from : ℕ) (k : Frame) (left : ℕ) (b b' : List ℕ) (p : ℕ) (r : Step) : Type 0 where
-  pub told : (f : ℕ) → 2 * (length text - from) ≤ f → Read encodeChild text (suc from) b b' p (value f k left (drop from text)) r
+  -- what is said of a value behind its head, for every number f that is large enough for the text that is left
+  pub record BodyAt (text : List ℕ) (from : ℕ) (m : Bool) (left : ℕ) (b b' : List ℕ) (p : ℕ) (r : Step) : Type 0 where
+    pub told : (f : ℕ) → 2 * (length text - from) ≤ f → Read encode text (suc from) b b' p (body isRaw f m left (drop from text)) r
 
--- what `sequence` says of its result
-pub record RunAt (text : List ℕ) (from : ℕ) (k : Frame) (left : ℕ) (b b' : List ℕ) (p m : ℕ) (r : Run) : Type 0 where
-  pub told : (f : ℕ) → suc (2 * (length text - from)) ≤ f → Counted encodes size text from b b' p m (sequence f k left (drop from text)) r
+  -- what `value` says of its result
+  pub record ValueAt (text : List ℕ) (from : ℕ) (k : Frame) (left : ℕ) (b b' : List ℕ) (p : ℕ) (r : Step) : Type 0 where
+    pub told : (f : ℕ) → 2 * (length text - from) ≤ f → Read encodeChild text (suc from) b b' p (value isRaw f k left (drop from text)) r
 
--- a whole text was read, its top-level nodes counted, and its tape written from the buffer's start
-abbrev pub ReadTape : List ℕ → List ℕ → List ℕ → Made → Type 0
-ReadTape text b b' (Length n count) = (ns : Nodes) × (meaning text ≡ some ns) × (count ≡ size ns) × Laid b b' 0 n (tape ns)
-ReadTape text b b' Nothing = (meaning text ≡ none) × (length b' ≡ length b)
+  -- what `sequence` says of its result
+  pub record RunAt (text : List ℕ) (from : ℕ) (k : Frame) (left : ℕ) (b b' : List ℕ) (p m : ℕ) (r : Run) : Type 0 where
+    pub told : (f : ℕ) → suc (2 * (length text - from)) ≤ f → Counted encodes size text from b b' p m (sequence isRaw f k left (drop from text)) r
+
+  -- a whole text was read, its top-level nodes counted, and its tape written from the buffer's start
+  abbrev pub ReadTape : List ℕ → List ℕ → List ℕ → Made → Type 0
+  ReadTape text b b' (Length n count) = (ns : Nodes) × (meaning isRaw text ≡ some ns) × (count ≡ size ns) × Laid b b' 0 n (tape ns)
+  ReadTape text b b' Nothing = (meaning isRaw text ≡ none) × (length b' ≡ length b)

@@ -10,6 +10,7 @@ ghost use mathlib.Core.Path.{_≡_};
 ghost use Prim.Native.Nat.{suc, _≤_};
 ghost use lib.ListN.{length, drop};
 ghost use Rattle.output.specs.Wrote.{limit};
+ghost use Rattle.tokens.specs.Quoted.{rawRule};
 ghost use Rattle.tokens.specs.Token.{symbol};
 ghost use Rattle.tape.specs.Tree.{encodeSym, encodeName, encodeNotes, encodeHead};
 ghost use Rattle.reader.specs.Grammar.{note, notes, field, name, head};
@@ -21,13 +22,13 @@ pub enum Run {
     Broken,
 }
 
-// A symbol's node. Its text is written first, its length before it then.
-pub fn symbol_at(text: &[u8], at: usize, buf: &mut [u8], pos: usize) -> Step
+// A symbol's node; `old`, here and below: by 01's raw rule. Its text is written first, its length before it then.
+pub fn symbol_at(text: &[u8], at: usize, old: bool, buf: &mut [u8], pos: usize) -> Step
     requires { ⌜ (at ≤ length (now text)) × (pos ≤ limit) ⌝ }
-    ensures { λ r. ⌜ Read encodeSym (now (text .entry)) (suc at) (now (buf .entry)) (now (buf .exit)) pos (symbol (drop at (now (text .entry)))) r ⌝ }
+    ensures { λ r. ⌜ Read encodeSym (now (text .entry)) (suc at) (now (buf .entry)) (now (buf .exit)) pos (symbol (rawRule old) (drop at (now (text .entry)))) r ⌝ }
 {
     let s = output::ahead(pos, 5);
-    let r = tokens::values::symbol_at(text, at, buf, s);
+    let r = tokens::values::symbol_at(text, at, old, buf, s);
     match r {
         SymbolRead::Text { at: a, pos: e } => {
             nodes::put_header(buf, pos, 6, e - s);
@@ -61,36 +62,36 @@ fn may_note(text: &[u8], at: usize) -> bool
 }
 
 // A symbol and `::`. It is looked for with a buffer that takes nothing of it, and written once it is there.
-fn note_at(text: &[u8], at: usize, buf: &mut [u8], pos: usize) -> Step
+fn note_at(text: &[u8], at: usize, old: bool, buf: &mut [u8], pos: usize) -> Step
     requires { ⌜ (at ≤ length (now text)) × (pos ≤ limit) ⌝ }
-    ensures { λ r. ⌜ Tried encodeSym (now (text .entry)) (suc at) (now (buf .entry)) (now (buf .exit)) pos (note (drop at (now (text .entry)))) r ⌝ }
+    ensures { λ r. ⌜ Tried encodeSym (now (text .entry)) (suc at) (now (buf .entry)) (now (buf .exit)) pos (note (rawRule old) (drop at (now (text .entry)))) r ⌝ }
 {
     if !may_note(text, at) {
         return Step::Bad;
     }
     let mut none = [0u8; 1];
-    let Step::Next { at: a, pos: _ } = symbol_at(text, at, &mut none, 0) else {
+    let Step::Next { at: a, pos: _ } = symbol_at(text, at, old, &mut none, 0) else {
         return Step::Bad;
     };
     if !words::word_stands(text, a, b"::") {
         return Step::Bad;
     }
-    let Step::Next { at: _, pos: p } = symbol_at(text, at, buf, pos) else {
+    let Step::Next { at: _, pos: p } = symbol_at(text, at, old, buf, pos) else {
         return Step::Bad;
     };
     Step::Next { at: a + 2, pos: p }
 }
 
 // More annotations, 15 at most.
-fn marks_at(text: &[u8], from: usize, buf: &mut [u8], start: usize) -> Run
+fn marks_at(text: &[u8], from: usize, old: bool, buf: &mut [u8], start: usize) -> Run
     requires { ⌜ (from ≤ length (now text)) × (start ≤ limit) ⌝ }
-    ensures { λ r. ⌜ MarksAt (now (text .entry)) from 15 (now (buf .entry)) (now (buf .exit)) start 0 r ⌝ }
+    ensures { λ r. ⌜ MarksAt (rawRule old) (now (text .entry)) from 15 (now (buf .entry)) (now (buf .exit)) start 0 r ⌝ }
 {
     let mut at = from;
     let mut pos = start;
     let mut count: usize = 0;
     loop {
-        let Step::Next { at: next, pos: p } = note_at(text, at, buf, pos) else {
+        let Step::Next { at: next, pos: p } = note_at(text, at, old, buf, pos) else {
             return Run::Whole { at, pos, count };
         };
         if count == 15 {
@@ -103,19 +104,19 @@ fn marks_at(text: &[u8], from: usize, buf: &mut [u8], start: usize) -> Run
 }
 
 // The annotations, 16 at most, with their number before them once it is known.
-fn notes_at(text: &[u8], at: usize, buf: &mut [u8], pos: usize) -> Run
+fn notes_at(text: &[u8], at: usize, old: bool, buf: &mut [u8], pos: usize) -> Run
     requires { ⌜ (at ≤ length (now text)) × (pos ≤ limit) ⌝ }
-    ensures { λ r. ⌜ Counted encodeNotes length (now (text .entry)) at (now (buf .entry)) (now (buf .exit)) pos 0 (notes 16 (drop at (now (text .entry)))) r ⌝ }
+    ensures { λ r. ⌜ Counted encodeNotes length (now (text .entry)) at (now (buf .entry)) (now (buf .exit)) pos 0 (notes (rawRule old) 16 (drop at (now (text .entry)))) r ⌝ }
 {
     let s = output::ahead(pos, 2);
-    let Step::Next { at: a, pos: p } = note_at(text, at, buf, s) else {
+    let Step::Next { at: a, pos: p } = note_at(text, at, old, buf, s) else {
         return Run::Whole { at, pos, count: 0 };
     };
     let Run::Whole {
         at: z,
         pos: e,
         count,
-    } = marks_at(text, a, buf, p)
+    } = marks_at(text, a, old, buf, p)
     else {
         return Run::Broken;
     };
@@ -128,11 +129,11 @@ fn notes_at(text: &[u8], at: usize, buf: &mut [u8], pos: usize) -> Run
 }
 
 // A name, its colon, and the blanks behind both.
-fn field_at(text: &[u8], at: usize, buf: &mut [u8], pos: usize) -> Step
+fn field_at(text: &[u8], at: usize, old: bool, buf: &mut [u8], pos: usize) -> Step
     requires { ⌜ (at ≤ length (now text)) × (pos ≤ limit) ⌝ }
-    ensures { λ r. ⌜ Read encodeSym (now (text .entry)) (suc at) (now (buf .entry)) (now (buf .exit)) pos (field (drop at (now (text .entry)))) r ⌝ }
+    ensures { λ r. ⌜ Read encodeSym (now (text .entry)) (suc at) (now (buf .entry)) (now (buf .exit)) pos (field (rawRule old) (drop at (now (text .entry)))) r ⌝ }
 {
-    let Step::Next { at: a, pos: p } = symbol_at(text, at, buf, pos) else {
+    let Step::Next { at: a, pos: p } = symbol_at(text, at, old, buf, pos) else {
         return Step::Bad;
     };
     let c = blanks::skip_blanks(text, a);
@@ -144,27 +145,27 @@ fn field_at(text: &[u8], at: usize, buf: &mut [u8], pos: usize) -> Step
 }
 
 // The name that the frame asks for.
-fn name_at(text: &[u8], at: usize, frame: Frame, buf: &mut [u8], pos: usize) -> Step
+fn name_at(text: &[u8], at: usize, old: bool, frame: Frame, buf: &mut [u8], pos: usize) -> Step
     requires { ⌜ (at ≤ length (now text)) × (pos ≤ limit) ⌝ }
-    ensures { λ r. ⌜ Read encodeName (now (text .entry)) at (now (buf .entry)) (now (buf .exit)) pos (name frame (drop at (now (text .entry)))) r ⌝ }
+    ensures { λ r. ⌜ Read encodeName (now (text .entry)) at (now (buf .entry)) (now (buf .exit)) pos (name (rawRule old) frame (drop at (now (text .entry)))) r ⌝ }
 {
     match frame {
         Frame::Top => Step::Next { at, pos },
         Frame::List => Step::Next { at, pos },
         Frame::Sexp => Step::Next { at, pos },
-        Frame::Struct => field_at(text, at, buf, pos),
+        Frame::Struct => field_at(text, at, old, buf, pos),
     }
 }
 
 // What stands before a value: how many annotations is counted.
-pub fn head_at(text: &[u8], at: usize, frame: Frame, buf: &mut [u8], pos: usize) -> Run
+pub fn head_at(text: &[u8], at: usize, old: bool, frame: Frame, buf: &mut [u8], pos: usize) -> Run
     requires { ⌜ (at ≤ length (now text)) × (pos ≤ limit) ⌝ }
-    ensures { λ r. ⌜ Counted encodeHead noteCount (now (text .entry)) at (now (buf .entry)) (now (buf .exit)) pos 0 (head frame (drop at (now (text .entry)))) r ⌝ }
+    ensures { λ r. ⌜ Counted encodeHead noteCount (now (text .entry)) at (now (buf .entry)) (now (buf .exit)) pos 0 (head (rawRule old) frame (drop at (now (text .entry)))) r ⌝ }
 {
-    let Step::Next { at: a, pos: p } = name_at(text, at, frame, buf, pos) else {
+    let Step::Next { at: a, pos: p } = name_at(text, at, old, frame, buf, pos) else {
         return Run::Broken;
     };
-    notes_at(text, a, buf, p)
+    notes_at(text, a, old, buf, p)
 }
 
 // A marker may stand at the top, behind no annotation.

@@ -12,6 +12,7 @@ use tape::answer::Answer;
 ghost use mathlib.Core.Path.{_≡_};
 ghost use Prim.Native.Nat.{min};
 ghost use lib.ListN.{length};
+ghost use Rattle.tokens.specs.Quoted.{rawRule};
 ghost use Rattle.tape.specs.Answer.{outcome};
 ghost use Rattle.reader.specs.Outcome.{answer, leaves};
 ghost use Rattle.reader.specs.Steps.{ReadTape};
@@ -22,11 +23,12 @@ pub enum Made {
     Nothing,
 }
 
-// Reads a whole text, and writes its tape at the buffer's start: the nodes, their length and their number.
-pub fn write_tape(text: &[u8], buf: &mut [u8]) -> Made
-    ensures { λ r. ⌜ ReadTape (now (text .entry)) (now (buf .entry)) (now (buf .exit)) r ⌝ }
+// Reads a whole text, by 01's raw rule if `old`, and writes its tape at the buffer's start: the nodes, their length and their number.
+pub fn write_tape(text: &[u8], old: bool, buf: &mut [u8]) -> Made
+    ensures { λ r. ⌜ ReadTape (rawRule old) (now (text .entry)) (now (buf .entry)) (now (buf .exit)) r ⌝ }
 {
-    let Run::Whole { at: _, pos, count } = values::sequence(text, 0, Frame::Top, 64, buf, 0) else {
+    let Run::Whole { at: _, pos, count } = values::sequence(text, 0, old, Frame::Top, 64, buf, 0)
+    else {
         return Made::Nothing;
     };
     let p = output::put_le(buf, pos, numbers::int::far(pos), 4);
@@ -47,7 +49,7 @@ pub fn read_text(text: &[u8], out: &mut [u8]) -> Answer
     ensures buffer { λ _. ⌜ now (out .exit) ≡ leaves (now (text .entry)) (now (out .entry)) ⌝ }
 {
     let limit = limit_of(out.len());
-    let Made::Length(n, _) = write_tape(text, &mut out[..limit]) else {
+    let Made::Length(n, _) = write_tape(text, true, &mut out[..limit]) else {
         output::zero(out);
         return Answer::OutsideGrammar;
     };

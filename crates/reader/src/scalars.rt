@@ -11,7 +11,7 @@ ghost use mathlib.Core.Path.{_≡_};
 ghost use Prim.Native.Nat.{suc, _≤_, _<_};
 ghost use lib.ListN.{length, drop, getD};
 ghost use Rattle.output.specs.Wrote.{limit};
-ghost use Rattle.tokens.specs.Quoted.{string, clob};
+ghost use Rattle.tokens.specs.Quoted.{rawRule, string, clob};
 ghost use Rattle.tokens.specs.Blob.{blob};
 ghost use Rattle.tokens.specs.Token.{nullBehind};
 ghost use Rattle.numbers.specs.Numeral.{numeral};
@@ -19,14 +19,20 @@ ghost use Rattle.tape.specs.Tree.{encode};
 ghost use Rattle.reader.specs.Grammar.{taken, words, numeralNode, numbers, numeric, braces, scalar};
 ghost use Rattle.reader.specs.Steps.{Read, stringNode, clobNode, blobNode, nullNode, timedNumber};
 
-// A string: its text is written first, its length before it then.
-fn string_at(text: &[u8], at: usize, buf: &mut [u8], pos: usize) -> Step
+// A string; `old`: by 01's raw rule. Its text is written first, its length before it then.
+fn string_at(text: &[u8], at: usize, old: bool, buf: &mut [u8], pos: usize) -> Step
     requires { ⌜ (at < length (now text)) × (pos ≤ limit) × (getD (now text) at 0 ≡ 34) ⌝ }
-    ensures { λ r. ⌜ Read encode (now (text .entry)) (suc at) (now (buf .entry)) (now (buf .exit)) pos (taken stringNode (string (drop at (now (text .entry))))) r ⌝ }
+    ensures { λ r. ⌜ Read encode (now (text .entry)) (suc at) (now (buf .entry)) (now (buf .exit)) pos (taken stringNode (string (rawRule old) (drop at (now (text .entry))))) r ⌝ }
 {
     let s = output::ahead(pos, 5);
-    let Step::Next { at: a, pos: e } = tokens::quoted::characters_at(text, at + 1, b'"', buf, s)
-    else {
+    let Step::Next { at: a, pos: e } = tokens::quoted::characters_at(
+        text,
+        at + 1,
+        b'"',
+        old,
+        buf,
+        s,
+    ) else {
         return Step::Bad;
     };
     nodes::put_header(buf, pos, 8, e - s);
@@ -191,20 +197,20 @@ fn is_numeric(b: u8) -> bool
     b == b'+'
 }
 
-// A value that is no container; `m`: a marker may stand here.
-pub fn scalar_at(text: &[u8], at: usize, m: bool, buf: &mut [u8], pos: usize) -> Step
+// A value that is no container; `old`: by 01's raw rule; `m`: a marker may stand here.
+pub fn scalar_at(text: &[u8], at: usize, old: bool, m: bool, buf: &mut [u8], pos: usize) -> Step
     requires { ⌜ (at ≤ length (now text)) × (pos ≤ limit) ⌝ }
-    ensures { λ r. ⌜ Read encode (now (text .entry)) (suc at) (now (buf .entry)) (now (buf .exit)) pos (scalar m (drop at (now (text .entry)))) r ⌝ }
+    ensures { λ r. ⌜ Read encode (now (text .entry)) (suc at) (now (buf .entry)) (now (buf .exit)) pos (scalar (rawRule old) m (drop at (now (text .entry)))) r ⌝ }
 {
     if at == text.len() {
         return Step::Bad;
     }
     let b = text[at];
     if b == b'"' {
-        return string_at(text, at, buf, pos);
+        return string_at(text, at, old, buf, pos);
     }
     if b == b'\'' {
-        return heads::symbol_at(text, at, buf, pos);
+        return heads::symbol_at(text, at, old, buf, pos);
     }
     if b == b'{' {
         return braces_at(text, at, buf, pos);

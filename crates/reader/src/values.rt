@@ -11,24 +11,33 @@ use tokens::quoted::Step;
 ghost use Prim.Native.Nat.{_≤_};
 ghost use lib.ListN.{length};
 ghost use Rattle.output.specs.Wrote.{limit};
+ghost use Rattle.tokens.specs.Quoted.{rawRule};
 ghost use Rattle.reader.specs.Steps.{ValueAt, RunAt};
 
-// Reads the value at `at` in `frame`, in which `left` more containers may be open together, and writes its nodes at `pos`. A container's
-// children are written first, their length before them then.
-pub fn value(text: &[u8], at: usize, frame: Frame, left: usize, buf: &mut [u8], pos: usize) -> Step
+// Reads the value at `at` in `frame`, in which `left` more containers may be open together, by 01's raw rule if `old`, and writes its nodes
+// at `pos`. A container's children are written first, their length before them then.
+pub fn value(
+    text: &[u8],
+    at: usize,
+    old: bool,
+    frame: Frame,
+    left: usize,
+    buf: &mut [u8],
+    pos: usize,
+) -> Step
     requires { ⌜ (at ≤ length (now text)) × (pos ≤ limit) ⌝ }
-    ensures { λ r. ⌜ ValueAt (now (text .entry)) at frame left (now (buf .entry)) (now (buf .exit)) pos r ⌝ }
+    ensures { λ r. ⌜ ValueAt (rawRule old) (now (text .entry)) at frame left (now (buf .entry)) (now (buf .exit)) pos r ⌝ }
 {
     let Run::Whole {
         at: a,
         pos: p,
         count,
-    } = heads::head_at(text, at, frame, buf, pos)
+    } = heads::head_at(text, at, old, frame, buf, pos)
     else {
         return Step::Bad;
     };
     let Opener::Opens(inner) = blanks::opener_at(text, a) else {
-        return scalars::scalar_at(text, a, heads::free_of(frame, count), buf, p);
+        return scalars::scalar_at(text, a, old, heads::free_of(frame, count), buf, p);
     };
     if left == 0 {
         return Step::Bad;
@@ -38,7 +47,7 @@ pub fn value(text: &[u8], at: usize, frame: Frame, left: usize, buf: &mut [u8], 
         at: z,
         pos: e,
         count: _,
-    } = sequence(text, a + 1, inner, left - 1, buf, s)
+    } = sequence(text, a + 1, old, inner, left - 1, buf, s)
     else {
         return Step::Bad;
     };
@@ -46,17 +55,18 @@ pub fn value(text: &[u8], at: usize, frame: Frame, left: usize, buf: &mut [u8], 
     Step::Next { at: z, pos: e }
 }
 
-// Reads the children from `from` through the frame's end, and writes their nodes from `start` on.
+// Reads the children from `from` through the frame's end, by the same rule, and writes their nodes from `start` on.
 pub fn sequence(
     text: &[u8],
     from: usize,
+    old: bool,
     frame: Frame,
     left: usize,
     buf: &mut [u8],
     start: usize,
 ) -> Run
     requires { ⌜ (from ≤ length (now text)) × (start ≤ limit) ⌝ }
-    ensures { λ r. ⌜ RunAt (now (text .entry)) from frame left (now (buf .entry)) (now (buf .exit)) start 0 r ⌝ }
+    ensures { λ r. ⌜ RunAt (rawRule old) (now (text .entry)) from frame left (now (buf .entry)) (now (buf .exit)) start 0 r ⌝ }
 {
     let mut at = from;
     let mut pos = start;
@@ -73,7 +83,7 @@ pub fn sequence(
         let Step::Next {
             at: behind,
             pos: next,
-        } = value(text, first, frame, left, buf, pos)
+        } = value(text, first, old, frame, left, buf, pos)
         else {
             return Run::Broken;
         };

@@ -1,4 +1,4 @@
--- The answers of the public functions, and document 01's number for each. Assumes nothing: these are definitions.
+-- The answers of the public functions, and the documents' number for each. Assumes nothing: these are definitions.
 use Prim.Native.Nat.{ℕ}
 use Rattle.tape.specs.declared.answer.Answer.{Answer}
 use Rattle.tape.specs.declared.answer.Answer.the-variants as A
@@ -22,6 +22,8 @@ outcome A.NoLayout = refused 7
 outcome A.OutsideGrammar = refused 8
 outcome A.TapeTooLong = refused 9
 outcome A.PastText = refused 10
+outcome A.OutsideOldGrammar = refused 13
+outcome A.OutputTooLong = refused 14
 
 -- the number of a refusal; 0 for a count and for the end mark
 abbrev pub numberOf : Outcome → ℕ

@@ -3,7 +3,7 @@ ghost use mathlib.Core.Path.{_≡_};
 ghost use Prim.Native.Nat.{_≤_};
 ghost use Rattle.tape.specs.Answer.{outcome, refused, numberOf};
 
-// The count of finished bytes, the end mark of line reading, or a refusal of document 01's table, from 1 to 10.
+// The count of finished bytes, the end mark of line reading, or a refusal of the table: 1 to 10 of document 01, 13 and 14 of document 02.
 pub enum Answer {
     Count(usize),
     End,
@@ -27,6 +27,10 @@ pub enum Answer {
     TapeTooLong,
     // 10: the session's offset is past the text
     PastText,
+    // 13: the converter's text is outside the old grammar
+    OutsideOldGrammar,
+    // 14: the converter's output is longer than the buffer
+    OutputTooLong,
 }
 
 // The refusal of a tape's own number.
@@ -63,5 +67,7 @@ pub fn number(a: Answer) -> u8
         Answer::OutsideGrammar => 8,
         Answer::TapeTooLong => 9,
         Answer::PastText => 10,
+        Answer::OutsideOldGrammar => 13,
+        Answer::OutputTooLong => 14,
     }
 }

@@ -2,6 +2,7 @@
 -- Assumes nothing.
 use Prim.Native.Nat.{ℕ, zero, suc, _<_}
 use mathlib.Core.Path.{_≡_, refl, sym, _∙_}
+use mathlib.Core.Bool.{Bool}
 use mathlib.Core.List.{List}
 use mathlib.Core.Option.{Option, none, some}
 use native.Mathlib.Omega.{arith}
@@ -21,9 +22,9 @@ many-same step s (suc f) (suc g) q t h k = go (quote q t) refl (step t) refl (s 
     go none e none i l again = many-wrong step q f t e i ∙ sym (many-wrong step q g t e i)
     go none e (some v) i (fewer l) again = many-more step q f (v .0) t (v .1) _ e i (again (v .1) l) ∙ sym (many-more step q g (v .0) t (v .1) _ e i refl)
 
-pub characters-enough : (f q : ℕ) (t : List ℕ) → length t < f → characters f q t ≡ characters (suc (length t)) q t
-characters-enough f q t h =
-    characters-many f q t ∙ many-same character character-left f (suc (length t)) q t h (omega arith) ∙ sym (characters-many (suc (length t)) q t)
+pub characters-enough : (isRaw : ℕ → Bool) (f q : ℕ) (t : List ℕ) → length t < f → characters isRaw f q t ≡ characters isRaw (suc (length t)) q t
+characters-enough isRaw f q t h =
+    characters-many isRaw f q t ∙ many-same (character isRaw) (character-left isRaw) f (suc (length t)) q t h (omega arith) ∙ sym (characters-many isRaw (suc (length t)) q t)
 
 pub clob-enough : (f : ℕ) (t : List ℕ) → length t < f → clobBytes f t ≡ clobBytes (suc (length t)) t
 clob-enough f t h = clob-many f t ∙ many-same clobByte clob-byte-left f (suc (length t)) (byte "\"") t h (omega arith) ∙ sym (clob-many (suc (length t)) t)

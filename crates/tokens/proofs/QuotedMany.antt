@@ -16,13 +16,14 @@ use Rattle.output.specs.Wrote.{Wrote, limit}
 use Rattle.output.proofs.Laws.{wrote-none, wrote-then}
 use Rattle.text_rules.specs.Texts.{starts}
 use Rattle.text_rules.specs.Utf8.{charAt}
-use Rattle.tokens.specs.Quoted.{isRaw, raw, quote, character, characters, quoted, rawByte, clobByte, clobBytes}
+use Rattle.tokens.specs.Quoted.{strictRaw, rawRule, raw, quote, character, characters, quoted, rawByte, clobByte, clobBytes}
 use Rattle.tokens.specs.Steps.{Kept, Copied, Copies, isPlain, isPlainByte, RunTo}
 use Rattle.tokens.specs.declared.quoted.Step.{Step}
 use Rattle.tokens.specs.declared.quoted.Step.the-variants.{Next, Bad}
 use Rattle.text_rules.proofs.EscapesLaws.{byte-at}
 use Rattle.text_rules.proofs.Utf8Chars.{ascii}
 use Rattle.tokens.proofs.Keeping.{kept-all, wrote-then-kept}
+use Rattle.tokens.proofs.QuotedSteps.{rule-both}
 
 -- what is read of a text: the bytes that it means, and the text behind it
 abbrev pub Read : Type 0
@@ -35,10 +36,10 @@ unfoldable pub many : (List ℕ → Read) → ℕ → ℕ → List ℕ → Read
 many step zero q t = none
 many step (suc f) q t = on (quote q t) (λ r. some ([], r)) (then (step t) (λ v. then (many step f q (v .1)) (prefix (v .0))))
 
-pub characters-many : (f q : ℕ) (t : List ℕ) → characters f q t ≡ many character f q t
+pub characters-many : (isRaw : ℕ → Bool) (f q : ℕ) (t : List ℕ) → characters isRaw f q t ≡ many (character isRaw) f q t
 unfolding characters many
-characters-many zero q t = refl
-characters-many (suc f) q t = ap (λ (g : List ℕ → Read). on (quote q t) (λ r. some ([], r)) (then (character t) (λ v. then (g (v .1)) (prefix (v .0))))) (fun-ext (λ u. characters-many f q u))
+characters-many isRaw zero q t = refl
+characters-many isRaw (suc f) q t = ap (λ (g : List ℕ → Read). on (quote q t) (λ r. some ([], r)) (then (character isRaw t) (λ v. then (g (v .1)) (prefix (v .0))))) (fun-ext (λ u. characters-many isRaw f q u))
 
 pub clob-many : (f : ℕ) (t : List ℕ) → clobBytes f t ≡ many clobByte f (byte "\"") t
 unfolding clobBytes many
@@ -167,10 +168,10 @@ module _ {step : List ℕ → Read} {q : ℕ} {text : List ℕ} where
 
 -- ---- with the fuel of the definitions
 
-pub quoted-at : {q : ℕ} {text : List ℕ} {at : ℕ} {b b' : List ℕ} {p : ℕ} (r : Step) → ManyAt character q text at b b' p r → Copies text (suc at) b b' p (quoted q (drop at text)) r
+pub quoted-at : (isRaw : ℕ → Bool) {q : ℕ} {text : List ℕ} {at : ℕ} {b b' : List ℕ} {p : ℕ} (r : Step) → ManyAt (character isRaw) q text at b b' p r → Copies text (suc at) b b' p (quoted isRaw q (drop at text)) r
 unfolding quoted
-quoted-at {q} {text} {at} {b} {b'} {p} r g = record {
-  told = subst (λ (o : Read). Copied text (suc at) b b' p o r) (sym (characters-many (suc (length (drop at text))) q (drop at text))) (g .told (suc (length (drop at text))) (omega (arith, length-drop at text)));
+quoted-at isRaw {q} {text} {at} {b} {b'} {p} r g = record {
+  told = subst (λ (o : Read). Copied text (suc at) b b' p o r) (sym (characters-many isRaw (suc (length (drop at text))) q (drop at text))) (g .told (suc (length (drop at text))) (omega (arith, length-drop at text)));
 }
 
 pub clob-bytes-at : {text : List ℕ} {at : ℕ} {b b' : List ℕ} {p : ℕ} (r : Step) → ManyAt clobByte (byte "\"") text at b b' p r → Copies text (suc at) b b' p (clobBytes (suc (length (drop at text))) (drop at text)) r
@@ -187,14 +188,14 @@ all4 true true false d e = absurd (let n : _≡_ {A = ℕ} 0 1 = cc in omega ari
 all4 true false c d e = absurd (let n : _≡_ {A = ℕ} 0 1 = cc in omega arith)
 all4 false b c d e = absurd (let n : _≡_ {A = ℕ} 0 1 = cc in omega arith)
 
-pub plain-text : (q : ℕ) → Plain (isPlain q) character q
+pub plain-text : (old : Bool) (q : ℕ) → Plain (isPlain q) (character (rawRule old)) q
 unfolding isPlain character raw starts
-plain-text q = record {
-  other = λ c e. not-true (eqb c q) (all4 (ltb c 0x80) (isRaw c) (not (eqb c (byte "\\"))) (not (eqb c q)) e .3);
+plain-text old q = record {
+  other = λ c e. not-true (eqb c q) (all4 (strictRaw c) (ltb c 0x80) (not (eqb c (byte "\\"))) (not (eqb c q)) e .3);
   piece = λ c t e.
-      let a = all4 (ltb c 0x80) (isRaw c) (not (eqb c (byte "\\"))) (not (eqb c q)) e in
-      let one : charAt (c ∷ t) 0 ≡ 1 = ascii c _ _ _ (ltb-true c 128 (a .0)) in
-      rw (not-true (eqb c (byte "\\")) (a .2), a .1, one);
+      let a = all4 (strictRaw c) (ltb c 0x80) (not (eqb c (byte "\\"))) (not (eqb c q)) e in
+      let one : charAt (c ∷ t) 0 ≡ 1 = ascii c _ _ _ (ltb-true c 128 (a .1)) in
+      rw (not-true (eqb c (byte "\\")) (a .2), rule-both old c (a .0), one);
 }
 
 pub plain-byte : Plain isPlainByte clobByte (byte "\"")

@@ -1,26 +1,27 @@
 -- The steps of reading quoted text and clobs at a place of a text. Assumes nothing.
 use Prim.Native.Nat.{ℕ, suc, _+_, _*_, _^_, _≤_, _<_}
-use mathlib.Core.Path.{_≡_, refl, _∙_}
-use mathlib.Core.Bool.{Bool, true, false, not, _&&_}
+use mathlib.Core.Path.{_≡_, refl, sym, _∙_}
+use mathlib.Core.Bool.{Bool, true, false, not, _&&_, _||_}
 use mathlib.Core.List.{List, [], _∷_}
 use mathlib.Core.Option.{Option, none, some}
 use native.Mathlib.Nat.{add-zero, pow-suc, pow-le-pow-right}
 use native.Mathlib.Numerals.{add-one}
 use native.Mathlib.Decide.{decLe}
 use native.Mathlib.Omega.{arith}
-use lib.Dec.{eqb, leb}
+use lib.Dec.{eqb, leb, ltb}
 use lib.ListN.{length, take, drop, getD, drop-of-length-le}
 use lib.Seq.{drop-drop, getD-drop}
-use borrow.Author.Tests.{lt-ltb, le-leb, lt-leb, ne-eqb}
+use borrow.Author.Tests.{le-leb, lt-leb, ne-eqb}
 use Rattle.output.specs.Logic.{if, then, byte}
 use Rattle.text_rules.specs.Texts.{starts}
 use Rattle.text_rules.specs.Utf8.{charAt, isScalar, utf8}
 use Rattle.text_rules.specs.Escapes.{hexValue, hex}
-use Rattle.tokens.specs.Quoted.{scalarEscape, letterEscape, escape, isRaw, raw, character, byteEscape, rawByte, clobByte}
+use Rattle.tokens.specs.Quoted.{scalarEscape, letterEscape, escape, oldRaw, strictRaw, rawRule, raw, character, byteEscape, rawByte, clobByte}
 use Rattle.tokens.specs.Steps.{Copies, isPlain, RunTo}
 use Rattle.tokens.specs.declared.quoted.Step.{Step}
 use Rattle.tokens.specs.declared.quoted.Step.the-variants.{Next, Bad}
 use Rattle.text_rules.proofs.EscapesLaws.{byte-at}
+use Rattle.text_rules.proofs.DigitLaws.{never}
 use Rattle.text_rules.proofs.Utf8Chars.{char-drop}
 
 -- ---- runs
@@ -58,17 +59,46 @@ hex-short w v t i h = let e : drop i t ≡ [] = drop-of-length-le t {i = i} h in
 
 -- ---- characters
 
+-- what Ion's raw rule takes, 01's takes too
+pub rule-both : (old : Bool) (c : ℕ) → strictRaw c ≡ true → rawRule old c ≡ true
+unfolding rawRule oldRaw strictRaw
+rule-both true c h = rw (ne-eqb c 10 (λ e. never (sym (rw e at h))), ne-eqb c 13 (λ e. never (sym (rw e at h))))
+rule-both false c h = h
+
+-- both take every byte that is no control
+pub rule-plain : (old : Bool) (c : ℕ) → 0x20 ≤ c → rawRule old c ≡ true
+rule-plain old c h = rule-both old c (unfold strictRaw in rw (le-leb 0x20 c h))
+
+-- and neither takes LF or CR
+pub rule-lf : (old : Bool) (c : ℕ) → c ≡ 10 → rawRule old c ≡ false
+unfolding rawRule oldRaw strictRaw
+rule-lf true c e = rw e
+rule-lf false c e = rw e
+
+pub rule-cr : (old : Bool) (c : ℕ) → c ≡ 13 → rawRule old c ≡ false
+unfolding rawRule oldRaw strictRaw
+rule-cr true c e = rw e
+rule-cr false c e = rw e
+
+pub rule-old : (old : Bool) (c : ℕ) → old ≡ true → (c ≡ 10 → ⊥) → (c ≡ 13 → ⊥) → rawRule old c ≡ true
+unfolding rawRule oldRaw
+rule-old old c e m n = rw (e, ne-eqb c 10 m, ne-eqb c 13 n)
+
+pub rule-strict : (old : Bool) (c : ℕ) → old ≡ false → c < 0x20 → rawRule old c ≡ eqb c 9 || eqb c 11 || eqb c 12
+unfolding rawRule strictRaw
+rule-strict old c e l = rw (e, lt-leb 0x20 c l)
+
 pub starts-at : (b : ℕ) (t : List ℕ) (i : ℕ) → i < length t → starts b (drop i t) ≡ eqb (getD t i 0) b
 unfolding starts
 starts-at b t i h = rw (byte-at t i h)
 
-pub raw-at : (t : List ℕ) (i : ℕ) → i < length t → raw (drop i t) ≡ if (isRaw (getD t i 0) && leb 1 (charAt t i)) (some (take (charAt t i) (drop i t), drop (i + charAt t i) t)) none
-raw-at t i h =
+pub raw-at : (isRaw : ℕ → Bool) (t : List ℕ) (i : ℕ) → i < length t → raw isRaw (drop i t) ≡ if (isRaw (getD t i 0) && leb 1 (charAt t i)) (some (take (charAt t i) (drop i t), drop (i + charAt t i) t)) none
+raw-at isRaw t i h =
     let z : 0 < length (getD t i 0 ∷ drop (i + 1) t) = omega arith in
     whole (drop i t) (rw (byte-at t i h) z)
     ∙ rw (char-drop t i, drop-drop (charAt t i) i t, getD-drop i t 0 0, add-zero i)
   where
-    whole : (u : List ℕ) → 0 < length u → raw u ≡ if (isRaw (getD u 0 0) && leb 1 (charAt u 0)) (some (take (charAt u 0) u, drop (charAt u 0) u)) none
+    whole : (u : List ℕ) → 0 < length u → raw isRaw u ≡ if (isRaw (getD u 0 0) && leb 1 (charAt u 0)) (some (take (charAt u 0) u, drop (charAt u 0) u)) none
     whole [] l = absurd (omega arith)
     whole (c ∷ u) l = unfold raw in refl
 
@@ -84,20 +114,40 @@ hex-fits x i w h l k =
 
 -- ---- plain bytes
 
-pub plain-last : (q b : ℕ) → b < 128 → (b ≡ 10 → ⊥) → (b ≡ 13 → ⊥) → (b ≡ byte "\\" → ⊥) → isPlain q b ≡ not (eqb b q)
-unfolding isPlain isRaw
-plain-last q b h l m n = rw (lt-ltb b 128 h, ne-eqb b 10 l, ne-eqb b 13 m, ne-eqb b 92 n)
+pub plain-last : (q b : ℕ) → leb 0x20 b && ltb b 0x80 ≡ true → (b ≡ byte "\\" → ⊥) → isPlain q b ≡ not (eqb b q)
+unfolding isPlain strictRaw
+plain-last q b h n = rw (ne-eqb b 92 n) (go (leb 0x20 b) (ltb b 0x80) h)
+  where
+    go : (x y : Bool) → x && y ≡ true → ((x || eqb b 9 || eqb b 11 || eqb b 12) && y && true && not (eqb b q)) ≡ not (eqb b q)
+    go true true h = refl
+    go true false h = never (sym h)
+    go false y h = never (sym h)
+
+-- tab, 11 and 12
+pub plain-blank : (q b c : ℕ) → strictRaw c && ltb c 0x80 && not (eqb c (byte "\\")) ≡ true → b ≡ c → isPlain q b ≡ not (eqb b q)
+unfolding isPlain
+plain-blank q b c h e = rw (e, h)
+
+-- any other byte: a control, or from hex 80 on
+pub plain-other : (q b : ℕ) → leb 0x20 b && ltb b 0x80 ≡ false → (b ≡ 9 → ⊥) → (b ≡ 11 → ⊥) → (b ≡ 12 → ⊥) → isPlain q b ≡ false
+unfolding isPlain strictRaw
+plain-other q b h l m n = rw (ne-eqb b 9 l, ne-eqb b 11 m, ne-eqb b 12 n) (go (leb 0x20 b) (ltb b 0x80) h)
+  where
+    go : (x y : Bool) → x && y ≡ false → ((x || false || false || false) && y && not (eqb b (byte "\\")) && not (eqb b q)) ≡ false
+    go true true h = never h
+    go true false h = refl
+    go false y h = refl
 
 -- ---- which rule a byte leads to
 
 module _ (t : List ℕ) (i : ℕ) (h : i < length t) where
-  pub character-escape : getD t i 0 ≡ byte "\\" → character (drop i t) ≡ escape (drop (i + 1) t)
+  pub character-escape : (isRaw : ℕ → Bool) → getD t i 0 ≡ byte "\\" → character isRaw (drop i t) ≡ escape (drop (i + 1) t)
   unfolding character
-  character-escape e = rw (starts-at (byte "\\") t i h, e, drop-drop 1 i t)
+  character-escape isRaw e = rw (starts-at (byte "\\") t i h, e, drop-drop 1 i t)
 
-  pub character-raw : (getD t i 0 ≡ byte "\\" → ⊥) → character (drop i t) ≡ raw (drop i t)
+  pub character-raw : (isRaw : ℕ → Bool) → (getD t i 0 ≡ byte "\\" → ⊥) → character isRaw (drop i t) ≡ raw isRaw (drop i t)
   unfolding character
-  character-raw n = rw (starts-at (byte "\\") t i h, ne-eqb _ _ n)
+  character-raw isRaw n = rw (starts-at (byte "\\") t i h, ne-eqb _ _ n)
 
   pub escape-x : getD t i 0 ≡ byte "x" → escape (drop i t) ≡ scalarEscape 2 (drop (i + 1) t)
   unfolding escape

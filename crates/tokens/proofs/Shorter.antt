@@ -17,7 +17,7 @@ use Rattle.text_rules.specs.Base64.{base64Bytes}
 use Rattle.text_rules.specs.declared.words.Kind.{Kind}
 use Rattle.text_rules.specs.declared.words.Kind.the-variants.{Refused}
 use Rattle.text_rules.proofs.WordsLaws.{same-is, kind-nothing}
-use Rattle.tokens.specs.Quoted.{quote, scalarEscape, letterEscape, escape, isRaw, raw, character, quoted, string, byteEscape, rawByte, clobByte, clobBytes, clob}
+use Rattle.tokens.specs.Quoted.{quote, scalarEscape, letterEscape, escape, raw, character, quoted, string, byteEscape, rawByte, clobByte, clobBytes, clob}
 use Rattle.tokens.specs.Blob.{untilBrace, blobRest, blob}
 use Rattle.tokens.specs.Token.{wordSymbol, bareSymbol, quotedSymbol, symbol, typeOf, nullBehind, nanWord, spelled, float}
 use Rattle.tokens.proofs.QuotedMany.{Read, many, characters-many, clob-many}
@@ -129,16 +129,18 @@ both : (x y : Bool) → (x && y) ≡ true → y ≡ true
 both true y e = e
 both false y e = absurd (let z : _≡_ {A = ℕ} 0 1 = cc in omega arith)
 
-raw-left : (t : List ℕ) → Left (length t) (raw t)
-unfolding raw
-raw-left [] = unread
-raw-left (c ∷ t) =
-    let n = charAt (c ∷ t) 0 in
-    left-if (isRaw c && leb 1 n) (λ e. fewer (omega (arith, leb-true 1 n (both (isRaw c) (leb 1 n) e), length-drop n (c ∷ t)))) (λ _. unread)
+-- By any raw rule.
+module _ (isRaw : ℕ → Bool) where
+  raw-left : (t : List ℕ) → Left (length t) (raw isRaw t)
+  unfolding raw
+  raw-left [] = unread
+  raw-left (c ∷ t) =
+      let n = charAt (c ∷ t) 0 in
+      left-if (isRaw c && leb 1 n) (λ e. fewer (omega (arith, leb-true 1 n (both (isRaw c) (leb 1 n) e), length-drop n (c ∷ t)))) (λ _. unread)
 
-pub character-left : (t : List ℕ) → Left (length t) (character t)
-unfolding character
-character-left t = left-if (starts (byte "\\") t) (λ e. left-more (let l = behind-byte (byte "\\") t e in omega arith) (escape-left (drop 1 t))) (λ _. raw-left t)
+  pub character-left : (t : List ℕ) → Left (length t) (character isRaw t)
+  unfolding character
+  character-left t = left-if (starts (byte "\\") t) (λ e. left-more (let l = behind-byte (byte "\\") t e in omega arith) (escape-left (drop 1 t))) (λ _. raw-left t)
 
 -- pieces up to a mark
 many-left : (step : List ℕ → Read) → ((t : List ℕ) → Left (length t) (step t)) → (f q : ℕ) (t : List ℕ) → Left (length t) (many step f q t)
@@ -148,13 +150,15 @@ many-left step h (suc f) q t =
     left-on (quote q t) _ _ (λ r e. fewer (quote-left q t r e)) (λ _.
     left-then (step t) _ (h t) (λ v l. left-then (many step f q (v .1)) _ (many-left step h f q (v .1)) (λ vs k. fewer (omega arith))))
 
-quoted-left : (q : ℕ) (t : List ℕ) → Left (length t) (quoted q t)
-unfolding quoted
-quoted-left q t = subst (Left (length t)) (sym (characters-many (suc (length t)) q t)) (many-left character character-left (suc (length t)) q t)
+-- By any raw rule.
+module _ (isRaw : ℕ → Bool) where
+  quoted-left : (q : ℕ) (t : List ℕ) → Left (length t) (quoted isRaw q t)
+  unfolding quoted
+  quoted-left q t = subst (Left (length t)) (sym (characters-many isRaw (suc (length t)) q t)) (many-left (character isRaw) (character-left isRaw) (suc (length t)) q t)
 
-pub string-left : (t : List ℕ) → Left (length t) (string t)
-unfolding string
-string-left t = left-if (starts (byte "\"") t) (λ e. left-more (let l = behind-byte (byte "\"") t e in omega arith) (quoted-left (byte "\"") (drop 1 t))) (λ _. unread)
+  pub string-left : (t : List ℕ) → Left (length t) (string isRaw t)
+  unfolding string
+  string-left t = left-if (starts (byte "\"") t) (λ e. left-more (let l = behind-byte (byte "\"") t e in omega arith) (quoted-left (byte "\"") (drop 1 t))) (λ _. unread)
 
 -- ---- clobs
 
@@ -200,10 +204,10 @@ bare-left t = left-after (wordSymbol (kindOf (word t)) (word t)) _ (λ s e. fewe
     clash : {A : Type 0} {o : Option A} {a : A} → o ≡ none → o ≡ some a → ⊥
     clash h e = let z : _≡_ {A = ℕ} 0 1 = cc in omega arith
 
-pub symbol-left : (t : List ℕ) → Left (length t) (symbol t)
+pub symbol-left : (isRaw : ℕ → Bool) (t : List ℕ) → Left (length t) (symbol isRaw t)
 unfolding symbol quotedSymbol
-symbol-left t =
-    left-if (starts (byte "'") t) (λ e. left-then (quoted (byte "'") (drop 1 t)) _ (quoted-left (byte "'") (drop 1 t)) (λ v h. fewer (let l = behind-byte (byte "'") t e in omega arith))) (λ _. bare-left t)
+symbol-left isRaw t =
+    left-if (starts (byte "'") t) (λ e. left-then (quoted isRaw (byte "'") (drop 1 t)) _ (quoted-left isRaw (byte "'") (drop 1 t)) (λ v h. fewer (let l = behind-byte (byte "'") t e in omega arith))) (λ _. bare-left t)
 
 -- ---- nulls and floats
 

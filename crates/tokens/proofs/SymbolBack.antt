@@ -16,7 +16,7 @@ use Rattle.text_rules.specs.Utf8.{valid}
 use Rattle.text_rules.specs.Escapes.{textBody}
 use Rattle.text_rules.specs.Text.{marked, symbolText, symbolIdText}
 use Rattle.text_rules.specs.Text.{Sym}
-use Rattle.tokens.specs.Quoted.{symbolMark}
+use Rattle.tokens.specs.Quoted.{symbolMark, rawRule}
 use Rattle.tokens.specs.Token.{wordSymbol, bareSymbol, quotedSymbol, symbol}
 use Rattle.text_rules.specs.WordSteps.{isBare}
 use Rattle.text_rules.specs.declared.words.Kind.{Kind}
@@ -41,15 +41,15 @@ quote-part : isPart (byte "'") ≡ false
 unfolding isPart isStart isDigit
 quote-part = refl
 
-symbol-word : (c : ℕ) (t : List ℕ) → isPart c ≡ true → symbol (c ∷ t) ≡ bareSymbol (c ∷ t)
+symbol-word : (isRaw : ℕ → Bool) (c : ℕ) (t : List ℕ) → isPart c ≡ true → symbol isRaw (c ∷ t) ≡ bareSymbol (c ∷ t)
 unfolding symbol starts
-symbol-word c t h = rw (unlike c 39 h quote-part)
+symbol-word isRaw c t h = rw (unlike c 39 h quote-part)
 
-bare-back : (s r : List ℕ) → isBare s ≡ true → ended r ≡ true → symbol (s ++ r) ≡ some (Sym.text s, r)
-bare-back [] r h e = never (sym (let b = bare-is [] h in unfold isIdentifier in b .identifier))
-bare-back (c ∷ w) r h e =
+bare-back : (isRaw : ℕ → Bool) (s r : List ℕ) → isBare s ≡ true → ended r ≡ true → symbol isRaw (s ++ r) ≡ some (Sym.text s, r)
+bare-back isRaw [] r h e = never (sym (let b = bare-is [] h in unfold isIdentifier in b .identifier))
+bare-back isRaw (c ∷ w) r h e =
     let i = identifier-parts c w (bare-is (c ∷ w) h .identifier) in
-    symbol-word c (w ++ r) (start-part c (i .0))
+    symbol-word isRaw c (w ++ r) (start-part c (i .0))
     ∙ word-symbol (c ∷ w) r Text (Sym.text (c ∷ w)) (i .1) (bare-kind (c ∷ w) h) refl (stops r e)
 
 -- ---- `$` and a number
@@ -77,23 +77,23 @@ dollar-word : (n : ℕ) → behindWord (symbolIdText n) ≡ []
 unfolding symbolIdText behindWord
 dollar-word n = rw dollar-part (behind-digits (digits n) (digits-digits n))
 
-pub symbol-id-back : (n : ℕ) (r : List ℕ) → n < 2 ^ 32 → ended r ≡ true → symbol (symbolIdText n ++ r) ≡ some (Sym.id n, r)
-symbol-id-back n r h e =
-    let b : symbol (symbolIdText n ++ r) ≡ bareSymbol (symbolIdText n ++ r) = unfold symbolIdText in symbol-word 36 (digits n ++ r) dollar-part in
+pub symbol-id-back : (isRaw : ℕ → Bool) (n : ℕ) (r : List ℕ) → n < 2 ^ 32 → ended r ≡ true → symbol isRaw (symbolIdText n ++ r) ≡ some (Sym.id n, r)
+symbol-id-back isRaw n r h e =
+    let b : symbol isRaw (symbolIdText n ++ r) ≡ bareSymbol (symbolIdText n ++ r) = unfold symbolIdText in symbol-word isRaw 36 (digits n ++ r) dollar-part in
     b ∙ word-symbol (symbolIdText n) r (Number n) (Sym.id n) (dollar-word n) (id-kind n h) refl (stops r e)
 
 -- ---- quoted symbols, by the round trip of quoted text
 
-marked-back : (s r : List ℕ) → valid s ≡ true → symbol (marked (byte "'") s ++ r) ≡ some (Sym.text s, r)
+marked-back : (old : Bool) (s r : List ℕ) → valid s ≡ true → symbol (rawRule old) (marked (byte "'") s ++ r) ≡ some (Sym.text s, r)
 unfolding symbol starts quotedSymbol
-marked-back s r h = rw (append-assoc (textBody s) (byte "'" ∷ []) r, quoted-back symbolMark s r h)
+marked-back old s r h = rw (append-assoc (textBody s) (byte "'" ∷ []) r, quoted-back old symbolMark s r h)
 
-pub symbol-back : (s r : List ℕ) → valid s ≡ true → ended r ≡ true → symbol (symbolText s ++ r) ≡ some (Sym.text s, r)
-symbol-back s r h e = go (isBare s) refl
+pub symbol-back : (old : Bool) (s r : List ℕ) → valid s ≡ true → ended r ≡ true → symbol (rawRule old) (symbolText s ++ r) ≡ some (Sym.text s, r)
+symbol-back old s r h e = go (isBare s) refl
   where
-    go : (b : Bool) → isBare s ≡ b → symbol (symbolText s ++ r) ≡ some (Sym.text s, r)
-    go true i = rw (symbol-bare s i) (bare-back s r i e)
-    go false i = rw (symbol-marked s i) (marked-back s r h)
+    go : (b : Bool) → isBare s ≡ b → symbol (rawRule old) (symbolText s ++ r) ≡ some (Sym.text s, r)
+    go true i = rw (symbol-bare s i) (bare-back (rawRule old) s r i e)
+    go false i = rw (symbol-marked s i) (marked-back old s r h)
 
 -- ---- the words and first bytes of what is written, which tell a symbol from other tokens
 

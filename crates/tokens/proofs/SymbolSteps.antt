@@ -2,7 +2,7 @@
 use Prim.Native.Nat.{ℕ, suc, _+_, _-_, _≤_, _<_}
 use mathlib.Core.Path.{_≡_, refl, sym, ap, _∙_}
 use mathlib.Core.List.{List, []}
-use mathlib.Core.Bool.{true, false}
+use mathlib.Core.Bool.{Bool, true, false}
 use mathlib.Core.Option.{Option, none, some}
 use native.Mathlib.Omega.{arith}
 use lib.ListN.{length, take, drop, getD}
@@ -63,35 +63,37 @@ module _ {text : List ℕ} {at : ℕ} {w : Word} (a : WordAt text at w) {b b' : 
 
 -- ---- a symbol, by its first byte
 
-unmarked : (t : List ℕ) → starts (byte "'") t ≡ false → symbol t ≡ bareSymbol t
-unfolding symbol
-unmarked t h = rw h
+-- By any raw rule.
+module _ (isRaw : ℕ → Bool) where
+  unmarked : (t : List ℕ) → starts (byte "'") t ≡ false → symbol isRaw t ≡ bareSymbol t
+  unfolding symbol
+  unmarked t h = rw h
 
-pub no-symbol : symbol [] ≡ none
-unfolding starts word
-no-symbol = unmarked [] refl ∙ bare-none [] Refused kind-nothing refl
+  pub no-symbol : symbol isRaw [] ≡ none
+  unfolding starts word
+  no-symbol = unmarked [] refl ∙ bare-none [] Refused kind-nothing refl
 
-module _ (text : List ℕ) (at : ℕ) where
-  pub is-bare : at < length text → (getD text at 0 ≡ byte "'" → ⊥) → bareSymbol (drop at text) ≡ symbol (drop at text)
-  is-bare h n = sym (unmarked (drop at text) (ap (starts (byte "'")) (byte-at text at h) ∙ unfold starts in ne-eqb _ _ n))
+  module _ (text : List ℕ) (at : ℕ) where
+    pub is-bare : at < length text → (getD text at 0 ≡ byte "'" → ⊥) → bareSymbol (drop at text) ≡ symbol isRaw (drop at text)
+    is-bare h n = sym (unmarked (drop at text) (ap (starts (byte "'")) (byte-at text at h) ∙ unfold starts in ne-eqb _ _ n))
 
-  is-quoted : at < length text → getD text at 0 ≡ byte "'" → (o : Option (List ℕ × List ℕ)) → quoted (byte "'") (drop (at + 1) text) ≡ o → symbol (drop at text) ≡ then o (λ r. some (Sym.text (r .0), r .1))
-  unfolding symbol quotedSymbol
-  is-quoted h m o e =
-      let s : starts (byte "'") (drop at text) ≡ true = ap (starts (byte "'")) (byte-at text at h) ∙ unfold starts in eq-eqb _ _ m in
-      rw (s, next text at, e)
+    is-quoted : at < length text → getD text at 0 ≡ byte "'" → (o : Option (List ℕ × List ℕ)) → quoted isRaw (byte "'") (drop (at + 1) text) ≡ o → symbol isRaw (drop at text) ≡ then o (λ r. some (Sym.text (r .0), r .1))
+    unfolding symbol quotedSymbol
+    is-quoted h m o e =
+        let s : starts (byte "'") (drop at text) ≡ true = ap (starts (byte "'")) (byte-at text at h) ∙ unfold starts in eq-eqb _ _ m in
+        rw (s, next text at, e)
 
-module _ (text : List ℕ) (at : ℕ) {b b' : List ℕ} {p : ℕ} where
-  pub symbol-end : at ≡ length text → Kept p b b' → SymbolAt text (suc at) b b' p (symbol (drop at text)) S.Bad
-  symbol-end h l = record { told = (ap symbol (end-at text at h) ∙ no-symbol, l) }
+  module _ (text : List ℕ) (at : ℕ) {b b' : List ℕ} {p : ℕ} where
+    pub symbol-end : at ≡ length text → Kept p b b' → SymbolAt text (suc at) b b' p (symbol isRaw (drop at text)) S.Bad
+    symbol-end h l = record { told = (ap (symbol isRaw) (end-at text at h) ∙ no-symbol, l) }
 
-  pub symbol-unquoted : (r : SymbolRead) → at < length text → (getD text at 0 ≡ byte "'" → ⊥) → SymbolAt text (suc at) b b' p (bareSymbol (drop at text)) r → SymbolAt text (suc at) b b' p (symbol (drop at text)) r
-  symbol-unquoted r h n k = rw (is-bare text at h n) at k
+    pub symbol-unquoted : (r : SymbolRead) → at < length text → (getD text at 0 ≡ byte "'" → ⊥) → SymbolAt text (suc at) b b' p (bareSymbol (drop at text)) r → SymbolAt text (suc at) b b' p (symbol isRaw (drop at text)) r
+    symbol-unquoted r h n k = rw (is-bare text at h n) at k
 
-  pub symbol-quoted : at < length text → getD text at 0 ≡ byte "'" → (lo e q : ℕ) → suc at ≤ lo → Copies text lo b b' p (quoted (byte "'") (drop (at + 1) text)) (Q.Next e q) → SymbolAt text (suc at) b b' p (symbol (drop at text)) (S.Text e q)
-  symbol-quoted h m lo e q l c =
-      let k = c .told in
-      record { told = (k .0, is-quoted text at h m (some (k .0, drop e text)) (k .1), omega (arith, k .2), k .3, k .4) }
+    pub symbol-quoted : at < length text → getD text at 0 ≡ byte "'" → (lo e q : ℕ) → suc at ≤ lo → Copies text lo b b' p (quoted isRaw (byte "'") (drop (at + 1) text)) (Q.Next e q) → SymbolAt text (suc at) b b' p (symbol isRaw (drop at text)) (S.Text e q)
+    symbol-quoted h m lo e q l c =
+        let k = c .told in
+        record { told = (k .0, is-quoted text at h m (some (k .0, drop e text)) (k .1), omega (arith, k .2), k .3, k .4) }
 
-  pub symbol-broken : at < length text → getD text at 0 ≡ byte "'" → (lo : ℕ) → Copies text lo b b' p (quoted (byte "'") (drop (at + 1) text)) Q.Bad → SymbolAt text (suc at) b b' p (symbol (drop at text)) S.Bad
-  symbol-broken h m lo c = record { told = (is-quoted text at h m none (c .told .0), c .told .1) }
+    pub symbol-broken : at < length text → getD text at 0 ≡ byte "'" → (lo : ℕ) → Copies text lo b b' p (quoted isRaw (byte "'") (drop (at + 1) text)) Q.Bad → SymbolAt text (suc at) b b' p (symbol isRaw (drop at text)) S.Bad
+    symbol-broken h m lo c = record { told = (is-quoted text at h m none (c .told .0), c .told .1) }

@@ -1,7 +1,7 @@
 -- Worked examples of what tokens read and refuse, by computation: they pin the definitions where nothing that is written reaches them.
 -- Assumes nothing.
 use mathlib.Core.Path.{_≡_, refl}
-use mathlib.Core.Bool.{true, false}
+use mathlib.Core.Bool.{Bool, true, false}
 use mathlib.Core.List.{List, [], _∷_, _++_}
 use mathlib.Core.Option.{none, some}
 use Prim.Native.Nat.{ℕ}
@@ -13,44 +13,60 @@ use Rattle.text_rules.specs.Words.{isStart, isPart, word, behindWord, allDigits
 use Rattle.text_rules.specs.Utf8.{isScalar, utf8, charOf, leadOf, isCont, ok2, ok3, ok4}
 use Rattle.text_rules.specs.Base64.{alphabet, base64Character, characters24, base64, placeFrom, base64Value, bitsOf, bytes24, firstBytes, padded, base64Bytes}
 use Rattle.text_rules.specs.Escapes.{letter, hexValue, hex}
-use Rattle.tokens.specs.Quoted.{quote, scalarEscape, letterEscape, escape, isRaw, raw, character, characters, quoted, string, byteEscape, rawByte, clobByte, clobBytes, clob}
+use Rattle.tokens.specs.Quoted.{quote, scalarEscape, letterEscape, escape, oldRaw, strictRaw, raw, character, characters, quoted, string, byteEscape, rawByte, clobByte, clobBytes, clob}
 use Rattle.tokens.specs.Blob.{untilBrace, blobRest, blob}
 use Rattle.tokens.specs.Token.{bareSymbol, quotedSymbol, symbol, typeOf, nullBehind, null, bool}
 
--- the string `"s"`, read whole
+-- the string `"s"`, read whole by a raw rule
+abbrev ReadsBy : (ℕ → Bool) → List ℕ → List ℕ → Type 0
+ReadsBy isRaw s x = string isRaw (byte "\"" ∷ (s ++ (byte "\"" ∷ []))) ≡ some (x, [])
+
+abbrev RefusesBy : (ℕ → Bool) → List ℕ → Type 0
+RefusesBy isRaw s = string isRaw (byte "\"" ∷ (s ++ (byte "\"" ∷ []))) ≡ none
+
+-- by both
 abbrev Reads : List ℕ → List ℕ → Type 0
-Reads s x = string (byte "\"" ∷ (s ++ (byte "\"" ∷ []))) ≡ some (x, [])
+Reads s x = ReadsBy oldRaw s x × ReadsBy strictRaw s x
 
 abbrev Refuses : List ℕ → Type 0
-Refuses s = string (byte "\"" ∷ (s ++ (byte "\"" ∷ []))) ≡ none
+Refuses s = RefusesBy oldRaw s × RefusesBy strictRaw s
 
 -- the short letters, both quote marks, `\/` and `\?`
 pub letters : Reads (ascii "\\0\\a\\b\\t\\n\\v\\f\\r\\\\\\\"\\'\\/\\?") (0 ∷ 7 ∷ 8 ∷ 9 ∷ 10 ∷ 11 ∷ 12 ∷ 13 ∷ ascii "\\\"'/?")
-unfolding string quoted characters quote character escape scalarEscape letterEscape raw isRaw letter hexValue hex isScalar utf8 charOf leadOf isCont ok2 ok3 ok4 starts
-letters = refl
+unfolding string quoted characters quote character escape scalarEscape letterEscape raw oldRaw strictRaw letter hexValue hex isScalar utf8 charOf leadOf isCont ok2 ok3 ok4 starts
+letters = (refl, refl)
 
 -- `\x`, `\u`, `\U` with 2, 4, 8 hex digits of either case, naming a scalar value
 pub hex-read : Reads (ascii "\\x41\\u00E9\\u00e9\\U0001F600") (0x41 ∷ 0xC3 ∷ 0xA9 ∷ 0xC3 ∷ 0xA9 ∷ 0xF0 ∷ 0x9F ∷ 0x98 ∷ 0x80 ∷ [])
-unfolding string quoted characters quote character escape scalarEscape letterEscape raw isRaw letter hexValue hex isScalar utf8 charOf leadOf isCont ok2 ok3 ok4 starts
-hex-read = refl
+unfolding string quoted characters quote character escape scalarEscape letterEscape raw oldRaw strictRaw letter hexValue hex isScalar utf8 charOf leadOf isCont ok2 ok3 ok4 starts
+hex-read = (refl, refl)
 
 pub hex-high : Reads (ascii "\\xe9") (0xC3 ∷ 0xA9 ∷ [])
-unfolding string quoted characters quote character escape scalarEscape letterEscape raw isRaw letter hexValue hex isScalar utf8 charOf leadOf isCont ok2 ok3 ok4 starts
-hex-high = refl
+unfolding string quoted characters quote character escape scalarEscape letterEscape raw oldRaw strictRaw letter hexValue hex isScalar utf8 charOf leadOf isCont ok2 ok3 ok4 starts
+hex-high = (refl, refl)
 
 -- too few digits, no digit, a surrogate, a value past hex 10FFFF, an unknown letter, a backslash before LF
 pub hex-refused : Refuses (ascii "\\x4") × Refuses (ascii "\\u12g4") × Refuses (ascii "\\U0001F60") × Refuses (ascii "\\ud800") × Refuses (ascii "\\U00110000") × Refuses (ascii "\\q") × Refuses (byte "\\" ∷ 10 ∷ [])
-unfolding string quoted characters quote character escape scalarEscape letterEscape raw isRaw letter hexValue hex isScalar utf8 charOf leadOf isCont ok2 ok3 ok4 starts
-hex-refused = (refl, refl, refl, refl, refl, refl, refl)
+unfolding string quoted characters quote character escape scalarEscape letterEscape raw oldRaw strictRaw letter hexValue hex isScalar utf8 charOf leadOf isCont ok2 ok3 ok4 starts
+hex-refused = ((refl, refl), (refl, refl), (refl, refl), (refl, refl), (refl, refl), (refl, refl), (refl, refl))
 
--- raw: tab, 11, 12 and other controls, and the other quote mark; no LF, no CR, no broken UTF-8
-pub raw-read : Reads (1 ∷ 9 ∷ 11 ∷ 12 ∷ 0x7F ∷ byte "'" ∷ 0xC3 ∷ 0xA9 ∷ []) (1 ∷ 9 ∷ 11 ∷ 12 ∷ 0x7F ∷ byte "'" ∷ 0xC3 ∷ 0xA9 ∷ [])
-unfolding string quoted characters quote character escape scalarEscape letterEscape raw isRaw letter hexValue hex isScalar utf8 charOf leadOf isCont ok2 ok3 ok4 starts
-raw-read = refl
+-- raw: tab, 11, 12, hex 7F, and the other quote mark; no LF, no CR, no broken UTF-8
+pub raw-read : Reads (9 ∷ 11 ∷ 12 ∷ 0x7F ∷ byte "'" ∷ 0xC3 ∷ 0xA9 ∷ []) (9 ∷ 11 ∷ 12 ∷ 0x7F ∷ byte "'" ∷ 0xC3 ∷ 0xA9 ∷ [])
+unfolding string quoted characters quote character escape scalarEscape letterEscape raw oldRaw strictRaw letter hexValue hex isScalar utf8 charOf leadOf isCont ok2 ok3 ok4 starts
+raw-read = (refl, refl)
 
 pub raw-refused : Refuses (10 ∷ []) × Refuses (13 ∷ []) × Refuses (0xC0 ∷ 0x80 ∷ []) × Refuses (0xED ∷ 0xA0 ∷ 0x80 ∷ []) × Refuses (0xF4 ∷ 0x90 ∷ 0x80 ∷ 0x80 ∷ []) × Refuses (0xE9 ∷ [])
-unfolding string quoted characters quote character escape scalarEscape letterEscape raw isRaw letter hexValue hex isScalar utf8 charOf leadOf isCont ok2 ok3 ok4 starts
-raw-refused = (refl, refl, refl, refl, refl, refl)
+unfolding string quoted characters quote character escape scalarEscape letterEscape raw oldRaw strictRaw letter hexValue hex isScalar utf8 charOf leadOf isCont ok2 ok3 ok4 starts
+raw-refused = ((refl, refl), (refl, refl), (refl, refl), (refl, refl), (refl, refl), (refl, refl))
+
+-- other controls by 01's rule alone
+pub controls-read : ReadsBy oldRaw (0 ∷ 1 ∷ 8 ∷ 14 ∷ 0x1F ∷ []) (0 ∷ 1 ∷ 8 ∷ 14 ∷ 0x1F ∷ [])
+unfolding string quoted characters quote character escape scalarEscape letterEscape raw oldRaw strictRaw letter hexValue hex isScalar utf8 charOf leadOf isCont ok2 ok3 ok4 starts
+controls-read = refl
+
+pub controls-refused : RefusesBy strictRaw (0 ∷ []) × RefusesBy strictRaw (1 ∷ []) × RefusesBy strictRaw (8 ∷ []) × RefusesBy strictRaw (14 ∷ []) × RefusesBy strictRaw (0x1F ∷ [])
+unfolding string quoted characters quote character escape scalarEscape letterEscape raw oldRaw strictRaw letter hexValue hex isScalar utf8 charOf leadOf isCont ok2 ok3 ok4 starts
+controls-refused = (refl, refl, refl, refl, refl)
 
 -- a clob is one token: hex 20 to 7E raw, the letters, `\x` naming one byte
 pub clobs : clob (ascii "{{\"a\\xE9\\'\\/\\?'\"}}") ≡ some (byte "a" ∷ 0xE9 ∷ ascii "'/?'", [])
@@ -85,13 +101,19 @@ unfolding blob blobRest untilBrace base64Bytes padded firstBytes bitsOf bytes24 
 blobs-unclosed = (refl, refl, refl, refl, refl, refl, refl, refl, refl)
 
 -- symbols: `$` with 0 or digits without leading zero, at most 4,294,967,295; quoted-only spellings are refused bare
-pub symbols : (symbol (ascii "$0 ") ≡ some (Sym.id 0, ascii " ")) × (symbol (ascii "$4294967295") ≡ some (Sym.id 4294967295, [])) × (symbol (ascii "$ion_1_0_0,") ≡ some (Sym.text (ascii "$ion_1_0_0"), ascii ",")) × (symbol (ascii "'$7'") ≡ some (Sym.text (ascii "$7"), [])) × (symbol (ascii "''") ≡ some (Sym.text [], []))
-unfolding symbol bareSymbol quotedSymbol quoted characters quote character escape scalarEscape letterEscape raw isRaw letter hexValue hex charOf leadOf isCont ok2 ok3 ok4 starts strip same word behindWord kindOf isPart isStart isDigit resemblesVersionMarker resemblesSymbolId version allDigits run behindDigits number whole symbolId isIdentifier
-symbols = (refl, refl, refl, refl, refl)
+abbrev Symbols : (ℕ → Bool) → Type 0
+Symbols isRaw = (symbol isRaw (ascii "$0 ") ≡ some (Sym.id 0, ascii " ")) × (symbol isRaw (ascii "$4294967295") ≡ some (Sym.id 4294967295, [])) × (symbol isRaw (ascii "$ion_1_0_0,") ≡ some (Sym.text (ascii "$ion_1_0_0"), ascii ",")) × (symbol isRaw (ascii "'$7'") ≡ some (Sym.text (ascii "$7"), [])) × (symbol isRaw (ascii "''") ≡ some (Sym.text [], []))
 
-pub symbols-refused : (symbol (ascii "$01") ≡ none) × (symbol (ascii "$4294967296") ≡ none) × (symbol (ascii "$ion_1_1") ≡ none) × (symbol (ascii "$ion_1_0") ≡ none) × (symbol (ascii "true") ≡ none) × (symbol (ascii "nan") ≡ none) × (symbol (ascii "7up") ≡ none) × (symbol (ascii "'a") ≡ none)
-unfolding symbol bareSymbol quotedSymbol quoted characters quote character escape scalarEscape letterEscape raw isRaw letter hexValue hex charOf leadOf isCont ok2 ok3 ok4 starts strip same word behindWord kindOf isPart isStart isDigit resemblesVersionMarker resemblesSymbolId version allDigits run behindDigits number whole symbolId isIdentifier
-symbols-refused = (refl, refl, refl, refl, refl, refl, refl, refl)
+pub symbols : Symbols oldRaw × Symbols strictRaw
+unfolding symbol bareSymbol quotedSymbol quoted characters quote character escape scalarEscape letterEscape raw oldRaw strictRaw letter hexValue hex charOf leadOf isCont ok2 ok3 ok4 starts strip same word behindWord kindOf isPart isStart isDigit resemblesVersionMarker resemblesSymbolId version allDigits run behindDigits number whole symbolId isIdentifier
+symbols = ((refl, refl, refl, refl, refl), (refl, refl, refl, refl, refl))
+
+abbrev NoSymbols : (ℕ → Bool) → Type 0
+NoSymbols isRaw = (symbol isRaw (ascii "$01") ≡ none) × (symbol isRaw (ascii "$4294967296") ≡ none) × (symbol isRaw (ascii "$ion_1_1") ≡ none) × (symbol isRaw (ascii "$ion_1_0") ≡ none) × (symbol isRaw (ascii "true") ≡ none) × (symbol isRaw (ascii "nan") ≡ none) × (symbol isRaw (ascii "7up") ≡ none) × (symbol isRaw (ascii "'a") ≡ none)
+
+pub symbols-refused : NoSymbols oldRaw × NoSymbols strictRaw
+unfolding symbol bareSymbol quotedSymbol quoted characters quote character escape scalarEscape letterEscape raw oldRaw strictRaw letter hexValue hex charOf leadOf isCont ok2 ok3 ok4 starts strip same word behindWord kindOf isPart isStart isDigit resemblesVersionMarker resemblesSymbolId version allDigits run behindDigits number whole symbolId isIdentifier
+symbols-refused = ((refl, refl, refl, refl, refl, refl, refl, refl), (refl, refl, refl, refl, refl, refl, refl, refl))
 
 -- nulls: `null` and a type; `null.null` prints as `null`, and is refused
 pub nulls : (null (ascii "null]") ≡ some (0, ascii "]")) × (null (ascii "null.struct") ≡ some (12, [])) × (null (ascii "null.null") ≡ none) × (null (ascii "null.integer") ≡ none) × (null (ascii "null.") ≡ none) × (null (ascii "nulls") ≡ none)

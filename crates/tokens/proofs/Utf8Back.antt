@@ -15,7 +15,7 @@ use Rattle.output.specs.Logic.{if, then, on, byte, ascii}
 use Rattle.text_rules.specs.Texts.{starts, strip}
 use Rattle.text_rules.specs.Utf8.{charAt, isScalar, after, valid, utf8}
 use Rattle.text_rules.specs.Escapes.{letter, hexValue, hex}
-use Rattle.tokens.specs.Quoted.{quote, scalarEscape, letterEscape, escape, isRaw, raw, character, quoted, byteEscape, rawByte, clobByte, clobBytes, clob}
+use Rattle.tokens.specs.Quoted.{quote, scalarEscape, letterEscape, escape, raw, character, quoted, byteEscape, rawByte, clobByte, clobBytes, clob}
 use Rattle.text_rules.proofs.Table.{same}
 use Rattle.text_rules.proofs.Utf8View.{Char, char-at, valid-char, View, view, utf8-char, ascii-char}
 use Rattle.tokens.proofs.QuotedMany.{Read, prefix, many, characters-many, clob-many}
@@ -113,10 +113,10 @@ scalar-char w t x u e = go (hex w 0 t) e
     go (some v) e = two (v .0) (v .1) (isScalar (v .0)) refl e
 
 -- a raw character is one
-raw-char : (t x u : List ℕ) → raw t ≡ some (x, u) → Char x
+raw-char : (isRaw : ℕ → Bool) (t x u : List ℕ) → raw isRaw t ≡ some (x, u) → Char x
 unfolding raw
-raw-char [] x u e = absurd (let z : _≡_ {A = ℕ} 0 1 = cc in omega arith)
-raw-char (c ∷ t) x u e = go (isRaw c) (leb 1 n) refl e
+raw-char isRaw [] x u e = absurd (let z : _≡_ {A = ℕ} 0 1 = cc in omega arith)
+raw-char isRaw (c ∷ t) x u e = go (isRaw c) (leb 1 n) refl e
   where
     n : ℕ
     n = charAt (c ∷ t) 0
@@ -143,26 +143,26 @@ escape-char t x u e = go (starts (byte "x") t) (starts (byte "u") t) (starts (by
     go false false false e = letter-char t x u e
 
 -- what is read as one character is the UTF-8 of one
-pub character-char : (t x u : List ℕ) → character t ≡ some (x, u) → Char x
+pub character-char : (isRaw : ℕ → Bool) (t x u : List ℕ) → character isRaw t ≡ some (x, u) → Char x
 unfolding character
-character-char t x u e = go (starts (byte "\\") t) e
+character-char isRaw t x u e = go (starts (byte "\\") t) e
   where
-    go : (p : Bool) → if p (escape (drop 1 t)) (raw t) ≡ some (x, u) → Char x
+    go : (p : Bool) → if p (escape (drop 1 t)) (raw isRaw t) ≡ some (x, u) → Char x
     go true e = escape-char (drop 1 t) x u e
-    go false e = raw-char t x u e
+    go false e = raw-char isRaw t x u e
 
-pub valid-character : (t x u : List ℕ) → character t ≡ some (x, u) → (s : List ℕ) → valid (x ++ s) ≡ valid s
-valid-character t x u e s = valid-char (character-char t x u e) s
+pub valid-character : (isRaw : ℕ → Bool) (t x u : List ℕ) → character isRaw t ≡ some (x, u) → (s : List ℕ) → valid (x ++ s) ≡ valid s
+valid-character isRaw t x u e s = valid-char (character-char isRaw t x u e) s
 
 pub valid-nothing : valid [] ≡ true
 unfolding valid after
 valid-nothing = refl
 
-pub quoted-valid : (q : ℕ) (t x r : List ℕ) → quoted q t ≡ some (x, r) → valid x ≡ true
+pub quoted-valid : (isRaw : ℕ → Bool) (q : ℕ) (t x r : List ℕ) → quoted isRaw q t ≡ some (x, r) → valid x ≡ true
 unfolding quoted
-quoted-valid q t x r e =
-    many-all character (λ x. valid x ≡ true) valid-nothing (λ t v u y s h. valid-character t v u s y ∙ h)
-    (suc (length t)) q t x r (sym (characters-many (suc (length t)) q t) ∙ e)
+quoted-valid isRaw q t x r e =
+    many-all (character isRaw) (λ x. valid x ≡ true) valid-nothing (λ t v u y s h. valid-character isRaw t v u s y ∙ h)
+    (suc (length t)) q t x r (sym (characters-many isRaw (suc (length t)) q t) ∙ e)
 
 -- ---- clobs
 

@@ -1,6 +1,6 @@
 -- Quoted text and clobs, read. Assumes nothing: these are definitions.
 use Prim.Native.Nat.{ℕ, zero, suc}
-use mathlib.Core.Bool.{Bool, true, false, _&&_, _||_}
+use mathlib.Core.Bool.{Bool, true, false, not, _&&_, _||_}
 use mathlib.Core.List.{List, [], _∷_, _++_}
 use mathlib.Core.Option.{Option, none, some}
 use lib.Dec.{eqb, leb}
@@ -37,36 +37,47 @@ escape t =
     (if (starts (byte "U") t) (scalarEscape 8 (drop 1 t))
     (letterEscape t)))
 
--- A byte that is no line's end. The mark and the backslash are looked for before, and whether it starts a character is UTF-8's to say.
--- Control characters are accepted because the Rust writes them.
-unfoldable pub isRaw : ℕ → Bool
-isRaw c = if (eqb c 10 || eqb c 13) false true
+-- 01's raw rule: every character but the line's ends. The mark and the backslash are looked for before, and whether it starts a character is
+-- UTF-8's to say.
+unfoldable pub oldRaw : ℕ → Bool
+oldRaw c = not (eqb c 10 || eqb c 13)
 
--- a raw character: valid UTF-8
-unfoldable pub raw : List ℕ → Option (List ℕ × List ℕ)
-raw [] = none
-raw (c ∷ t) = if (isRaw c && leb 1 (charAt (c ∷ t) 0)) (some (take (charAt (c ∷ t) 0) (c ∷ t), drop (charAt (c ∷ t) 0) (c ∷ t))) none
+-- Ion's (02, A6): no control character below U+0020 but tab, 11 and 12
+unfoldable pub strictRaw : ℕ → Bool
+strictRaw c = leb 0x20 c || eqb c 9 || eqb c 11 || eqb c 12
 
--- one character of quoted text, whose mark was looked for before
-unfoldable pub character : List ℕ → Option (List ℕ × List ℕ)
-character t = if (starts (byte "\\") t) (escape (drop 1 t)) (raw t)
+-- the rule that a reader goes by: 01's for stored lists, else Ion's
+unfoldable pub rawRule : Bool → ℕ → Bool
+rawRule true = oldRaw
+rawRule false = strictRaw
 
--- The characters of quoted text, through its mark q, in f steps at most. Each takes a byte at least, so for a text of n bytes every f above n
--- gives the same (`characters-enough`).
-unfoldable pub characters : ℕ → ℕ → List ℕ → Option (List ℕ × List ℕ)
-characters zero q t = none
-characters (suc f) q t =
-    on (quote q t)
-    (λ r. some ([], r))
-    (then (character t) (λ v. then (characters f q (v .1)) (λ vs. some (v .0 ++ vs .0, vs .1))))
+-- Quoted text, by what a raw character may be.
+module _ (isRaw : ℕ → Bool) where
+  -- a raw character: valid UTF-8
+  unfoldable pub raw : List ℕ → Option (List ℕ × List ℕ)
+  raw [] = none
+  raw (c ∷ t) = if (isRaw c && leb 1 (charAt (c ∷ t) 0)) (some (take (charAt (c ∷ t) 0) (c ∷ t), drop (charAt (c ∷ t) 0) (c ∷ t))) none
 
--- the text behind an opening mark q, through the next
-unfoldable pub quoted : ℕ → List ℕ → Option (List ℕ × List ℕ)
-quoted q t = characters (suc (length t)) q t
+  -- one character of quoted text, whose mark was looked for before
+  unfoldable pub character : List ℕ → Option (List ℕ × List ℕ)
+  character t = if (starts (byte "\\") t) (escape (drop 1 t)) (raw t)
 
--- a string: its bytes, and the text behind it
-unfoldable pub string : List ℕ → Option (List ℕ × List ℕ)
-string t = if (starts (byte "\"") t) (quoted (byte "\"") (drop 1 t)) none
+  -- The characters of quoted text, through its mark q, in f steps at most. Each takes a byte at least, so for a text of n bytes every f above n
+  -- gives the same (`characters-enough`).
+  unfoldable pub characters : ℕ → ℕ → List ℕ → Option (List ℕ × List ℕ)
+  characters zero q t = none
+  characters (suc f) q t =
+      on (quote q t)
+      (λ r. some ([], r))
+      (then (character t) (λ v. then (characters f q (v .1)) (λ vs. some (v .0 ++ vs .0, vs .1))))
+
+  -- the text behind an opening mark q, through the next
+  unfoldable pub quoted : ℕ → List ℕ → Option (List ℕ × List ℕ)
+  quoted q t = characters (suc (length t)) q t
+
+  -- a string: its bytes, and the text behind it
+  unfoldable pub string : List ℕ → Option (List ℕ × List ℕ)
+  string t = if (starts (byte "\"") t) (quoted (byte "\"") (drop 1 t)) none
 
 -- ---- clobs: raw bytes as printed, the escapes without `\u` and `\U`, `\x` naming one byte
 

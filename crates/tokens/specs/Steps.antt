@@ -9,7 +9,7 @@ use lib.ListN.{length, take, drop, getD}
 use Rattle.output.specs.Logic.{if, byte}
 use Rattle.output.specs.Wrote.{Wrote}
 use Rattle.text_rules.specs.Escapes.{hex}
-use Rattle.tokens.specs.Quoted.{isRaw}
+use Rattle.tokens.specs.Quoted.{strictRaw}
 use Rattle.tokens.specs.declared.quoted.Step.{Step}
 use Rattle.tokens.specs.declared.quoted.Step.the-variants.{Next, Bad}
 use Rattle.tokens.specs.declared.quoted.Hex.{Hex}
@@ -47,9 +47,9 @@ HexRead text at w Hex.Bad = hex w 0 (drop at text) ≡ none
 pub record HexAt (text : List ℕ) (at w : ℕ) (r : Hex) : Type 0 where
   pub told : HexRead text at w r
 
--- a byte that is a character of quoted text as it stands, where the mark is q
+-- a byte that is a character of quoted text as it stands, where the mark is q: by either raw rule, for what Ion's takes 01's takes
 unfoldable pub isPlain : ℕ → ℕ → Bool
-isPlain q c = ltb c 0x80 && isRaw c && not (eqb c (byte "\\")) && not (eqb c q)
+isPlain q c = strictRaw c && ltb c 0x80 && not (eqb c (byte "\\")) && not (eqb c q)
 
 -- a byte that stands for itself in a clob
 unfoldable pub isPlainByte : ℕ → Bool

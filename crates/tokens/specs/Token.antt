@@ -28,12 +28,14 @@ wordSymbol Refused w = none
 unfoldable pub bareSymbol : List ℕ → Option (Sym × List ℕ)
 bareSymbol t = then (wordSymbol (kindOf (word t)) (word t)) (λ s. some (s, behindWord t))
 
-unfoldable pub quotedSymbol : List ℕ → Option (Sym × List ℕ)
-quotedSymbol t = then (quoted (byte "'") t) (λ r. some (Sym.text (r .0), r .1))
+-- by what a raw character may be
+module _ (isRaw : ℕ → Bool) where
+  unfoldable pub quotedSymbol : List ℕ → Option (Sym × List ℕ)
+  quotedSymbol t = then (quoted isRaw (byte "'") t) (λ r. some (Sym.text (r .0), r .1))
 
--- a symbol. `'''` starting a token is refused because of what would follow: the empty symbol is read, and a quote mark may not stand behind it
-unfoldable pub symbol : List ℕ → Option (Sym × List ℕ)
-symbol t = if (starts (byte "'") t) (quotedSymbol (drop 1 t)) (bareSymbol t)
+  -- a symbol. `'''` starting a token is refused because of what would follow: the empty symbol is read, and a quote mark may not stand behind it
+  unfoldable pub symbol : List ℕ → Option (Sym × List ℕ)
+  symbol t = if (starts (byte "'") t) (quotedSymbol (drop 1 t)) (bareSymbol t)
 
 -- ---- nulls
 

@@ -3,12 +3,14 @@ ghost use mathlib.Core.Path.{_≡_};
 ghost use mathlib.Core.List.{[], _∷_};
 ghost use mathlib.Core.Option.{some};
 ghost use Prim.Native.Nat.{suc, _+_, _≤_, _<_};
+ghost use mathlib.Core.Bool.{_&&_};
+ghost use lib.Dec.{leb, ltb};
 ghost use lib.ListN.{length, drop};
 ghost use Rattle.output.specs.Logic.{then};
 ghost use Rattle.output.specs.Wrote.{Wrote, limit};
 ghost use Rattle.text_rules.specs.Utf8.{utf8};
 ghost use Rattle.text_rules.specs.Escapes.{letter, hexValue, hex};
-ghost use Rattle.tokens.specs.Quoted.{scalarEscape, letterEscape, escape, raw, character, quoted, byteEscape, clobByte, clobBytes, clob};
+ghost use Rattle.tokens.specs.Quoted.{scalarEscape, letterEscape, escape, rawRule, raw, character, quoted, byteEscape, clobByte, clobBytes, clob};
 ghost use Rattle.tokens.specs.Steps.{Copies, ifBelow, ownLetter, HexAt, isPlain, isPlainByte, RunTo};
 
 // Something was read up to `at`, and its bytes written up to `pos`; or nothing.
@@ -198,16 +200,37 @@ fn escape_at(text: &[u8], at: usize, buf: &mut [u8], pos: usize) -> Step
 
 // ---- quoted text
 
-// A raw character: valid UTF-8, no LF, no CR.
-fn raw_at(text: &[u8], at: usize, buf: &mut [u8], pos: usize) -> Step
-    requires { ⌜ (at < length (now text)) × (pos ≤ limit) ⌝ }
-    ensures { λ r. ⌜ Copies (now (text .entry)) (suc at) (now (buf .entry)) (now (buf .exit)) pos (raw (drop at (now (text .entry)))) r ⌝ }
+// What a raw character may start with; `old`: by 01's rule, else by Ion's. No LF and no CR by either.
+fn is_raw(b: u8, old: bool) -> bool
+    ensures { λ r. ⌜ r ≡ rawRule old b ⌝ }
 {
-    let b = text[at];
+    if 0x20 <= b {
+        return true;
+    }
     if b == 10 {
-        return Step::Bad;
+        return false;
     }
     if b == 13 {
+        return false;
+    }
+    if old {
+        return true;
+    }
+    if b == 9 {
+        return true;
+    }
+    if b == 11 {
+        return true;
+    }
+    b == 12
+}
+
+// A raw character: valid UTF-8.
+fn raw_at(text: &[u8], at: usize, old: bool, buf: &mut [u8], pos: usize) -> Step
+    requires { ⌜ (at < length (now text)) × (pos ≤ limit) ⌝ }
+    ensures { λ r. ⌜ Copies (now (text .entry)) (suc at) (now (buf .entry)) (now (buf .exit)) pos (raw (rawRule old) (drop at (now (text .entry)))) r ⌝ }
+{
+    if !is_raw(text[at], old) {
         return Step::Bad;
     }
     let n = text_rules::utf8::char_len(text, at);
@@ -220,33 +243,46 @@ fn raw_at(text: &[u8], at: usize, buf: &mut [u8], pos: usize) -> Step
 }
 
 // One character of quoted text.
-fn character_at(text: &[u8], at: usize, buf: &mut [u8], pos: usize) -> Step
+fn character_at(text: &[u8], at: usize, old: bool, buf: &mut [u8], pos: usize) -> Step
     requires { ⌜ (at < length (now text)) × (pos ≤ limit) ⌝ }
-    ensures { λ r. ⌜ Copies (now (text .entry)) (suc at) (now (buf .entry)) (now (buf .exit)) pos (character (drop at (now (text .entry)))) r ⌝ }
+    ensures { λ r. ⌜ Copies (now (text .entry)) (suc at) (now (buf .entry)) (now (buf .exit)) pos (character (rawRule old) (drop at (now (text .entry)))) r ⌝ }
 {
     if text[at] == b'\\' {
         return escape_at(text, at + 1, buf, pos);
     }
-    raw_at(text, at, buf, pos)
+    raw_at(text, at, old, buf, pos)
 }
 
-// A byte that is a character as it stands, where the mark is q.
+// A byte from hex 20 to 7F: most are, so `is_plain` asks for it first.
+fn is_usual(b: u8) -> bool
+    ensures { λ r. ⌜ r ≡ leb 0x20 b && ltb b 0x80 ⌝ }
+{
+    if b < 0x20 {
+        return false;
+    }
+    b < 0x80
+}
+
+// A byte that is a character as it stands, by either rule, where the mark is q.
 fn is_plain(b: u8, q: u8) -> bool
     ensures { λ r. ⌜ r ≡ isPlain q b ⌝ }
 {
-    if 0x80 <= b {
-        return false;
+    if is_usual(b) {
+        if b == b'\\' {
+            return false;
+        }
+        return b != q;
     }
-    if b == 10 {
-        return false;
+    if b == 9 {
+        return b != q;
     }
-    if b == 13 {
-        return false;
+    if b == 11 {
+        return b != q;
     }
-    if b == b'\\' {
-        return false;
+    if b == 12 {
+        return b != q;
     }
-    b != q
+    false
 }
 
 // Where the looking for plain bytes stops at the latest: what was looked at is copied while it is near.
@@ -273,10 +309,10 @@ fn plain_end(text: &[u8], at: usize, q: u8) -> usize
     i
 }
 
-// Quoted text behind its mark q, through the next: a run of plain bytes is copied at once.
-pub fn characters_at(text: &[u8], at: usize, q: u8, buf: &mut [u8], pos: usize) -> Step
+// Quoted text behind its mark q, through the next; `old`: by 01's raw rule. A run of plain bytes is copied at once.
+pub fn characters_at(text: &[u8], at: usize, q: u8, old: bool, buf: &mut [u8], pos: usize) -> Step
     requires { ⌜ (at ≤ length (now text)) × (pos ≤ limit) ⌝ }
-    ensures { λ r. ⌜ Copies (now (text .entry)) (suc at) (now (buf .entry)) (now (buf .exit)) pos (quoted q (drop at (now (text .entry)))) r ⌝ }
+    ensures { λ r. ⌜ Copies (now (text .entry)) (suc at) (now (buf .entry)) (now (buf .exit)) pos (quoted (rawRule old) q (drop at (now (text .entry)))) r ⌝ }
 {
     let mut i = at;
     let mut p = pos;
@@ -292,7 +328,7 @@ pub fn characters_at(text: &[u8], at: usize, q: u8, buf: &mut [u8], pos: usize) 
         let Step::Next {
             at: next,
             pos: behind,
-        } = character_at(text, e, buf, p)
+        } = character_at(text, e, old, buf, p)
         else {
             return Step::Bad;
         };

@@ -3,6 +3,7 @@ ghost use mathlib.Core.Path.{_≡_};
 ghost use Prim.Native.Nat.{suc, _≤_};
 ghost use lib.ListN.{length, drop};
 ghost use Rattle.output.specs.Wrote.{limit};
+ghost use Rattle.tokens.specs.Quoted.{rawRule};
 ghost use Rattle.tokens.specs.Token.{typeOf, nullBehind, null, bool, float, bareSymbol, symbol};
 ghost use Rattle.text_rules.specs.Reading.{Reads};
 ghost use Rattle.tokens.specs.TokenSteps.{nullRead, boolRead, floatRead, typeRead, numberType, textType, containerType, spelledFloat, SymbolAt};
@@ -207,10 +208,10 @@ fn bare_symbol_at(text: &[u8], at: usize, buf: &mut [u8], pos: usize) -> SymbolR
     }
 }
 
-// A symbol. Its text, without marks and escapes, is written as it is read.
-pub fn symbol_at(text: &[u8], at: usize, buf: &mut [u8], pos: usize) -> SymbolRead
+// A symbol; `old`: by 01's raw rule. Its text, without marks and escapes, is written as it is read.
+pub fn symbol_at(text: &[u8], at: usize, old: bool, buf: &mut [u8], pos: usize) -> SymbolRead
     requires { ⌜ (at ≤ length (now text)) × (pos ≤ limit) ⌝ }
-    ensures { λ r. ⌜ SymbolAt (now (text .entry)) (suc at) (now (buf .entry)) (now (buf .exit)) pos (symbol (drop at (now (text .entry)))) r ⌝ }
+    ensures { λ r. ⌜ SymbolAt (now (text .entry)) (suc at) (now (buf .entry)) (now (buf .exit)) pos (symbol (rawRule old) (drop at (now (text .entry)))) r ⌝ }
 {
     if at == text.len() {
         return SymbolRead::Bad;
@@ -222,6 +223,7 @@ pub fn symbol_at(text: &[u8], at: usize, buf: &mut [u8], pos: usize) -> SymbolRe
         text,
         at + 1,
         b'\'',
+        old,
         buf,
         pos,
     ) else {

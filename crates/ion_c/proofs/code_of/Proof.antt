@@ -44,6 +44,12 @@ enum-told-10 c = search needs
 enum-told-11 : tie.Need-enum-told-11
 enum-told-11 c = search needs
 
+enum-told-12 : tie.Need-enum-told-12
+enum-told-12 c = search needs
+
+enum-told-13 : tie.Need-enum-told-13
+enum-told-13 c = search needs
+
 returns : tie.Need-returns
 returns c = let small = rw (c .before .a .given .1) at (c .before .before .before .pre) in rw (c .before .a .given .1) (toZ-pos w64 _ small)
 
@@ -80,6 +86,12 @@ returns-11 c = rw (c .enum-told10 .given .1)
 returns-12 : tie.Need-returns-12
 returns-12 c = rw (c .enum-told11 .given .1)
 
+returns-13 : tie.Need-returns-13
+returns-13 c = rw (c .enum-told12 .given .1)
+
+returns-14 : tie.Need-returns-14
+returns-14 c = rw (c .enum-told13 .given .1)
+
 pub code-of-spec : {M : Type 1} → statement M
 code-of-spec =
     tie.close
@@ -97,6 +109,8 @@ code-of-spec =
     enum-told-9
     enum-told-10
     enum-told-11
+    enum-told-12
+    enum-told-13
     returns
     returns-2
     returns-3
@@ -108,4 +122,6 @@ code-of-spec =
     returns-9
     returns-10
     returns-11
-    returns-12)
+    returns-12
+    returns-13
+    returns-14)

@@ -7,6 +7,7 @@ use native.Mathlib.Omega.{arith}
 use borrow.Author.Tests.{not-true, not-false}
 use lib.ListN.{length, replicate}
 use lib.Seq.{length-front, length-take-le}
+use Rattle.tokens.specs.Quoted.{rawRule}
 use Rattle.line_reader.specs.Book.{endsInLf}
 use Rattle.line_reader.proofs.LineLaws.{ends-long, book-open, book-none, book-several, book-long, book-laid}
 use borrow.Author.Needs.{needs}
@@ -62,6 +63,7 @@ same-length-2 : tie.Need-same-length-2
 same-length-2 c = search needs
 
 returns-2 : tie.Need-returns-2
+unfolding rawRule
 returns-2 c =
     let b : List ℕ = c .before .before .before .before .before .before .before .before .before .before .before .before .before .before .before .before .args .out .now in
     let t : List ℕ = c .before .before .before .before .before .before .before .before .before .before .before .before .before .before .before .before .args .line .now in
@@ -69,7 +71,7 @@ returns-2 c =
     let w = c .before .before .before .before .before .before .before .before .write-tape in
     let f : endsInLf t ≡ true = sym (c .before .before .before .before .before .before .before .before .before .before .before .before .before .ends-in-lf .ensures) ∙ not-false _ (c .before .before .before .before .before .before .before .before .before .before .before .before .if1 .left) in
     let e = rw (c .before .before .before .before .enum-told .given .1) at (w .ensures) in
-    λ at. book-none t at b f _ (c .before .before .zero2 .ensures ∙ ap (λ (n : ℕ). replicate n 0) (length-front b (w .last .1 .0) (l .result) (w .kept .1 .0))) (e .0)
+    λ at. book-none t at b f _ (c .before .before .zero2 .ensures ∙ ap (λ (n : ℕ). replicate n 0) (length-front b (w .last .1 .1 .0) (l .result) (w .kept .1 .1 .0))) (e .0)
 
 zero-requires-3 : tie.Need-zero-requires-3
 zero-requires-3 c κs = search needs
@@ -78,6 +80,7 @@ same-length-3 : tie.Need-same-length-3
 same-length-3 c = search needs
 
 returns-3 : tie.Need-returns-3
+unfolding rawRule
 returns-3 c =
     let b : List ℕ = c .before .before .before .before .before .before .before .before .before .before .before .before .before .before .before .before .before .before .args .out .now in
     let t : List ℕ = c .before .before .before .before .before .before .before .before .before .before .before .before .before .before .before .before .before .before .args .line .now in
@@ -85,7 +88,7 @@ returns-3 c =
     let w = c .before .before .before .before .before .before .before .before .before .before .write-tape in
     let f : endsInLf t ≡ true = sym (c .before .before .before .before .before .before .before .before .before .before .before .before .before .before .before .ends-in-lf .ensures) ∙ not-false _ (c .before .before .before .before .before .before .before .before .before .before .before .before .before .before .if1 .left) in
     let e = rw (c .before .before .before .before .before .before .n .given .1) at (w .ensures) in
-    λ at. book-several t at b f (e .0) (e .1) _ (c .before .before .zero3 .ensures ∙ ap (λ (n : ℕ). replicate n 0) (length-front b (w .last .1 .0) (l .result) (w .kept .1 .0))) (λ s. c .before .before .before .before .if2 .taken (e .2 ∙ s))
+    λ at. book-several t at b f (e .0) (e .1) _ (c .before .before .zero3 .ensures ∙ ap (λ (n : ℕ). replicate n 0) (length-front b (w .last .1 .1 .0) (l .result) (w .kept .1 .1 .0))) (λ s. c .before .before .before .before .if2 .taken (e .2 ∙ s))
 
 zero-requires-4 : tie.Need-zero-requires-4
 zero-requires-4 c κs = search needs
@@ -94,6 +97,7 @@ same-length-4 : tie.Need-same-length-4
 same-length-4 c = search needs
 
 returns-4 : tie.Need-returns-4
+unfolding rawRule
 returns-4 c =
     let b : List ℕ = c .before .before .before .before .before .before .before .before .before .before .before .before .before .before .before .before .before .before .before .args .out .now in
     let t : List ℕ = c .before .before .before .before .before .before .before .before .before .before .before .before .before .before .before .before .before .before .before .args .line .now in
@@ -101,12 +105,13 @@ returns-4 c =
     let w = c .before .before .before .before .before .before .before .before .before .before .before .write-tape in
     let f : endsInLf t ≡ true = sym (c .before .before .before .before .before .before .before .before .before .before .before .before .before .before .before .before .ends-in-lf .ensures) ∙ not-false _ (c .before .before .before .before .before .before .before .before .before .before .before .before .before .before .before .if1 .left) in
     let e = rw (c .before .before .before .before .before .before .before .n .given .1) at (w .ensures) in
-    λ at. book-long t at b f (e .0) (e .1) (sym (e .2) ∙ c .before .before .before .before .before .if2 .left) (l .result) _ _ (l .ensures) (e .3) _ (c .before .before .zero4 .ensures ∙ ap (λ (n : ℕ). replicate n 0) (length-front b (w .last .1 .0) (l .result) (w .kept .1 .0))) (c .before .before .before .before .if3 .taken)
+    λ at. book-long t at b f (e .0) (e .1) (sym (e .2) ∙ c .before .before .before .before .before .if2 .left) (l .result) _ _ (l .ensures) (e .3) _ (c .before .before .zero4 .ensures ∙ ap (λ (n : ℕ). replicate n 0) (length-front b (w .last .1 .1 .0) (l .result) (w .kept .1 .1 .0))) (c .before .before .before .before .if3 .taken)
 
 same-length-5 : tie.Need-same-length-5
 same-length-5 c = search needs
 
 returns-5 : tie.Need-returns-5
+unfolding rawRule
 returns-5 c =
     let b : List ℕ = c .before .before .before .before .before .before .before .before .before .before .before .before .before .before .before .args .out .now in
     let t : List ℕ = c .before .before .before .before .before .before .before .before .before .before .before .before .before .before .before .args .line .now in

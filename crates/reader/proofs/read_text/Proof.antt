@@ -5,6 +5,7 @@ use mathlib.Core.List.{List}
 use native.Mathlib.Omega.{arith}
 use lib.ListN.{replicate}
 use lib.Seq.{length-front, length-take-le}
+use Rattle.tokens.specs.Quoted.{rawRule}
 use Rattle.reader.proofs.Whole.{whole-none, whole-long, whole-fits}
 use borrow.Author.Needs.{needs}
 use Rattle.reader.proofs.read_text.Statement.{statement}
@@ -37,13 +38,14 @@ same-length : tie.Need-same-length
 same-length c = search needs
 
 returns : tie.Need-returns
+unfolding rawRule
 returns c =
     let b : List ℕ = c .before .before .before .before .before .before .before .before .before .before .before .before .before .args .out .now in
     let t : List ℕ = c .before .before .before .before .before .before .before .before .before .before .before .before .before .args .text .now in
     let w = c .before .before .before .before .before .before .before .before .write-tape in
     let e = rw (c .before .before .before .before .enum-told .given .1) at (w .ensures) in
     let r = whole-none t b (e .0) in
-    (r .0, c .before .before .zero .ensures ∙ ap (λ (n : ℕ). replicate n 0) (length-front b (w .last .1 .0) (c .before .before .before .before .before .before .before .before .before .before .limit-of .result) (w .kept .1 .0)) ∙ r .1)
+    (r .0, c .before .before .zero .ensures ∙ ap (λ (n : ℕ). replicate n 0) (length-front b (w .last .1 .1 .0) (c .before .before .before .before .before .before .before .before .before .before .limit-of .result) (w .kept .1 .1 .0)) ∙ r .1)
 
 zero-requires-2 : tie.Need-zero-requires-2
 zero-requires-2 c κs = search needs
@@ -52,6 +54,7 @@ same-length-2 : tie.Need-same-length-2
 same-length-2 c = search needs
 
 returns-2 : tie.Need-returns-2
+unfolding rawRule
 returns-2 c =
     let b : List ℕ = c .before .before .before .before .before .before .before .before .before .before .before .before .before .before .before .args .out .now in
     let t : List ℕ = c .before .before .before .before .before .before .before .before .before .before .before .before .before .before .before .args .text .now in
@@ -59,12 +62,13 @@ returns-2 c =
     let w = c .before .before .before .before .before .before .before .before .before .before .write-tape in
     let e = rw (c .before .before .before .before .before .before .n .given .1) at (w .ensures) in
     let r = whole-long t b (l .result) _ _ (e .0) (l .ensures) (e .1) (e .3) (c .before .before .before .before .if1 .taken) in
-    (r .0, c .before .before .zero2 .ensures ∙ ap (λ (n : ℕ). replicate n 0) (length-front b (w .last .1 .0) (l .result) (w .kept .1 .0)) ∙ r .1)
+    (r .0, c .before .before .zero2 .ensures ∙ ap (λ (n : ℕ). replicate n 0) (length-front b (w .last .1 .1 .0) (l .result) (w .kept .1 .1 .0)) ∙ r .1)
 
 same-length-3 : tie.Need-same-length-3
 same-length-3 c = search needs
 
 returns-3 : tie.Need-returns-3
+unfolding rawRule
 returns-3 c =
     let b : List ℕ = c .before .before .before .before .before .before .before .before .before .before .before .args .out .now in
     let t : List ℕ = c .before .before .before .before .before .before .before .before .before .before .before .args .text .now in

@@ -28,7 +28,7 @@ returns : tie.Need-returns
 returns c =
     let t : List ℕ = c .before .before .before .before .before .before .before .before .args .text .now in
     let r = (rw (c .enum-told .given .1) at (c .before .before .before .before .sequence .ensures)) .told (suc (2 * length t)) (omega arith) in
-    (meaning-none t (r .0), r .1 .as-long)
+    (meaning-none _ t (r .0), r .1 .as-long)
 
 far-requires : tie.Need-far-requires
 far-requires c κs = search needs
@@ -53,7 +53,7 @@ unfolding tape
 returns-2 c =
     let t : List ℕ = c .before .before .before .before .before .before .before .before .before .before .before .before .before .before .before .before .before .before .before .args .text .now in
     let r = (rw (c .before .before .before .before .before .before .before .before .before .before .before .pos .given .1) at (c .before .before .before .before .before .before .before .before .before .before .before .before .before .before .before .sequence .ensures)) .told (suc (2 * length t)) (omega arith) in
-    (r .0, meaning-some t _ (r .0) (r .1), r .2 ∙ zero-add _, laid-tape _ (r .5) (rw (c .before .before .before .before .before .before .before .before .far .ensures) at (c .before .before .before .before .before .before .before .put-le .ensures)) (rw (c .before .before .before .far2 .ensures, r .2 ∙ zero-add _) at (c .before .before .put-le2 .ensures)))
+    (r .0, meaning-some _ t _ (r .0) (r .1), r .2 ∙ zero-add _, laid-tape _ (r .5) (rw (c .before .before .before .before .before .before .before .before .far .ensures) at (c .before .before .before .before .before .before .before .put-le .ensures)) (rw (c .before .before .before .far2 .ensures, r .2 ∙ zero-add _) at (c .before .before .put-le2 .ensures)))
 
 pub write-tape-spec : {M : Type 1} → statement M
 write-tape-spec =

@@ -20,7 +20,7 @@ same-length c = search needs
 returns : tie.Need-returns
 returns c =
     let k = rw (c .enum-told .given .1) at (c .before .before .before .before .symbol-at .ensures) in
-    (field-none _ (k .0), k .1)
+    (field-none _ _ (k .0), k .1)
 
 skip-blanks-requires : tie.Need-skip-blanks-requires
 skip-blanks-requires c κs =
@@ -42,7 +42,7 @@ same-length-2 c = search needs
 returns-2 : tie.Need-returns-2
 returns-2 c =
     let k = rw (c .before .before .before .before .before .a .given .1) at (c .before .before .before .before .before .before .before .before .before .symbol-at .ensures) in
-    (field-alone _ _ _ (k .1) (c .before .before .before .skip-blanks .ensures .is) (rw (c .enum-told2 .given .1) at (c .before .before .mark-at .ensures)), k .4 .kept)
+    (field-alone _ _ _ _ (k .1) (c .before .before .before .skip-blanks .ensures .is) (rw (c .enum-told2 .given .1) at (c .before .before .mark-at .ensures)), k .4 .kept)
 
 skip-blanks-requires-2 : tie.Need-skip-blanks-requires-2
 skip-blanks-requires-2 c κs =
@@ -57,7 +57,7 @@ returns-3 c =
     let k = rw (c .before .before .before .before .before .before .before .a .given .1) at (c .before .before .before .before .before .before .before .before .before .before .before .symbol-at .ensures) in
     let m = rw (c .before .before .b .given .1) at (c .before .before .before .before .mark-at .ensures) in
     let s = c .skip-blanks2 .ensures in
-    (k .0, field-here _ _ _ _ _ (k .1) (c .before .before .before .before .before .skip-blanks .ensures .is) (m .0) (s .is), omega (arith, k .2, c .before .before .before .before .before .skip-blanks .ensures .ahead, m .1, s .ahead), s .inside, k .4)
+    (k .0, field-here _ _ _ _ _ _ (k .1) (c .before .before .before .before .before .skip-blanks .ensures .is) (m .0) (s .is), omega (arith, k .2, c .before .before .before .before .before .skip-blanks .ensures .ahead, m .1, s .ahead), s .inside, k .4)
 
 pub field-at-spec : {M : Type 1} → statement M
 field-at-spec =

@@ -20,7 +20,7 @@ same-length c = search needs
 returns : tie.Need-returns
 returns c =
     let k = rw (c .enum-told .given .1) at (c .before .before .before .before .name-at .ensures) in
-    (head-none _ _ (k .0), k .1)
+    (head-none _ _ _ (k .0), k .1)
 
 notes-at-requires : tie.Need-notes-at-requires
 notes-at-requires c κs =
@@ -33,7 +33,7 @@ same-length-2 c = search needs
 returns-2 : tie.Need-returns-2
 returns-2 c =
     let x = c .before .before .before .before .before .before .before .before .before .before .before .before .before .args in
-    head-notes (x .text .now) (x .at) (x .pos) _ (x .buf .now) (c .before .before .before .before .before .before .before .before .before .name-at .last .1 .1 .1 .0) (c .before .before .notes-at .last .1 .1 .0) _ (x .frame) (c .before .before .notes-at .result) (c .before .before .before .before .before .before .before .before .before .before .before .before .before .pre .1) (rw (c .before .before .before .before .before .a .given .1) at (c .before .before .before .before .before .before .before .before .before .name-at .ensures)) (c .before .before .notes-at .ensures)
+    head-notes _ (x .text .now) (x .at) (x .pos) _ (x .buf .now) (c .before .before .before .before .before .before .before .before .before .name-at .last .1 .1 .1 .1 .0) (c .before .before .notes-at .last .1 .1 .1 .0) _ (x .frame) (c .before .before .notes-at .result) (c .before .before .before .before .before .before .before .before .before .before .before .before .before .pre .1) (rw (c .before .before .before .before .before .a .given .1) at (c .before .before .before .before .before .before .before .before .before .name-at .ensures)) (c .before .before .notes-at .ensures)
 
 pub head-at-spec : {M : Type 1} → statement M
 head-at-spec =

@@ -5,6 +5,7 @@ use mathlib.Core.Path.{_≡_, refl, ap, _∙_}
 use mathlib.Core.List.{List}
 use lib.ListN.{length}
 use Rattle.output.specs.Wrote.{limit}
+use Rattle.tokens.specs.Quoted.{rawRule}
 use Rattle.reader.specs.Steps.{MarksAt}
 use Rattle.reader.specs.declared.heads.Run.{Run}
 use Rattle.reader.proofs.Laying.{laid-bound}
@@ -14,10 +15,10 @@ use Rattle.reader.proofs.heads.marks_at.Statement.{statement}
 use Rattle.reader.proofs.heads.marks_at.Tie as tie
 
 abbrev Inv-loop : tie.InvT-loop
-Inv-loop text from buf₀ start at₀ pos₀ count₀ buf at pos count = (from ≤ at) × (at ≤ length text) × (pos ≤ limit) × (count ≤ 15) × (length buf ≡ length buf₀) × ((r : Run) (b' : List ℕ) → MarksAt text at (15 - count) buf b' pos count r → MarksAt text from 15 buf₀ b' start 0 r)
+Inv-loop text from old buf₀ start at₀ pos₀ count₀ buf at pos count = (from ≤ at) × (at ≤ length text) × (pos ≤ limit) × (count ≤ 15) × (length buf ≡ length buf₀) × ((r : Run) (b' : List ℕ) → MarksAt (rawRule old) text at (15 - count) buf b' pos count r → MarksAt (rawRule old) text from 15 buf₀ b' start 0 r)
 
 abbrev μ-loop : tie.MeasureT-loop
-μ-loop text from buf₀ start at₀ pos₀ count₀ buf at pos count = length text - at
+μ-loop text from old buf₀ start at₀ pos₀ count₀ buf at pos count = length text - at
 
 loop-holds : tie.Need-loop-holds Inv-loop μ-loop
 loop-holds c = (omega arith, omega arith, omega arith, omega arith, refl, λ r b' h. h)
@@ -41,7 +42,7 @@ returns : tie.Need-returns Inv-loop μ-loop
 returns c =
     let l = c .before .before .before .before .before .before .loop in
     let v = rw (c .enum-told .given .1) at (c .before .before .before .before .note-at .ensures) in
-    l .inv .5 _ _ (marks-end (v .1) (v .0) (l .inv .1) (l .inv .2))
+    l .inv .5 _ _ (marks-end _ (v .1) (v .0) (l .inv .1) (l .inv .2))
 
 same-length-2 : tie.Need-same-length-2 Inv-loop μ-loop
 same-length-2 c =
@@ -53,7 +54,7 @@ returns-2 : tie.Need-returns-2 Inv-loop μ-loop
 returns-2 c =
     let l = c .before .before .before .before .before .before .before .before .loop in
     let v = rw (c .before .before .next .given .1) at (c .before .before .before .before .before .before .note-at .ensures) in
-    l .inv .5 _ _ (marks-over (omega (arith, c .if1 .taken)) (v .1) (v .4 .kept))
+    l .inv .5 _ _ (marks-over _ (omega (arith, c .if1 .taken)) (v .1) (v .4 .kept))
 
 add-count : tie.Need-add-count Inv-loop μ-loop
 add-count c = search needs
@@ -68,7 +69,7 @@ loop-again c =
     let l = c .before .before .before .before .before .before .before .before .loop in
     let v = rw (c .before .before .next .given .1) at (c .before .before .before .before .before .before .note-at .ensures) in
     let n : l .count ≡ 15 → ⊥ = c .if1 .left in
-    (omega (arith, v .2), v .3, laid-bound (v .4), omega (arith, n), v .4 .kept .as-long ∙ l .inv .4, λ r b' h. l .inv .5 r b' (marks-more _ (15 - (l .count + 1)) (v .0) r (omega (arith, n)) (v .1) (v .2) (l .inv .2) (v .4) h))
+    (omega (arith, v .2), v .3, laid-bound (v .4), omega (arith, n), v .4 .kept .as-long ∙ l .inv .4, λ r b' h. l .inv .5 r b' (marks-more _ _ (15 - (l .count + 1)) (v .0) r (omega (arith, n)) (v .1) (v .2) (l .inv .2) (v .4) h))
 
 pub marks-at-spec : {M : Type 1} → statement M
 marks-at-spec =

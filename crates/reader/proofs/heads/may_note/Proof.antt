@@ -11,13 +11,13 @@ use Rattle.reader.proofs.heads.may_note.Tie as tie
 returns : tie.Need-returns
 returns c =
     let x = c .before .before .args in
-    record { none-here = λ h. note-end (x .text .now) (x .at) (c .if1 .taken) }
+    record { none-here = λ h isRaw. note-end isRaw (x .text .now) (x .at) (c .if1 .taken) }
 
 shared-slice-read-b : tie.Need-shared-slice-read-b
 shared-slice-read-b c = search needs
 
 returns-2 : tie.Need-returns-2
-returns-2 c = record { none-here = λ h. never h }
+returns-2 c = record { none-here = λ h isRaw. never h }
 
 is-start-requires : tie.Need-is-start-requires
 is-start-requires c κs = search needs
@@ -25,7 +25,7 @@ is-start-requires c κs = search needs
 returns-3 : tie.Need-returns-3
 returns-3 c =
     let x = c .before .before .before .before .before .before .args in
-    record { none-here = λ h. note-other (x .text .now) (x .at) (omega (arith, c .before .before .before .before .if1 .left, c .before .before .before .before .before .before .pre)) (c .before .before .if2 .left) (sym (c .before .is-start .ensures) ∙ not-true _ (c .if3 .taken)) }
+    record { none-here = λ h isRaw. note-other isRaw (x .text .now) (x .at) (omega (arith, c .before .before .before .before .if1 .left, c .before .before .before .before .before .before .pre)) (c .before .before .if2 .left) (sym (c .before .is-start .ensures) ∙ not-true _ (c .if3 .taken)) }
 
 word-end-requires : tie.Need-word-end-requires
 word-end-requires c κs = search needs
@@ -40,7 +40,7 @@ returns-4 : tie.Need-returns-4
 returns-4 c =
     let x = c .before .before .before .before .before .before .before .before .before .args in
     let s = c .word-stands .ensures in
-    record { none-here = λ h. note-bare (x .text .now) (x .at) (omega (arith, c .before .before .before .before .before .before .before .if1 .left, c .before .before .before .before .before .before .before .before .before .pre)) (c .before .before .before .before .before .if2 .left) (c .before .before .word-end .ensures) (rw h at (s .is)) }
+    record { none-here = λ h isRaw. note-bare isRaw (x .text .now) (x .at) (omega (arith, c .before .before .before .before .before .before .before .if1 .left, c .before .before .before .before .before .before .before .before .before .pre)) (c .before .before .before .before .before .if2 .left) (c .before .before .word-end .ensures) (rw h at (s .is)) }
 
 pub may-note-spec : {M : Type 1} → statement M
 may-note-spec =

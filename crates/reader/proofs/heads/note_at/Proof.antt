@@ -11,7 +11,7 @@ may-note-requires : tie.Need-may-note-requires
 may-note-requires c κs = search needs
 
 returns : tie.Need-returns
-returns c = (c .before .may-note .ensures .none-here (not-true _ (c .if1 .taken)), refl)
+returns c = (c .before .may-note .ensures .none-here (not-true _ (c .if1 .taken)) _, refl)
 
 slice-aggregate-symbol-at : tie.Need-slice-aggregate-symbol-at
 slice-aggregate-symbol-at c = search needs
@@ -28,7 +28,7 @@ enum-told c = search needs
 returns-2 : tie.Need-returns-2
 returns-2 c =
     let k = rw (c .enum-told .given .1) at (c .before .before .before .symbol-at .ensures) in
-    (note-none _ (k .0), refl)
+    (note-none _ _ (k .0), refl)
 
 slice-aggregate-word-stands : tie.Need-slice-aggregate-word-stands
 slice-aggregate-word-stands c = search needs
@@ -42,7 +42,7 @@ returns-3 : tie.Need-returns-3
 returns-3 c =
     let k = rw (c .before .before .before .before .a .given .1) at (c .before .before .before .before .before .before .before .symbol-at .ensures) in
     let s = c .before .word-stands .ensures in
-    (note-alone _ _ (k .1) (rw (not-true (c .before .word-stands .result) (c .if2 .taken)) at (s .is)), refl)
+    (note-alone _ _ _ (k .1) (rw (not-true (c .before .word-stands .result) (c .if2 .taken)) at (s .is)), refl)
 
 symbol-at-requires-2 : tie.Need-symbol-at-requires-2
 symbol-at-requires-2 c κs = search needs
@@ -60,10 +60,10 @@ returns-4 : tie.Need-returns-4
 returns-4 c =
     let k = rw (c .before .before .before .before .before .before .before .before .before .before .a .given .1) at (c .before .before .before .before .before .before .before .before .before .before .before .before .before .symbol-at .ensures) in
     let l = rw (c .enum-told2 .given .1) at (c .before .before .before .before .symbol-at2 .ensures) in
-    absurd (symbol-clash _ _ _ (k .1) (l .0))
+    absurd (symbol-clash _ _ _ _ (k .1) (l .0))
 
-add-t19 : tie.Need-add-t19
-add-t19 c =
+add-t20 : tie.Need-add-t20
+add-t20 c =
     let s = rw (not-false (c .before .before .before .before .before .before .before .before .word-stands .result) (c .before .before .before .before .before .before .before .if2 .left)) at (c .before .before .before .before .before .before .before .before .word-stands .ensures) in
     omega (arith, s .inside)
 
@@ -75,7 +75,7 @@ returns-5 c =
     let k = rw (c .before .before .before .before .before .before .before .before .before .before .before .a .given .1) at (c .before .before .before .before .before .before .before .before .before .before .before .before .before .before .symbol-at .ensures) in
     let l = rw (c .before .p .given .1) at (c .before .before .before .before .before .symbol-at2 .ensures) in
     let s = rw (not-false (c .before .before .before .before .before .before .before .before .word-stands .result) (c .before .before .before .before .before .before .before .if2 .left)) at (c .before .before .before .before .before .before .before .before .word-stands .ensures) in
-    (l .0, note-again _ _ _ _ _ _ (k .1) (l .1) (s .is), omega (arith, k .2), s .inside, l .4)
+    (l .0, note-again _ _ _ _ _ _ _ (k .1) (l .1) (s .is), omega (arith, k .2), s .inside, l .4)
 
 pub note-at-spec : {M : Type 1} → statement M
 note-at-spec =
@@ -96,6 +96,6 @@ note-at-spec =
     enum-told-2
     same-length
     returns-4
-    add-t19
+    add-t20
     same-length-2
     returns-5)

@@ -25,7 +25,7 @@ returns : tie.Need-returns
 returns c =
     let x = c .before .before .before .before .before .before .before .before .before .args in
     let v = rw (c .enum-told .given .1) at (c .before .before .before .before .note-at .ensures) in
-    notes-no (x .text .now) (x .at) (x .pos) (x .buf .now) _ (v .1) (v .0) (c .before .before .before .before .before .before .before .before .before .pre .0) (c .before .before .before .before .before .before .before .before .before .pre .1)
+    notes-no _ (x .text .now) (x .at) (x .pos) (x .buf .now) _ (v .1) (v .0) (c .before .before .before .before .before .before .before .before .before .pre .0) (c .before .before .before .before .before .before .before .before .before .pre .1)
 
 marks-at-requires : tie.Need-marks-at-requires
 marks-at-requires c κs =
@@ -45,7 +45,7 @@ returns-2 : tie.Need-returns-2
 returns-2 c =
     let x = c .before .before .before .before .before .before .before .before .before .before .before .before .before .before .before .before .args in
     let v = rw (c .before .before .before .before .before .before .before .a .given .1) at (c .before .before .before .before .before .before .before .before .before .before .before .note-at .ensures) in
-    notes-broken (x .text .now) (x .at) _ (x .pos) (v .0) (v .1) (v .2) (v .4) (omega (arith, c .before .before .before .before .before .before .before .before .before .before .before .before .before .before .before .before .pre .1, c .before .before .before .before .before .before .before .before .before .before .before .before .before .ahead .ensures)) (omega (arith, c .before .before .before .before .before .before .before .before .before .before .before .before .before .ahead .ensures)) (rw (c .enum-told2 .given .1) at (c .before .before .before .before .marks-at .ensures))
+    notes-broken _ (x .text .now) (x .at) _ (x .pos) (v .0) (v .1) (v .2) (v .4) (omega (arith, c .before .before .before .before .before .before .before .before .before .before .before .before .before .before .before .before .pre .1, c .before .before .before .before .before .before .before .before .before .before .before .before .before .ahead .ensures)) (omega (arith, c .before .before .before .before .before .before .before .before .before .before .before .before .before .ahead .ensures)) (rw (c .enum-told2 .given .1) at (c .before .before .before .before .marks-at .ensures))
 
 cast-put2 : tie.Need-cast-put2
 cast-put2 c =
@@ -60,8 +60,8 @@ add-put2 c =
 put2-requires : tie.Need-put2-requires
 put2-requires c κs = search needs
 
-add-t17 : tie.Need-add-t17
-add-t17 c =
+add-t18 : tie.Need-add-t18
+add-t18 c =
     let k = rw (c .before .before .before .before .before .z .given .1) at (c .before .before .before .before .before .before .before .before .before .marks-at .ensures) in
     omega (arith, k .few)
 
@@ -72,7 +72,7 @@ returns-3 : tie.Need-returns-3
 returns-3 c =
     let x = c .before .before .before .before .before .before .before .before .before .before .before .before .before .before .before .before .before .before .before .before .before .args in
     let v = rw (c .before .before .before .before .before .before .before .before .before .before .before .before .a .given .1) at (c .before .before .before .before .before .before .before .before .before .before .before .before .before .before .before .before .note-at .ensures) in
-    notes-some (x .text .now) (x .at) _ (x .pos) (v .0) (v .1) (v .2) (v .4) (c .before .before .before .before .before .before .before .before .before .before .before .before .before .before .before .before .before .before .ahead .ensures) (rw (c .before .before .before .before .before .z .given .1) at (c .before .before .before .before .before .before .before .before .before .marks-at .ensures)) (c .before .before .put2 .ensures)
+    notes-some _ (x .text .now) (x .at) _ (x .pos) (v .0) (v .1) (v .2) (v .4) (c .before .before .before .before .before .before .before .before .before .before .before .before .before .before .before .before .before .before .ahead .ensures) (rw (c .before .before .before .before .before .z .given .1) at (c .before .before .before .before .before .before .before .before .before .marks-at .ensures)) (c .before .before .put2 .ensures)
 
 pub notes-at-spec : {M : Type 1} → statement M
 notes-at-spec =
@@ -92,6 +92,6 @@ notes-at-spec =
     cast-put2
     add-put2
     put2-requires
-    add-t17
+    add-t18
     same-length-3
     returns-3)

@@ -39,13 +39,13 @@ same-length : tie.Need-same-length
 same-length c = search needs
 
 returns : tie.Need-returns
-returns c = symbol-text (c .before .before .before .before .before .before .before .before .before .before .before .ahead .ensures) (rw (c .before .before .before .before .before .r .given .1) at (c .before .before .before .before .before .before .before .before .before .symbol-at .ensures)) (c .before .before .put-header .ensures)
+returns c = symbol-text _ (c .before .before .before .before .before .before .before .before .before .before .before .ahead .ensures) (rw (c .before .before .before .before .before .r .given .1) at (c .before .before .before .before .before .before .before .before .before .symbol-at .ensures)) (c .before .before .put-header .ensures)
 
 same-length-2 : tie.Need-same-length-2
 same-length-2 c = search needs
 
 returns-2 : tie.Need-returns-2
-returns-2 c = symbol-id (rw (c .before .before .before .before .before .r2 .given .1) at (c .before .before .before .before .before .before .before .before .before .symbol-at .ensures)) (c .before .before .put-header2 .ensures)
+returns-2 c = symbol-id _ (rw (c .before .before .before .before .before .r2 .given .1) at (c .before .before .before .before .before .before .before .before .before .symbol-at .ensures)) (c .before .before .put-header2 .ensures)
 
 same-length-3 : tie.Need-same-length-3
 same-length-3 c = search needs

@@ -10,7 +10,7 @@ use Rattle.reader.proofs.scalars.scalar_at.Tie as tie
 returns : tie.Need-returns
 returns c =
     let x = c .before .before .before .args in
-    (scalar-end (x .m) (x .text .now) (x .at) (c .if1 .taken), kept-all)
+    (scalar-end _ (x .m) (x .text .now) (x .at) (c .if1 .taken), kept-all)
 
 shared-slice-read-b : tie.Need-shared-slice-read-b
 shared-slice-read-b c = search needs
@@ -24,7 +24,7 @@ same-length c = search needs
 returns-2 : tie.Need-returns-2
 returns-2 c =
     let x = c .before .before .before .before .before .before .before .before .before .args in
-    rw (scalar-string (x .m) (x .text .now) (x .at) (omega (arith, c .before .before .before .before .before .before .if1 .left, c .before .before .before .before .before .before .before .before .before .pre .0)) (c .before .before .before .before .if2 .taken)) (c .before .before .string-at .ensures)
+    rw (scalar-string _ (x .m) (x .text .now) (x .at) (omega (arith, c .before .before .before .before .before .before .if1 .left, c .before .before .before .before .before .before .before .before .before .pre .0)) (c .before .before .before .before .if2 .taken)) (c .before .before .string-at .ensures)
 
 symbol-at-requires : tie.Need-symbol-at-requires
 symbol-at-requires c κs = search needs
@@ -35,7 +35,7 @@ same-length-2 c = search needs
 returns-3 : tie.Need-returns-3
 returns-3 c =
     let x = c .before .before .before .before .before .before .before .before .before .before .args in
-    scalar-quoted (x .m) (x .text .now) (x .at) (omega (arith, c .before .before .before .before .before .before .before .if1 .left, c .before .before .before .before .before .before .before .before .before .before .pre .0)) (c .before .before .before .before .before .if2 .left) (x .pos) (x .buf .now) (c .before .before .symbol-at .last .1 .1 .0) (c .before .before .symbol-at .result) (c .before .before .before .before .if3 .taken) (c .before .before .symbol-at .ensures)
+    scalar-quoted _ (x .m) (x .text .now) (x .at) (omega (arith, c .before .before .before .before .before .before .before .if1 .left, c .before .before .before .before .before .before .before .before .before .before .pre .0)) (c .before .before .before .before .before .if2 .left) (x .pos) (x .buf .now) (c .before .before .symbol-at .last .1 .1 .1 .0) (c .before .before .symbol-at .result) (c .before .before .before .before .if3 .taken) (c .before .before .symbol-at .ensures)
 
 braces-at-requires : tie.Need-braces-at-requires
 braces-at-requires c κs = search needs
@@ -46,7 +46,7 @@ same-length-3 c = search needs
 returns-4 : tie.Need-returns-4
 returns-4 c =
     let x = c .before .before .before .before .before .before .before .before .before .before .before .args in
-    rw (scalar-braces (x .m) (x .text .now) (x .at) (omega (arith, c .before .before .before .before .before .before .before .before .if1 .left, c .before .before .before .before .before .before .before .before .before .before .before .pre .0)) (c .before .before .before .before .before .before .if2 .left) (c .before .before .before .before .before .if3 .left) (c .before .before .before .before .if4 .taken)) (c .before .before .braces-at .ensures)
+    rw (scalar-braces _ (x .m) (x .text .now) (x .at) (omega (arith, c .before .before .before .before .before .before .before .before .if1 .left, c .before .before .before .before .before .before .before .before .before .before .before .pre .0)) (c .before .before .before .before .before .before .if2 .left) (c .before .before .before .before .before .if3 .left) (c .before .before .before .before .if4 .taken)) (c .before .before .braces-at .ensures)
 
 is-numeric-requires : tie.Need-is-numeric-requires
 is-numeric-requires c κs = search needs
@@ -60,7 +60,7 @@ same-length-4 c = search needs
 returns-5 : tie.Need-returns-5
 returns-5 c =
     let x = c .before .before .before .before .before .before .before .before .before .before .before .before .before .args in
-    rw (scalar-number (x .m) (x .text .now) (x .at) (omega (arith, c .before .before .before .before .before .before .before .before .before .before .if1 .left, c .before .before .before .before .before .before .before .before .before .before .before .before .before .pre .0)) (c .before .before .before .before .before .before .before .before .if2 .left) (c .before .before .before .before .before .before .before .if3 .left) (c .before .before .before .before .before .before .if4 .left) (sym (c .before .before .before .before .before .is-numeric .ensures) ∙ c .before .before .before .before .if5 .taken)) (c .before .before .number-at .ensures)
+    rw (scalar-number _ (x .m) (x .text .now) (x .at) (omega (arith, c .before .before .before .before .before .before .before .before .before .before .if1 .left, c .before .before .before .before .before .before .before .before .before .before .before .before .before .pre .0)) (c .before .before .before .before .before .before .before .before .if2 .left) (c .before .before .before .before .before .before .before .if3 .left) (c .before .before .before .before .before .before .if4 .left) (sym (c .before .before .before .before .before .is-numeric .ensures) ∙ c .before .before .before .before .if5 .taken)) (c .before .before .number-at .ensures)
 
 word-at-requires : tie.Need-word-at-requires
 word-at-requires c κs = search needs
@@ -71,7 +71,7 @@ same-length-5 c = search needs
 returns-6 : tie.Need-returns-6
 returns-6 c =
     let x = c .before .before .before .before .before .before .before .before .before .before .before .before .before .args in
-    rw (scalar-word (x .m) (x .text .now) (x .at) (omega (arith, c .before .before .before .before .before .before .before .before .before .before .if1 .left, c .before .before .before .before .before .before .before .before .before .before .before .before .before .pre .0)) (c .before .before .before .before .before .before .before .before .if2 .left) (c .before .before .before .before .before .before .before .if3 .left) (c .before .before .before .before .before .before .if4 .left) (sym (c .before .before .before .before .before .is-numeric .ensures) ∙ c .before .before .before .before .if5 .left)) (c .before .before .word-at .ensures)
+    rw (scalar-word _ (x .m) (x .text .now) (x .at) (omega (arith, c .before .before .before .before .before .before .before .before .before .before .if1 .left, c .before .before .before .before .before .before .before .before .before .before .before .before .before .pre .0)) (c .before .before .before .before .before .before .before .before .if2 .left) (c .before .before .before .before .before .before .before .if3 .left) (c .before .before .before .before .before .before .if4 .left) (sym (c .before .before .before .before .before .is-numeric .ensures) ∙ c .before .before .before .before .if5 .left)) (c .before .before .word-at .ensures)
 
 pub scalar-at-spec : {M : Type 1} → statement M
 scalar-at-spec =

@@ -28,7 +28,7 @@ returns : tie.Need-returns
 returns c =
     let x = c .before .before .before .before .before .before .before .before .before .args in
     let k = rw (c .enum-told .given .1) at (c .before .before .before .before .characters-at .ensures) in
-    (string-none (x .text .now) (x .at) (c .before .before .before .before .before .before .before .before .before .pre .0) (c .before .before .before .before .before .before .before .before .before .pre .2) (k .told .0), kept-before (omega (arith, c .before .before .before .before .before .before .ahead .ensures, c .before .before .before .before .before .before .before .before .before .pre .1)) (k .told .1))
+    (string-none _ (x .text .now) (x .at) (c .before .before .before .before .before .before .before .before .before .pre .0) (c .before .before .before .before .before .before .before .before .before .pre .2) (k .told .0), kept-before (omega (arith, c .before .before .before .before .before .before .ahead .ensures, c .before .before .before .before .before .before .before .before .before .pre .1)) (k .told .1))
 
 sub-put-header : tie.Need-sub-put-header
 sub-put-header c =
@@ -44,7 +44,7 @@ same-length-2 c = search needs
 returns-2 : tie.Need-returns-2
 returns-2 c =
     let x = c .before .before .before .before .before .before .before .before .before .before .before .before .before .before .args in
-    copied-string (x .text .now) (x .at) (c .before .before .before .before .before .before .before .before .before .before .before .before .before .before .pre .0) (c .before .before .before .before .before .before .before .before .before .before .before .before .before .before .pre .2) (c .before .before .before .before .before .before .before .before .before .before .before .ahead .ensures) (rw (c .before .before .before .before .before .a .given .1) at (c .before .before .before .before .before .before .before .before .before .characters-at .ensures)) (c .before .before .put-header .ensures)
+    copied-string _ (x .text .now) (x .at) (c .before .before .before .before .before .before .before .before .before .before .before .before .before .before .pre .0) (c .before .before .before .before .before .before .before .before .before .before .before .before .before .before .pre .2) (c .before .before .before .before .before .before .before .before .before .before .before .ahead .ensures) (rw (c .before .before .before .before .before .a .given .1) at (c .before .before .before .before .before .before .before .before .before .characters-at .ensures)) (c .before .before .put-header .ensures)
 
 pub string-at-spec : {M : Type 1} → statement M
 string-at-spec =

@@ -12,6 +12,7 @@ use lib.ListN.{length}
 use borrow.Fn.Kinds.{In}
 use borrow.Fn.PlainCycle.{Measures, is, falls, and}
 use Rattle.output.specs.Wrote.{limit}
+use Rattle.tokens.specs.Quoted.{rawRule}
 use Rattle.reader.specs.Steps.{RunAt}
 use Rattle.reader.specs.declared.heads.Run.{Run}
 use Rattle.reader.proofs.Laying.{laid-bound}
@@ -62,16 +63,16 @@ abbrev value-calls : ℕ → value-lts.Claims
 value-calls t = (head-at-reads.Asked, head-at-reads.Learnt, opener-at-reads.Asked, opener-at-reads.Learnt, free-of-reads.Asked, free-of-reads.Learnt, scalar-at-reads.Asked, scalar-at-reads.Learnt, ahead-reads.Asked, ahead-reads.Learnt, sequence-below t, sequence.Post, tag-of-reads.Asked, tag-of-reads.Learnt, put-header-reads.Asked, put-header-reads.Learnt)
 
 abbrev sequence-Inv-loop : sequence-lts.InvT-loop
-sequence-Inv-loop text from frame left buf₀ start at₀ pos₀ count₀ buf at pos count =
+sequence-Inv-loop text from old frame left buf₀ start at₀ pos₀ count₀ buf at pos count =
     (from ≤ at)
     × (at ≤ length text)
     × (count ≤ at)
     × (pos ≤ limit)
     × (length buf ≡ length buf₀)
-    × ((r : Run) (b' : List ℕ) → RunAt text at frame left buf b' pos count r → RunAt text from frame left buf₀ b' start 0 r)
+    × ((r : Run) (b' : List ℕ) → RunAt (rawRule old) text at frame left buf b' pos count r → RunAt (rawRule old) text from frame left buf₀ b' start 0 r)
 
 abbrev sequence-μ-loop : sequence-lts.MeasureT-loop
-sequence-μ-loop text from frame left buf₀ start at₀ pos₀ count₀ buf at pos count = length text - at
+sequence-μ-loop text from old frame left buf₀ start at₀ pos₀ count₀ buf at pos count = length text - at
 
 sequence-loop-holds : (t : ℕ) → sequence-lts.Need-loop-holds (sequence-calls t) (sequence-at t) sequence.Post sequence-Inv-loop sequence-μ-loop
 sequence-loop-holds t c = (omega arith, omega arith, omega arith, omega arith, refl, λ r b' h. h)
@@ -93,7 +94,7 @@ sequence-returns t c =
     let l = c .before .before .before .before .before .loop in
     let s = c .before .before .before .before .skip-blanks in
     let e = rw (c .before .end .given .1) at (c .before .before .before .close-at .ensures) in
-    l .inv .5 _ _ (run-end (s .ensures) (l .inv .3) (e .0) (e .1) (e .2))
+    l .inv .5 _ _ (run-end _ (s .ensures) (l .inv .3) (e .0) (e .1) (e .2))
 
 sequence-enum-told : (t : ℕ) → sequence-lts.Need-enum-told (sequence-calls t) (sequence-at t) sequence.Post sequence-Inv-loop sequence-μ-loop
 sequence-enum-told t c = search needs
@@ -108,7 +109,7 @@ sequence-enum-told-2 : (t : ℕ) → sequence-lts.Need-enum-told-2 (sequence-cal
 sequence-enum-told-2 t c = search needs
 
 sequence-same-length-2 : (t : ℕ) → sequence-lts.Need-same-length-2 (sequence-calls t) (sequence-at t) sequence.Post sequence-Inv-loop sequence-μ-loop
-sequence-same-length-2 t c = c .before .before .before .before .value .kept .1 .1 .1 .1 .0 ∙ c .before .before .before .before .before .before .before .before .before .before .loop .inv .4
+sequence-same-length-2 t c = c .before .before .before .before .value .kept .1 .1 .1 .1 .1 .0 ∙ c .before .before .before .before .before .before .before .before .before .before .loop .inv .4
 
 sequence-returns-2 : (t : ℕ) → sequence-lts.Need-returns-2 (sequence-calls t) (sequence-at t) sequence.Post sequence-Inv-loop sequence-μ-loop
 sequence-returns-2 t c =
@@ -116,7 +117,7 @@ sequence-returns-2 t c =
     let s = c .before .before .before .before .before .before .before .before .before .skip-blanks in
     let e = rw (c .before .before .before .before .before .before .enum-told .given .1) at (c .before .before .before .before .before .before .before .before .close-at .ensures) in
     let v = c .before .before .before .before .value in
-    l .inv .5 _ _ (run-no-child (s .ensures) e (rw (c .enum-told2 .given .1) at (v .ensures)))
+    l .inv .5 _ _ (run-no-child _ (s .ensures) e (rw (c .enum-told2 .given .1) at (v .ensures)))
 
 sequence-gap-at-requires : (t : ℕ) → sequence-lts.Need-gap-at-requires (sequence-calls t) (sequence-at t) sequence.Post sequence-Inv-loop sequence-μ-loop
 sequence-gap-at-requires t c κs =
@@ -130,7 +131,7 @@ sequence-enum-told-3 : (t : ℕ) → sequence-lts.Need-enum-told-3 (sequence-cal
 sequence-enum-told-3 t c = search needs
 
 sequence-same-length-3 : (t : ℕ) → sequence-lts.Need-same-length-3 (sequence-calls t) (sequence-at t) sequence.Post sequence-Inv-loop sequence-μ-loop
-sequence-same-length-3 t c = c .before .before .before .before .before .before .before .before .value .kept .1 .1 .1 .1 .0 ∙ c .before .before .before .before .before .before .before .before .before .before .before .before .before .before .loop .inv .4
+sequence-same-length-3 t c = c .before .before .before .before .before .before .before .before .value .kept .1 .1 .1 .1 .1 .0 ∙ c .before .before .before .before .before .before .before .before .before .before .before .before .before .before .loop .inv .4
 
 sequence-returns-3 : (t : ℕ) → sequence-lts.Need-returns-3 (sequence-calls t) (sequence-at t) sequence.Post sequence-Inv-loop sequence-μ-loop
 sequence-returns-3 t c =
@@ -139,7 +140,7 @@ sequence-returns-3 t c =
     let e = rw (c .before .before .before .before .before .before .before .before .before .before .enum-told .given .1) at (c .before .before .before .before .before .before .before .before .before .before .before .before .close-at .ensures) in
     let v = rw (c .before .before .before .before .behind .given .1) at (c .before .before .before .before .before .before .before .before .value .ensures) in
     let g = rw (c .enum-told3 .given .1) at (c .before .before .gap-at .ensures) in
-    l .inv .5 _ _ (run-no-gap (s .ensures) e v g)
+    l .inv .5 _ _ (run-no-gap _ (s .ensures) e v g)
 
 sequence-add-count : (t : ℕ) → sequence-lts.Need-add-count (sequence-calls t) (sequence-at t) sequence.Post sequence-Inv-loop sequence-μ-loop
 sequence-add-count t c = omega arith
@@ -163,7 +164,7 @@ sequence-loop-again t c =
       omega (arith, w .2),
       laid-bound (w .4),
       w .4 .kept .as-long ∙ l .inv .4,
-      λ r b' h. l .inv .5 r b' (run-more (s .ensures) e r (l .inv .3) v (g .0) (g .1) (g .2) h),
+      λ r b' h. l .inv .5 r b' (run-more _ (s .ensures) e r (l .inv .3) v (g .0) (g .1) (g .2) h),
     )
 
 value-head-at-requires : (t : ℕ) → value-lts.Need-head-at-requires (value-calls t) (value-at t) value.Post
@@ -176,12 +177,12 @@ value-enum-told : (t : ℕ) → value-lts.Need-enum-told (value-calls t) (value-
 value-enum-told t c = search needs
 
 value-same-length : (t : ℕ) → value-lts.Need-same-length (value-calls t) (value-at t) value.Post
-value-same-length t c = c .before .before .before .before .head-at .kept .1 .1 .1 .0
+value-same-length t c = c .before .before .before .before .head-at .kept .1 .1 .1 .1 .0
 
 value-returns : (t : ℕ) → value-lts.Need-returns (value-calls t) (value-at t) value.Post
 value-returns t c =
     let h = rw (c .enum-told .given .1) at (c .before .before .before .before .head-at .ensures) in
-    value-at-headless (h .0) (h .1)
+    value-at-headless _ (h .0) (h .1)
 
 value-opener-at-requires : (t : ℕ) → value-lts.Need-opener-at-requires (value-calls t) (value-at t) value.Post
 value-opener-at-requires t c κs =
@@ -203,21 +204,21 @@ value-scalar-at-requires t c κs =
     (h .4, laid-bound (h .5))
 
 value-same-length-2 : (t : ℕ) → value-lts.Need-same-length-2 (value-calls t) (value-at t) value.Post
-value-same-length-2 t c = c .before .before .scalar-at .kept .1 .1 .1 .0 ∙ c .before .before .before .before .before .before .before .before .before .before .before .before .before .head-at .kept .1 .1 .1 .0
+value-same-length-2 t c = c .before .before .scalar-at .kept .1 .1 .1 .1 .0 ∙ c .before .before .before .before .before .before .before .before .before .before .before .before .before .head-at .kept .1 .1 .1 .1 .0
 
 value-returns-2 : (t : ℕ) → value-lts.Need-returns-2 (value-calls t) (value-at t) value.Post
 value-returns-2 t c =
     let h = rw (c .before .before .before .before .before .before .before .before .before .a .given .1) at (c .before .before .before .before .before .before .before .before .before .before .before .before .before .head-at .ensures) in
-    value-at-head _ (c .before .before .before .before .before .before .before .before .before .before .before .before .before .before .before .before .before .pre .1 .1) h (c .before .before .before .before .free-of .ensures) (body-at-scalar _ (h .4) (rw (c .before .before .before .before .before .enum-told2 .given .1) at (c .before .before .before .before .before .before .before .opener-at .ensures)) (c .before .before .scalar-at .ensures))
+    value-at-head _ _ (c .before .before .before .before .before .before .before .before .before .before .before .before .before .before .before .before .before .pre .1 .1) h (c .before .before .before .before .free-of .ensures) (body-at-scalar _ _ (h .4) (rw (c .before .before .before .before .before .enum-told2 .given .1) at (c .before .before .before .before .before .before .before .opener-at .ensures)) (c .before .before .scalar-at .ensures))
 
 value-same-length-3 : (t : ℕ) → value-lts.Need-same-length-3 (value-calls t) (value-at t) value.Post
-value-same-length-3 t c = c .before .before .before .before .before .before .before .before .before .before .head-at .kept .1 .1 .1 .0
+value-same-length-3 t c = c .before .before .before .before .before .before .before .before .before .before .head-at .kept .1 .1 .1 .1 .0
 
 value-returns-3 : (t : ℕ) → value-lts.Need-returns-3 (value-calls t) (value-at t) value.Post
 value-returns-3 t c =
     let h = rw (c .before .before .before .before .before .before .a .given .1) at (c .before .before .before .before .before .before .before .before .before .before .head-at .ensures) in
     let o = rw (c .before .before .inner .given .1) at (c .before .before .before .before .opener-at .ensures) in
-    value-at-head _ (c .before .before .before .before .before .before .before .before .before .before .before .before .before .before .pre .1 .1) h refl (body-at-deep (h .4) o (c .if1 .taken))
+    value-at-head _ _ (c .before .before .before .before .before .before .before .before .before .before .before .before .before .before .pre .1 .1) h refl (body-at-deep _ (h .4) o (c .if1 .taken))
 
 value-ahead-requires : (t : ℕ) → value-lts.Need-ahead-requires (value-calls t) (value-at t) value.Post
 value-ahead-requires t c κs = tt
@@ -244,13 +245,13 @@ value-enum-told-3 : (t : ℕ) → value-lts.Need-enum-told-3 (value-calls t) (va
 value-enum-told-3 t c = search needs
 
 value-same-length-4 : (t : ℕ) → value-lts.Need-same-length-4 (value-calls t) (value-at t) value.Post
-value-same-length-4 t c = c .before .before .before .before .sequence .kept .1 .1 .1 .1 .0 ∙ c .before .before .before .before .before .before .before .before .before .before .before .before .before .before .before .before .before .head-at .kept .1 .1 .1 .0
+value-same-length-4 t c = c .before .before .before .before .sequence .kept .1 .1 .1 .1 .1 .0 ∙ c .before .before .before .before .before .before .before .before .before .before .before .before .before .before .before .before .before .head-at .kept .1 .1 .1 .1 .0
 
 value-returns-4 : (t : ℕ) → value-lts.Need-returns-4 (value-calls t) (value-at t) value.Post
 value-returns-4 t c =
     let h = rw (c .before .before .before .before .before .before .before .before .before .before .before .before .before .a .given .1) at (c .before .before .before .before .before .before .before .before .before .before .before .before .before .before .before .before .before .head-at .ensures) in
     let o = rw (c .before .before .before .before .before .before .before .before .before .inner .given .1) at (c .before .before .before .before .before .before .before .before .before .before .before .opener-at .ensures) in
-    value-at-head _ (c .before .before .before .before .before .before .before .before .before .before .before .before .before .before .before .before .before .before .before .before .before .pre .1 .1) h refl (body-at-broken (h .4) o (c .before .before .before .before .before .before .before .if1 .left) (omega (arith, laid-bound (h .5), c .before .before .before .before .before .before .ahead .ensures)) (rw (c .enum-told3 .given .1) at (c .before .before .before .before .sequence .ensures)))
+    value-at-head _ _ (c .before .before .before .before .before .before .before .before .before .before .before .before .before .before .before .before .before .before .before .before .before .pre .1 .1) h refl (body-at-broken _ (h .4) o (c .before .before .before .before .before .before .before .if1 .left) (omega (arith, laid-bound (h .5), c .before .before .before .before .before .before .ahead .ensures)) (rw (c .enum-told3 .given .1) at (c .before .before .before .before .sequence .ensures)))
 
 value-tag-of-requires : (t : ℕ) → value-lts.Need-tag-of-requires (value-calls t) (value-at t) value.Post
 value-tag-of-requires t c κs = search needs
@@ -264,13 +265,13 @@ value-put-header-requires : (t : ℕ) → value-lts.Need-put-header-requires (va
 value-put-header-requires t c κs = search needs
 
 value-same-length-5 : (t : ℕ) → value-lts.Need-same-length-5 (value-calls t) (value-at t) value.Post
-value-same-length-5 t c = c .before .before .put-header .kept .0 ∙ c .before .before .before .before .before .before .before .before .before .before .sequence .kept .1 .1 .1 .1 .0 ∙ c .before .before .before .before .before .before .before .before .before .before .before .before .before .before .before .before .before .before .before .before .before .before .before .head-at .kept .1 .1 .1 .0
+value-same-length-5 t c = c .before .before .put-header .kept .0 ∙ c .before .before .before .before .before .before .before .before .before .before .sequence .kept .1 .1 .1 .1 .1 .0 ∙ c .before .before .before .before .before .before .before .before .before .before .before .before .before .before .before .before .before .before .before .before .before .before .before .head-at .kept .1 .1 .1 .1 .0
 
 value-returns-5 : (t : ℕ) → value-lts.Need-returns-5 (value-calls t) (value-at t) value.Post
 value-returns-5 t c =
     let h = rw (c .before .before .before .before .before .before .before .before .before .before .before .before .before .before .before .before .before .before .before .a .given .1) at (c .before .before .before .before .before .before .before .before .before .before .before .before .before .before .before .before .before .before .before .before .before .before .before .head-at .ensures) in
     let o = rw (c .before .before .before .before .before .before .before .before .before .before .before .before .before .before .before .inner .given .1) at (c .before .before .before .before .before .before .before .before .before .before .before .before .before .before .before .before .before .opener-at .ensures) in
-    value-at-head _ (c .before .before .before .before .before .before .before .before .before .before .before .before .before .before .before .before .before .before .before .before .before .before .before .before .before .before .before .pre .1 .1) h refl (body-at-nest (h .4) o (c .before .before .before .before .before .before .before .before .before .before .before .before .before .if1 .left) (c .before .before .before .before .before .before .before .before .before .before .before .before .ahead .ensures) (rw (c .before .before .before .before .before .before .z .given .1) at (c .before .before .before .before .before .before .before .before .before .before .sequence .ensures)) (rw (c .before .before .before .tag-of .ensures) at (c .before .before .put-header .ensures)))
+    value-at-head _ _ (c .before .before .before .before .before .before .before .before .before .before .before .before .before .before .before .before .before .before .before .before .before .before .before .before .before .before .before .pre .1 .1) h refl (body-at-nest _ (h .4) o (c .before .before .before .before .before .before .before .before .before .before .before .before .before .if1 .left) (c .before .before .before .before .before .before .before .before .before .before .before .before .ahead .ensures) (rw (c .before .before .before .before .before .before .z .given .1) at (c .before .before .before .before .before .before .before .before .before .before .sequence .ensures)) (rw (c .before .before .before .tag-of .ensures) at (c .before .before .put-header .ensures)))
 
 pub +sequence+value-spec : {M : Type 1} → statement M
 +sequence+value-spec = close μ-sequence μ-value

@@ -20,7 +20,7 @@ same-length c = search needs
 returns : tie.Need-returns
 returns c =
     let a = c .before .before .before .before .before .before .before .before .args in
-    copies-as _ (omega arith) (character-escape (a .text .now) (a .at) (c .before .before .before .before .before .before .before .before .pre .0) (c .before .before .before .before .if1 .taken)) (c .before .before .escape-at .ensures)
+    copies-as _ (omega arith) (character-escape (a .text .now) (a .at) (c .before .before .before .before .before .before .before .before .pre .0) _ (c .before .before .before .before .if1 .taken)) (c .before .before .escape-at .ensures)
 
 raw-at-requires : tie.Need-raw-at-requires
 raw-at-requires c κs = search needs
@@ -31,7 +31,7 @@ same-length-2 c = search needs
 returns-2 : tie.Need-returns-2
 returns-2 c =
     let a = c .before .before .before .before .before .before .before .before .args in
-    copies-as _ (omega arith) (character-raw (a .text .now) (a .at) (c .before .before .before .before .before .before .before .before .pre .0) (c .before .before .before .before .if1 .left)) (c .before .before .raw-at .ensures)
+    copies-as _ (omega arith) (character-raw (a .text .now) (a .at) (c .before .before .before .before .before .before .before .before .pre .0) _ (c .before .before .before .before .if1 .left)) (c .before .before .raw-at .ensures)
 
 pub character-at-spec : {M : Type 1} → statement M
 character-at-spec =

@@ -3,8 +3,7 @@ use Prim.Native.Nat.{_+_, _-_}
 use mathlib.Core.Path.{_≡_, sym, _∙_}
 use native.Mathlib.Omega.{arith}
 use lib.ListN.{take, drop}
-use borrow.Author.Tests.{ne-eqb, le-leb}
-use Rattle.tokens.specs.Quoted.{isRaw}
+use borrow.Author.Tests.{le-leb, not-true, not-false}
 use Rattle.text_rules.proofs.Utf8Chars.{char-in}
 use Rattle.tokens.proofs.QuotedSteps.{raw-at}
 use Rattle.tokens.proofs.Keeping.{kept-all}
@@ -12,29 +11,24 @@ use borrow.Author.Needs.{needs}
 use Rattle.tokens.proofs.quoted.raw_at.Statement.{statement}
 use Rattle.tokens.proofs.quoted.raw_at.Tie as tie
 
-shared-slice-read-b : tie.Need-shared-slice-read-b
-shared-slice-read-b c = search needs
+shared-slice-read-is-raw : tie.Need-shared-slice-read-is-raw
+shared-slice-read-is-raw c = search needs
+
+is-raw-requires : tie.Need-is-raw-requires
+is-raw-requires c κs = search needs
 
 returns : tie.Need-returns
-unfolding isRaw
 returns c =
-    let a = c .before .before .before .before .args in
-    record { told = (raw-at (a .text .now) (a .at) (c .before .before .before .before .pre .0) ∙ rw (c .if1 .taken), kept-all) }
-
-returns-2 : tie.Need-returns-2
-unfolding isRaw
-returns-2 c =
     let a = c .before .before .before .before .before .args in
-    record { told = (raw-at (a .text .now) (a .at) (c .before .before .before .before .before .pre .0) ∙ rw (c .if2 .taken), kept-all) }
+    record { told = (raw-at _ (a .text .now) (a .at) (c .before .before .before .before .before .pre .0) ∙ rw (sym (c .before .is-raw .ensures) ∙ not-true _ (c .if1 .taken)), kept-all) }
 
 char-len-requires : tie.Need-char-len-requires
 char-len-requires c κs = search needs
 
-returns-3 : tie.Need-returns-3
-unfolding isRaw
-returns-3 c =
+returns-2 : tie.Need-returns-2
+returns-2 c =
     let a = c .before .before .before .before .before .before .before .args in
-    record { told = (raw-at (a .text .now) (a .at) (c .before .before .before .before .before .before .before .pre .0) ∙ simp (ne-eqb _ _ (c .before .before .before .if1 .left), ne-eqb _ _ (c .before .before .if2 .left), sym (c .before .char-len .ensures) ∙ c .if3 .taken), kept-all) }
+    record { told = (raw-at _ (a .text .now) (a .at) (c .before .before .before .before .before .before .before .pre .0) ∙ simp (sym (c .before .before .before .is-raw .ensures) ∙ not-false _ (c .before .before .if1 .left), sym (c .before .char-len .ensures) ∙ c .if2 .taken), kept-all) }
 
 add-end : tie.Need-add-end
 add-end c = omega (arith, c .before .char-len .ensures, char-in (c .before .before .before .before .before .before .before .args .text .now) (c .before .before .before .before .before .before .before .args .at) (c .before .before .before .before .before .before .before .pre .0))
@@ -54,28 +48,27 @@ put-bytes-requires c κs = search needs
 same-length : tie.Need-same-length
 same-length c = search needs
 
-returns-4 : tie.Need-returns-4
-unfolding isRaw
-returns-4 c =
+returns-3 : tie.Need-returns-3
+returns-3 c =
     let a = c .before .before .before .before .before .before .before .before .before .before .before .before .args in
     let n = c .before .before .before .before .before .before .char-len .result in
     let z : a .at + n - a .at ≡ n = omega arith in
     let k = sym (c .before .before .before .before .before .before .char-len .ensures) in
-    record { told = (take n (drop (a .at) (a .text .now)), raw-at (a .text .now) (a .at) (c .before .before .before .before .before .before .before .before .before .before .before .before .pre .0) ∙ simp (ne-eqb _ _ (c .before .before .before .before .before .before .before .before .if1 .left), ne-eqb _ _ (c .before .before .before .before .before .before .before .if2 .left), k, le-leb 1 n (omega (arith, c .before .before .before .before .before .if3 .left))), omega (arith, c .before .before .before .before .before .if3 .left), omega (arith, c .before .before .before .before .before .before .char-len .ensures, char-in (a .text .now) (a .at) (c .before .before .before .before .before .before .before .before .before .before .before .before .pre .0)), rw z at (c .before .before .put-bytes .ensures)) }
+    record { told = (take n (drop (a .at) (a .text .now)), raw-at _ (a .text .now) (a .at) (c .before .before .before .before .before .before .before .before .before .before .before .before .pre .0) ∙ simp (sym (c .before .before .before .before .before .before .before .before .is-raw .ensures) ∙ not-false _ (c .before .before .before .before .before .before .before .if1 .left), k, le-leb 1 n (omega (arith, c .before .before .before .before .before .if2 .left))), omega (arith, c .before .before .before .before .before .if2 .left), omega (arith, c .before .before .before .before .before .before .char-len .ensures, char-in (a .text .now) (a .at) (c .before .before .before .before .before .before .before .before .before .before .before .before .pre .0)), rw z at (c .before .before .put-bytes .ensures)) }
 
 pub raw-at-spec : {M : Type 1} → statement M
 raw-at-spec =
     tie.close
     (tie.spec
-    shared-slice-read-b
+    shared-slice-read-is-raw
+    is-raw-requires
     returns
-    returns-2
     char-len-requires
-    returns-3
+    returns-2
     add-end
     sub-put-bytes
     part-put-bytes-start
     part-put-bytes-end
     put-bytes-requires
     same-length
-    returns-4)
+    returns-3)

@@ -1,0 +1,14 @@
+pub mod Bytes
+pub mod Texts
+pub mod Steps
+pub mod Image
+pub mod Between
+pub mod Words
+pub mod Numbers
+pub mod Carried
+pub mod Escapes
+pub mod Braces
+pub mod Mapped
+pub mod Characters
+pub mod Meaning
+pub mod Answers

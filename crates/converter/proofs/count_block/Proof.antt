@@ -1,0 +1,22 @@
+-- `converter::count_block` meets its contract. Assumes nothing.
+use mathlib.Core.Path.{ap}
+use native.Mathlib.Omega.{arith}
+use lib.ListN.{length}
+use borrow.Author.Needs.{needs}
+use Rattle.converter.proofs.count_block.Statement.{statement}
+use Rattle.converter.proofs.count_block.Tie as tie
+
+any-suspect-requires : tie.Need-any-suspect-requires
+any-suspect-requires c κs = search needs
+
+returns : tie.Need-returns
+returns c = omega (arith, ap length (c .before .any-suspect .ensures (c .if1 .taken)))
+
+count-bytes-requires : tie.Need-count-bytes-requires
+count-bytes-requires c κs = search needs
+
+returns-2 : tie.Need-returns-2
+returns-2 c = search needs
+
+pub count-block-spec : {M : Type 1} → statement M
+count-block-spec = tie.close (tie.spec any-suspect-requires returns count-bytes-requires returns-2)
