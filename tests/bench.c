@@ -1,7 +1,7 @@
-/* Times ion_write in a layout, or ion_write_tree, over tape files, and in turn with it ion_length or ion_tree_length: thread processor time, best
-   of many. Prints for each file the answer and both times. For count.py, with `once` there is one call of the writer for each file, and with
-   `both` one of the length behind it.
-   Usage: bench [once|both] LAYOUT|tree FILE.. */
+/* Times ion_write in a layout, or ion_write_tree, over tape files, and in turn with it ion_length or ion_tree_length; or ion_read or ion_convert over text
+   files: thread processor time, best of many. Prints for each file the answer and both times. For count.py, with `once` there is one call for each file,
+   and with `both` one of the length behind it. Nothing is printed of a call that the archive does not have.
+   Usage: bench [once|both] LAYOUT|tree|read|convert FILE.. */
 #include "../bindings/c/ion.h"
 
 #include <stdio.h>
@@ -9,9 +9,10 @@
 #include <string.h>
 #include <time.h>
 
-/* bench_both.py links archives that have no lengths, too. */
+/* bench_both.py links archives that have no lengths or no converter, too. */
 #pragma weak ion_length
 #pragma weak ion_tree_length
+#pragma weak ion_convert
 
 static double now(void) {
     struct timespec t;
@@ -19,29 +20,39 @@ static double now(void) {
     return t.tv_sec * 1e9 + t.tv_nsec;
 }
 
-static uint8_t tape[1 << 20], out[1 << 24];
+static uint8_t in[1 << 20], out[1 << 24];
+
+enum { WRITE, TREE, READ, CONVERT };
+
+static int64_t call(int what, uint32_t layout, size_t n) {
+    if (what == CONVERT) return ion_convert(in, n, out, sizeof out);
+    if (what == READ) return ion_read(in, n, out, sizeof out);
+    return what == TREE ? ion_write_tree(in, n, out, sizeof out) : ion_write(layout, in, n, out, sizeof out);
+}
 
 int main(int count, char **words) {
     int both = !strcmp(words[1], "both"), once = both || !strcmp(words[1], "once");
-    int tree = !strcmp(words[1 + once], "tree");
-    uint32_t layout = atoi(words[1 + once]);
+    const char *word = words[1 + once];
+    int what = !strcmp(word, "tree") ? TREE : !strcmp(word, "read") ? READ : !strcmp(word, "convert") ? CONVERT : WRITE;
+    uint32_t layout = atoi(word);
+    if (what == CONVERT && !ion_convert) return 0;
     for (int k = 2 + once; k < count; k++) {
         FILE *f = fopen(words[k], "rb");
         if (!f) return 1;
-        size_t n = fread(tape, 1, sizeof tape, f);
+        size_t n = fread(in, 1, sizeof in, f);
         fclose(f);
         int turns = once ? 1 : 1 + 200000 / (int)(n + 20), runs = once ? 1 : 300;
         double best = 1e18, length = 1e18;
         int64_t r = 0;
         for (int i = 0; i < runs; i++) {
             double a = now();
-            for (int j = 0; j < turns; j++) r = tree ? ion_write_tree(tape, n, out, sizeof out) : ion_write(layout, tape, n, out, sizeof out);
+            for (int j = 0; j < turns; j++) r = call(what, layout, n);
             double d = (now() - a) / turns;
             if (d < best) best = d;
-            if (once > both || !ion_length) continue;
+            if (once > both || !ion_length || what > TREE) continue;
             a = now();
             for (int j = 0; j < turns; j++)
-                if ((tree ? ion_tree_length(tape, n) : ion_length(layout, tape, n)) != r) return 2;
+                if ((what == TREE ? ion_tree_length(in, n) : ion_length(layout, in, n)) != r) return 2;
             d = (now() - a) / turns;
             if (d < length) length = d;
         }

@@ -1,4 +1,5 @@
-"""Two archives beside each other, in one run: the second's writing time over the first's, on the sample tapes (tests/samples.py).
+"""Two archives beside each other, in one run: the second's writing time over the first's, on the sample tapes (tests/samples.py), and so of reading a
+pass list and of converting it, clean and with control characters raw, where both archives have the call.
 
     python3 tests/bench_both.py BEFORE.a NOW.a [ROUNDS]
 
@@ -26,7 +27,8 @@ def linked(archive, place, folder):
 
 
 def time_of(program, layout, path):
-    return float(subprocess.run([program, layout, path], stdout=subprocess.PIPE, check=True).stdout.decode().split()[2])
+    said = subprocess.run([program, layout, path], stdout=subprocess.PIPE, check=True).stdout.decode()
+    return float(said.split()[2]) if said else 1e18
 
 
 def main():
@@ -36,7 +38,7 @@ def main():
         print('%-16s %6s %12s %12s %7s' % ('sample', 'layout', 'before ns', 'now ns', 'ratio'))
         tapes = os.path.join(folder, 'tapes')
         os.mkdir(tapes)
-        for name, path, layouts in sorted(samples.write(tapes)):
+        for name, path, layouts in sorted(samples.write(tapes)) + list(samples.write_texts(tapes)):
             for layout in layouts:
                 best = [[1e18] * len(PLACES), [1e18] * len(PLACES)]
                 for _ in range(rounds):
@@ -44,7 +46,8 @@ def main():
                         for i, program in enumerate(of):
                             best[k][i] = min(best[k][i], time_of(program, layout, path))
                 before, now = (sum(b) / len(b) for b in best)
-                print('%-16s %6s %12.0f %12.0f %7.3f' % (name, layout, before, now, now / before), flush=True)
+                if before < 1e18:
+                    print('%-16s %6s %12.0f %12.0f %7.3f' % (name, layout, before, now, now / before), flush=True)
 
 
 if __name__ == '__main__':

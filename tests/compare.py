@@ -1,7 +1,8 @@
 """Compares our streaming and tree texts with the Rust's (with control characters as document 02, A5, has them: `amended` of tests/tapes.py) over
 random accepted tapes, in full and cut short by the room, and the lengths that ion_length and ion_tree_length tell of them. Reads each text back,
 which must give the tape itself, and the lines of Lines texts one by one, which must give each value's tape, or what the line book gives where they
-are damaged (tests/grammar.py). Compares answer and buffer on damaged tapes with tests/model.py. The driver checks what it does not send: all of the
+are damaged (tests/grammar.py). Converts the Rust's own texts, which must give ours; those with control characters raw must be refused by the reader.
+Compares answer and buffer on damaged tapes with tests/model.py. The driver checks what it does not send: all of the
 buffer that a call must leave alone or zero, and behind each call of a writer the length of its text.
 
     ION_RUST_FILES=folder tests/oracle/build
@@ -27,8 +28,8 @@ import model
 from random_tapes import IDS, nested, stream, tree, value
 from tapes import amended, by_rust, node, tape
 
-READ, LINES, TREE = 16, 17, 18
-MODES = {0: 'Compact', 1: 'Lines', 2: 'Pretty', READ: 'reading', LINES: 'line calls', TREE: 'tree'}
+READ, LINES, TREE, CONVERT = 16, 17, 18, 19
+MODES = {0: 'Compact', 1: 'Lines', 2: 'Pretty', READ: 'reading', LINES: 'line calls', TREE: 'tree', CONVERT: 'converting'}
 AMPLE = 1 << 16
 done = collections.Counter()
 driver = None  # the program of driver.c, once main has made it
@@ -135,10 +136,13 @@ def against_rust(r, lists, modes):
     pairs = [(y, tape(v)) for v in lists for y in modes]
     own = by_rust([(3 if y == TREE else y, t) for y, t in pairs])
     texts = [amended(s) for s in own]
-    # the raw spelling is read too
-    raw = [(s, t) for (_, t), s, a in zip(pairs, own, texts) if s != a]
-    same([(READ, AMPLE, s) for s, _ in raw], [(len(t), t) for _, t in raw])
-    done['texts with raw control characters, as the Rust has them, read back'] += len(raw)
+    raw = [s for s, a in zip(own, texts) if s != a]
+    same([(READ, AMPLE, s) for s in raw], [(-8, b'')] * len(raw))
+    same([(CONVERT, AMPLE, s) for s in own], [(len(a), a) for a in texts])
+    same([(CONVERT, len(a), s) for s, a in zip(own, texts)], [(len(a), a) for a in texts])
+    same([(CONVERT, r.randrange(len(a)), s) for s, a in zip(own, texts) if a], [(-14, b'') for a in texts if a])
+    done['texts with raw control characters, as the Rust has them, refused'] += len(raw)
+    done['texts as the Rust has them, converted to ours, and refused by 14 where the room is short'] += len(own)
     same([(y, AMPLE, t) for y, t in pairs], [(len(s), s) for s in texts])
     cut = [(y, r.randrange(len(s)), t, s) for (y, t), s in zip(pairs, texts) if s]
     same([(y, room, t) for y, room, t, _ in cut], [(-6, s[:room]) for _, room, _, s in cut])

@@ -1,5 +1,5 @@
 """Instructions and taken branches of one call that writes a sample tape (tests/samples.py), and instructions of one that tells its text's
-length, by valgrind's callgrind on our archive.
+length; and the first two of one that reads or converts a sample text; by valgrind's callgrind on our archive.
 
     python3 tests/count.py
 
@@ -42,6 +42,10 @@ def main():
             write, tell = ('ion_write_tree', 'ion_tree_length') if layout == 'tree' else ('ion_write', 'ion_length')
             counts = [*counted(bench, 'once', write, layout, paths[name]), counted(bench, 'both', tell, layout, paths[name])[0]]
             print('%-18s %14s %16s %14s' % (name + ', tree' * (layout == 'tree'), *map('{:,}'.format, counts)), flush=True)
+        for name, path, calls in samples.write_texts(folder):
+            for call in calls:
+                counts = counted(bench, 'once', 'ion_' + call, call, path)
+                print('%-18s %14s %16s' % ('%s, %s' % (name, call), *map('{:,}'.format, counts)), flush=True)
 
 
 if __name__ == '__main__':

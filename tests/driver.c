@@ -1,16 +1,16 @@
 /* Answers frames through libion_c.a. A frame is a byte (0..15: ion_write in that layout, 16: ion_read, 17: ion_read_line from offset 0
-   until the end mark, 18: ion_write_tree), u32 room, u32 length and bytes. The answer is i64; behind a count come that many bytes, behind -6 all of the
-   room's; behind each answer of a line, u64 offset first. The driver itself checks the rest of the buffer, which is 0xA5 before the first
-   call, and ends with 2 to 9 where something is wrong: guard bytes beside the room, bytes past the count, a refusal's buffer (untouched by
-   the writers but for -6, all zero by the readers), the input, for lines what the end mark and an offset past the text leave, and for the
-   writers the length by ion_length or ion_tree_length: the count, a number past the room behind -6, or the same refusal. */
+   until the end mark, 18: ion_write_tree, 19: ion_convert), u32 room, u32 length and bytes. The answer is i64; behind a count come that many bytes,
+   behind -6 all of the room's; behind each answer of a line, u64 offset first. The driver itself checks the rest of the buffer, which is 0xA5 before
+   the first call, and ends with 2 to 9 where something is wrong: guard bytes beside the room, bytes past the count, a refusal's buffer (untouched by
+   the writers but for -6 and by the converter, all zero by the readers), the input, for lines what the end mark and an offset past the text leave, and
+   for the writers the length by ion_length or ion_tree_length: the count, a number past the room behind -6, or the same refusal. */
 #include "../bindings/c/ion.h"
 
 #include <stdio.h>
 #include <stdlib.h>
 #include <string.h>
 
-enum { READ = 16, LINES = 17, TREE = 18, GUARD = 8, OLD = 0xA5 };
+enum { READ = 16, LINES = 17, TREE = 18, CONVERT = 19, GUARD = 8, OLD = 0xA5 };
 
 static int take(void *p, size_t n) { return fread(p, 1, n, stdin) == n; }
 
@@ -25,6 +25,7 @@ static int rest(uint8_t mode, int64_t r, const uint8_t *room, size_t n) {
     if (r > (int64_t)n) return 4;
     if (r >= 0) return all(room + r, n - (size_t)r, OLD) ? 0 : 5;
     if (mode == READ) return r == -8 || r == -9 ? (all(room, n, 0) ? 0 : 6) : 4;
+    if (mode == CONVERT) return r == -13 || r == -14 ? (all(room, n, OLD) ? 0 : 6) : 4;
     if (r == -6) return 0;
     return r >= (mode == TREE ? -5 : -7) ? (all(room, n, OLD) ? 0 : 6) : 4;
 }
@@ -32,12 +33,13 @@ static int rest(uint8_t mode, int64_t r, const uint8_t *room, size_t n) {
 static int64_t call(uint8_t mode, const uint8_t *in, size_t length, uint8_t *room, size_t n) {
     if (mode == READ) return ion_read(in, length, room, n);
     if (mode == TREE) return ion_write_tree(in, length, room, n);
+    if (mode == CONVERT) return ion_convert(in, length, room, n);
     return ion_write(mode, in, length, room, n);
 }
 
 /* 0 if the text's length, asked for by itself, goes with a writer's answer r in n bytes of room. */
 static int length_of(uint8_t mode, const uint8_t *in, size_t length, int64_t r, size_t n) {
-    if (mode == READ || mode == LINES) return 0;
+    if (mode == READ || mode == LINES || mode == CONVERT) return 0;
     int64_t due = mode == TREE ? ion_tree_length(in, length) : ion_length(mode, in, length);
     return (r == -6 ? due > (int64_t)n : due == r) ? 0 : 9;
 }

@@ -1,6 +1,8 @@
-"""The reader of docs/FORMAT.md, modelled in Python: `read` gives a text's top-level values, `book` the calls of the line book.
+"""The reader and the converter of docs/FORMAT.md, modelled in Python: `read` gives a text's top-level values, `book` the calls of the line book,
+`convert` the converter's answer and whole buffer.
 
-No code is shared with our crates. The grammar was written without sight of crates/reader; the book after crates/line_reader had been read.
+No code is shared with our crates. The grammar was written without sight of crates/reader; the book after crates/line_reader had been read, the
+converter after crates/converter, which goes by bytes: here it is the walk over the grammar that tells what is replaced.
 Python's own UTF-8 decoder, calendar and regular expressions do the work. Values are the tuples of tapes.py. Held against the hand-made table
 of tests/readings.py:
 
@@ -33,7 +35,10 @@ SHORT = {b'0': 0, b'a': 7, b'b': 8, b't': 9, b'n': 10, b'v': 11, b'f': 12, b'r':
 HEX = rb'[0-9a-fA-F]'
 ESCAPE = rb'\\(?:([0abtnvfr\\"\'/?])|x(' + HEX + b'{2})'
 WIDE = ESCAPE + b'|u(' + HEX + b'{4})|U(' + HEX + b'{8}))'
-PIECES = {mark: re.compile(WIDE + b'|([^\n\r\\\\' + mark + b']+)') for mark in (b'"', b"'")}
+# What may not stand raw in quoted text: by Ion, as the readers have it, and by document 01, whose grammar is the old one.
+STRICT, OLD = rb'\x00-\x08\n\r\x0e-\x1f', rb'\n\r'
+PIECES = {(rule, mark): re.compile(WIDE + b'|([^' + rule + rb'\\' + mark + b']+)') for rule in (STRICT, OLD) for mark in (b'"', b"'")}
+REPLACED = re.compile(b'[' + STRICT + b']')
 LINE = re.compile(rb'[^\n]*\n|[^\n]+')
 CLOB = re.compile(ESCAPE + rb')|([ !#-\[\]-~]+)')
 SIX = rb'[A-Za-z0-9+/]'
@@ -102,8 +107,10 @@ def bare_symbol(word):
 
 
 class Text:
-    def __init__(self, text):
-        self.text, self.at = text, 0
+    """A text, read from `at` on by a raw rule; `replaced` has the places of raw characters of quoted text that the strict rule does not take."""
+
+    def __init__(self, text, rule):
+        self.text, self.rule, self.at, self.replaced = text, rule, 0, []
 
     def next(self, token=1):
         return self.text[self.at:self.at + token]
@@ -124,9 +131,9 @@ class Text:
 
     def quoted(self, mark):
         """The bytes between two quote marks, behind the first; raw stretches are UTF-8 by themselves."""
-        content = b''
+        content = bytearray()
         while not self.take(mark):
-            found = self.match(PIECES[mark])
+            found = self.match(PIECES[self.rule, mark])
             need(found)
             short, x, u, long, raw = found.groups()
             if raw:
@@ -134,8 +141,9 @@ class Text:
                     raw.decode()
                 except UnicodeDecodeError:
                     raise Outside
+                self.replaced += [c.start() for c in REPLACED.finditer(self.text, *found.span())]
             content += raw or scalar_value(SHORT[short] if short else int(x or u or long, 16))
-        return content
+        return bytes(content)
 
     def clob(self):
         content = b''
@@ -224,21 +232,25 @@ class Text:
         self.blanks()
         return name, self.value(opened)
 
+    def values(self):
+        """All top-level values; raises Outside."""
+        found = []
+        self.blanks()
+        while self.at < len(self.text):
+            found.append(self.value(0, top=True))
+            need(self.blanks() or self.at == len(self.text))
+        return found
 
-def read(text):
+
+def read(text, rule=STRICT):
     """A text's top-level values; raises Outside."""
-    t, found = Text(text), []
-    t.blanks()
-    while t.at < len(text):
-        found.append(t.value(0, top=True))
-        need(t.blanks() or t.at == len(text))
-    return found
+    return Text(text, rule).values()
 
 
-def expect(text, buffer):
+def expect(text, buffer, rule=STRICT):
     """The count or minus the refusal, and the tape."""
     try:
-        made = tape(read(text))
+        made = tape(read(text, rule))
     except Outside:
         return -8, b''
     return (len(made), made) if len(made) <= min(buffer, LONGEST) else (-9, b'')
@@ -268,17 +280,48 @@ def book(text, buffer):
     yield None, at, buffer
 
 
+def converted(text):
+    """A text of the old grammar as one of the strict grammar; raises Outside."""
+    t = Text(text, OLD)
+    t.values()
+    made, at = [], 0
+    for place in t.replaced:
+        made += [text[at:place], b'\\x%02x' % text[place]]
+        at = place + 1
+    return b''.join(made) + text[at:]
+
+
+def convert(text, buffer):
+    """The converter's count or minus the refusal, and the whole buffer afterwards."""
+    try:
+        made = converted(text)
+    except Outside:
+        return -13, buffer
+    return (len(made), made + buffer[len(made):]) if len(made) <= len(buffer) else (-14, buffer)
+
+
+def differs(text, due, said):
+    """Whether something of a text is not as it must be, which is printed."""
+    if due != said:
+        print(text, 'expected', due, 'found', said)
+    return due != said
+
+
 def main():
     import readings
     wrong = 0
     rows = dict(readings.rows)
     for text, due in rows.items():
         answer, made = expect(text, readings.BUFFER)
-        said = made.hex() if answer >= 0 else 'refused %d' % -answer
-        if said != due:
-            wrong += 1
-            print(text, 'expected', due, 'read', said)
-    print('%d texts of tests/readings.py, %d differences' % (len(rows), wrong))
+        wrong += differs(text, due, made.hex() if answer >= 0 else 'refused %d' % -answer)
+        clean, meant = readings.conversions.get(text, (text, b''))
+        if meant:
+            for said in expect(text, readings.BUFFER, OLD), expect(clean, readings.BUFFER):
+                wrong += differs(text, (len(meant), meant), said)
+        buffer = b'#' * (len(clean) + 1)
+        outside = due == 'refused 8' and not meant
+        wrong += differs(text, (-13, buffer) if outside else (len(clean), clean + b'#'), convert(text, buffer))
+    print('%d texts of tests/readings.py, %d of them stored ones, %d differences' % (len(rows), len(readings.conversions), wrong))
 
 
 if __name__ == '__main__':

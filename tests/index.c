@@ -4,57 +4,12 @@
      E  u32 m, m entries     the entries of the lookups behind it; no answer
      F  u32 k, k bytes       ion_find of that name; the answer, i64
      N  u32 identifier       ion_find_id; the answer, i64
-   Every slice ends where a page starts that may not be touched, and may not be written but for the entries of ion_index; an empty one is null. So a
-   call that reads past a slice or writes an input ends the driver by a signal. It ends with 2 if a frame is broken, with 3 if ion_index wrote before the entries. */
-#define _GNU_SOURCE
-#include "../bindings/c/ion.h"
+   The slices are those of slices.h; the entries of ion_index alone may be written. The driver ends with 2 if a frame is broken, with 3 if ion_index wrote
+   before the entries. */
+enum { ROOM = 4 << 20, BEFORE = 4 };
+#include "slices.h"
 
-#include <stdio.h>
-#include <stdlib.h>
-#include <sys/mman.h>
-
-enum { ROOM = 4 << 20, PAGE = 4096, BEFORE = 4 };
 static const uint64_t OLD = 0xA5A5A5A500000000;
-
-/* Bytes before a page that may not be touched. */
-struct slice {
-    uint8_t *end;
-    size_t length;
-};
-
-static void *start(struct slice s) { return s.length ? s.end - s.length : NULL; }
-
-static void protect(struct slice s, int how) {
-    if (mprotect(s.end - ROOM, ROOM, how)) exit(2);
-}
-
-static struct slice region(void) {
-    uint8_t *p = mmap(NULL, ROOM + PAGE, PROT_READ | PROT_WRITE, MAP_PRIVATE | MAP_ANONYMOUS, -1, 0);
-    if (p == MAP_FAILED || mprotect(p + ROOM, PAGE, PROT_NONE)) exit(2);
-    struct slice s = {p + ROOM, 0};
-    return s;
-}
-
-static void take(void *p, size_t n) {
-    if (fread(p, 1, n, stdin) != n) exit(2);
-}
-
-static uint32_t number(void) {
-    uint32_t n;
-    take(&n, 4);
-    return n;
-}
-
-/* So many units of a size, which a frame has. */
-static void fill(struct slice *s, size_t n, size_t size) {
-    if (n > ROOM / size) exit(2);
-    s->length = n * size;
-    protect(*s, PROT_READ | PROT_WRITE);
-    take(s->end - s->length, s->length);
-    protect(*s, PROT_READ);
-}
-
-static void answer(int64_t r) { fwrite(&r, 8, 1, stdout); }
 
 static void index_frame(struct slice tape, struct slice room) {
     uint64_t at;

@@ -2,7 +2,9 @@
 """The reader on worked texts: a table of texts and what they mean by docs/FORMAT.md.
 
 `yes(text, nodes ..)` is a text with the top-level nodes of its tape, `no(texts ..)` are texts outside the grammar (refusal 8), and
-`too_long(text)` is one whose tape is longer than the program's buffer (refusal 9). The comments are sentences of document 01, which
+`too_long(text)` is one whose tape is longer than the program's buffer (refusal 9). `stored(text, converted, nodes ..)` is one that the raw rule alone
+puts outside (8 too), with what the converter makes of it; tests/grammar.py is held against that, and every other text is converted to itself, or
+refused by 13 where it is refused by 8. The comments are sentences of documents 01 and 02, which
 docs/FORMAT.md restates. What is expected is written by hand or follows from the sentence above it; it is not the program's answer. Run it
 to write crates/readings/stdin (each text, then a byte 255) and crates/readings/stdout (each tape in hex, or the refusal).
 """
@@ -12,6 +14,7 @@ import os
 from tapes import UNKNOWN, tape
 
 rows = []
+conversions = {}
 BUFFER = 1024
 
 
@@ -29,6 +32,11 @@ def no(*texts):
 
 def too_long(text):
     rows.append((raw(text), 'refused 9'))
+
+
+def stored(text, converted, *nodes):
+    no(text)
+    conversions[raw(text)] = raw(converted), tape(nodes)
 
 
 # The nodes.
@@ -444,12 +452,16 @@ no('2007-02-23T12:14:33.0', '2007-02-23T12:14:33.', '2007-02-23T12:14:33.1_0Z', 
 no('2007-02-23T12:14:33.5.5Z')
 
 # --- Quoted text: valid UTF-8 but LF, CR, its own quote mark and bare backslash; the escapes above (NUL `\0`, 7 `\a`, 8 `\b`, tab `\t`, LF
-# `\n`, 11 `\v`, 12 `\f`, CR `\r`, backslash and both quote marks), `\/`, `\?`. Raw control characters are accepted.
+# `\n`, 11 `\v`, 12 `\f`, CR `\r`, backslash and both quote marks), `\/`, `\?`. 02, A6: "refuse raw U+0000 to U+001F in quoted text, except tab, 11 and
+# 12"; the converter's text has "each such raw character replaced by `\x` and two lower-case hex digits".
 # --- Clobs: raw bytes as printed (hex 20 to 7E but for `"` and backslash), these escapes without `\u` and `\U`.
+CONTROLS = [bytes([n]) for n in (*range(9), *range(14, 32))]
 ESCAPES = {b'0': 0, b'a': 7, b'b': 8, b't': 9, b'n': 10, b'v': 11, b'f': 12, b'r': 13, b'\\': 92, b"'": 39, b'"': 34, b'/': 47, b'?': 63}
 for x in BYTES:
     for quote, kind in ((b'"', str_), (b"'", sym)):
-        if x < b'\x80' and x not in (b'\n', b'\r', quote, b'\\'):
+        if x in CONTROLS:
+            stored(quote + x + quote, quote + b'\\x%02x' % x[0] + quote, kind(x))
+        elif x < b'\x80' and x not in (b'\n', b'\r', quote, b'\\'):
             yes(quote + x + quote, kind(x))
         else:
             no(quote + x + quote)
@@ -498,13 +510,16 @@ for said in ('\\x', '\\x4', '\\x4g', '\\xg4', '\\x 4', '\\x-1', '\\X41', '\\u', 
              '\\U0000004', '\\U0000004g', '\\ud800', '\\uDBFF', '\\uDC00', '\\udfff', '\\ud83d\\ude00', '\\U0000d800', '\\U0000DFFF',
              '\\U00110000', '\\U00200000', '\\U01000041', '\\UFFFFFFFF', '\\U80000000', '\\x4\\x1', '\\u00\\x41'):
     no('"' + said + '"', "'" + said + "'")
-# 02, A5: "The reader accepts both spellings for now": every control character raw stands above, here they are as the writers print them, and in names
-# and annotations both ways. (crates/vectors has each raw, by its letter, by `\x`, `\u` and `\U` at every place.)
+# Control characters as the writers print them, and raw in names and annotations. (crates/vectors has each raw, by its letter, by `\x`, `\u` and `\U` at
+# every place.)
 HEXED = '\x01\x02\x03\x04\x05\x06\x0e\x0f\x10\x11\x12\x13\x14\x15\x16\x17\x18\x19\x1a\x1b\x1c\x1d\x1e\x1f'
 HEXES = r'\x01\x02\x03\x04\x05\x06\x0e\x0f\x10\x11\x12\x13\x14\x15\x16\x17\x18\x19\x1a\x1b\x1c\x1d\x1e\x1f'
 yes('"' + HEXES + '"', str_(HEXED))
 yes(r"'\x1F'::{'\x01':'\x0E'}", notes('\x1f', rec('\x01', sym('\x0e'))))
-yes("'\x1f'::{'\x01':'\x0e'}", notes('\x1f', rec('\x01', sym('\x0e'))))
+stored("'\x1f'::1", r"'\x1f'::1", notes('\x1f', one))
+stored("a::'\x02'::1", r"a::'\x02'::1", notes('a', '\x02', one))
+stored("{'\0':1}", r"{'\x00':1}", rec('\0', one))
+stored("['\x07\t\x7f']", r"['\x07" + "\t\x7f']", list_(sym('\x07\t\x7f')))
 # Clobs: `\x` naming one byte.
 for said, content in (('\\x00', b'\0'), ('\\x41', b'A'), ('\\x7f', b'\x7f'), ('\\x80', b'\x80'), ('\\xe9', b'\xe9'), ('\\xFf', b'\xff'),
                       ('\\x411', b'A1'), ('\\xc3\\xa9', b'\xc3\xa9'), ('a\\nb', b'a\nb')):

@@ -1,4 +1,4 @@
-"""The sample tapes that bench.py and count.py measure, always the same bytes.
+"""The sample tapes that bench.py and count.py measure, always the same bytes, and the texts for the reader and the converter.
 
     python3 tests/samples.py FOLDER
 
@@ -10,6 +10,7 @@ import os
 import random
 import sys
 
+import model
 from tapes import UNKNOWN, tape
 
 
@@ -111,7 +112,17 @@ def write(folder):
         yield name, path, ['0', '1', '2'] * (name != 'annotated') + ['tree'] * (len(values) == 1)
 
 
+def write_texts(folder):
+    """A clean pass list in Lines, and the same with a control character raw in each pass, as files; gives the names with these and the calls on them."""
+    clean = model.stream(1, tape(dict(samples())['lines']))
+    for name, text, calls in ('clean list', clean, ['read', 'convert']), ('raw list', clean.replace(b'name: "', b'name: "\x02'), ['convert']):
+        path = os.path.join(folder, name.replace(' ', '-') + '.ion')
+        with open(path, 'wb') as f:
+            f.write(text)
+        yield name, path, calls
+
+
 if __name__ == '__main__':
     os.makedirs(sys.argv[1], exist_ok=True)
-    for written in write(sys.argv[1]):
+    for written in *write(sys.argv[1]), *write_texts(sys.argv[1]):
         print(written[1])

@@ -6,7 +6,8 @@
 
 The first line builds the oracle, for whoever has the Rust's files; once is enough. The texts are the Rust's, asked of the oracle, with control
 characters as document 02, A5, has them (`amended` of tests/tapes.py); the refusals are those of docs/FORMAT.md, from tests/model.py. Where both
-speak they must agree, and every text must read back to its tape by tests/grammar.py, or the script stops. Nothing is asked of our own crates. The
+speak they must agree, and every text must read back to its tape by tests/grammar.py, by which those with control characters raw must be refused, and
+read once they are converted, or the script stops. Nothing is asked of our own crates. The
 tapes are the systematic ones below and random ones from a fixed seed, so a second run makes the same bytes. Prints what is covered, and stops
 where something that should be is not.
 """
@@ -33,11 +34,11 @@ cover = collections.defaultdict(collections.Counter)
 
 
 class Record:
-    """Of a tape, which stands once: a comment, layouts over 2 to try, whether the refusal 6 of every short room is written out, and further texts that
-    mean the tape."""
+    """Of a tape, which stands once: a comment, layouts over 2 to try, whether the refusal 6 of every short room is written out, further texts that
+    mean the tape, and texts that are refused, with the tapes that they mean by the old grammar."""
 
     def __init__(self, said):
-        self.said, self.over, self.rooms, self.spellings = said, '', False, []
+        self.said, self.over, self.rooms, self.spellings, self.stored = said, '', False, [], []
 
 
 def section(title):
@@ -59,6 +60,11 @@ def add(*values, **more):
 def spelt(texts, *values):
     """Values that each of the texts means."""
     records[add(*values)].spellings += texts
+
+
+def stored(text, *values):
+    """A text with control characters raw, behind the last tape: it means the values by the old grammar alone."""
+    records[next(reversed(records))].stored.append((text, tape(values)))
 
 
 def refused(number, t, said, layouts=LAYOUTS, **more):
@@ -202,22 +208,34 @@ for n in *range(1, 10), 12, 15, 16, 17, 24, 31, 32, 33, 40, 64, 65:
     texts = [STEM[:i] + HEXED[(n + 5 * i) % 24:][:1] + STEM[i + 1:n] for i in places] + [(HEXED * 3)[n % 24:][:n]]
     add(struct_(*((('sym', x), list_(('sym', x), ('str', x))) for x in texts)))
     add(notes(string('a'), *(('sym', x) for x in texts)))
+    for x in dict.fromkeys(texts):
+        stored(b'"' + x + b'"', ('str', x))
+        stored(b"'" + x + b"'", ('sym', x))
 for n in 255, 256, 1000:
     add(('str', (HEXED * 42)[:n]))
     add(('sym', (HEXED * 42)[:n]))
 
-section('these and their neighbours: twice, before hex digits, in a clob; and every spelling that is read, raw, by a letter and by hex digits')
+section('these and their neighbours: twice, before hex digits, in a clob; every spelling, by a letter, by hex digits, and raw, where it is read or refused')
 NEIGHBOURS = {0: '0', 7: 'a', 8: 'b', 9: 't', 10: 'n', 11: 'v', 12: 'f', 13: 'r', 0x20: None, 0x7F: None, 0x80: None}
+
+
+def placed(*spellings):
+    """A character as annotation, name, symbol and string."""
+    return ("'%s'::{'%s':['%s',\"%s\"]}" % spellings).encode()
+
+
 for b in *HEXED, *NEIGHBOURS:
     c = chr(b)
     add(struct_((c + '0f', list_(sym('F' + c + c + '1'), string(c + c + 'a'), clob(c.encode() + b'0f')))))
     spellings = ['\\x%02x' % b, '\\x%02X' % b, '\\u%04x' % b, '\\U%08X' % b]
-    if c not in '\n\r':
+    if c in '\t\v\f \x7f\x80':
         spellings.append(c)
     if NEIGHBOURS.get(b):
         spellings.append('\\' + NEIGHBOURS[b])
-    texts = [("'%s'::{'%s':['%s',\"%s\"]}" % (s, s, s, s)).encode() for s in dict.fromkeys(spellings)]
-    spelt(texts, notes(struct_((c, list_(sym(c), string(c)))), sym(c)))
+    v = notes(struct_((c, list_(sym(c), string(c)))), sym(c))
+    spelt([placed(*[s] * 4) for s in dict.fromkeys(spellings)], v)
+    for place in range(4) if c not in spellings and c not in '\n\r' else ():
+        stored(placed(*(c if i == place else spellings[0] for i in range(4))), v)
 
 section('UTF-8: borders of one to four bytes, and what is broken')
 BORDERS = [b'\x7f', b'\xc2\x80', b'\xdf\xbf', b'\xe0\xa0\x80', b'\xe0\xbf\xbf', b'\xe1\x80\x80', b'\xec\xbf\xbf', b'\xed\x80\x80', b'\xed\x9f\xbf',
@@ -518,6 +536,12 @@ def record_lines(t, record, rust, sums):
         assert grammar.expect(text, len(t)) == (len(t), t), text
         sums.update(texts=1, reads=3)
         yield 'r=' + escaped(text)
+    for text, meant in record.stored:
+        assert grammar.expect(text, LONGEST) == (-8, b''), text
+        assert grammar.expect(text, LONGEST, grammar.OLD)[1] == grammar.expect(grammar.converted(text), LONGEST)[1] == meant, text
+        sums.update(refusals=1, reads=3)
+        cover['refusals met'][8] += 1
+        yield 'r!8' + escaped(text)
 
 
 def main():
@@ -601,7 +625,7 @@ def check_cover():
                                                                 (1, 'p over 0'))],
         'precision': range(5), 'offset': OFFSETS, 'fraction digits': range(10), '29 February': (2, 3, 4), 'annotations': range(1, 17),
         'depth': range(1, 65), 'container in container': [(a, b) for a in ('top', *containers) for b in containers],
-        'children': [(c, n) for c in containers for n in range(4)], 'top-level nodes': range(9), 'texts met': LAYOUTS, 'refusals met': range(1, 8),
+        'children': [(c, n) for c in containers for n in range(4)], 'top-level nodes': range(9), 'texts met': LAYOUTS, 'refusals met': range(1, 9),
         '7 comes before': (1, 2, 3, 4, 5, 'a text'),
         'order': [(1, x) for x in (2, 3, 4, 5, 'the count')] + [(x, y) for x in (2, 3, 4) for y in (2, 3, 4, 5, 'the count')] + [('the count', 5)]})
     places = ('top', 'list', 'sexp', 'struct', 'name', 'annotation', 'annotated')
@@ -614,7 +638,7 @@ def check_cover():
         counts = [cover[name][c] for c in cells]
         print('%-22s %3d cells, %d to %d in each' % (name, len(counts), min(counts), max(counts)))
         assert min(counts) > 0, (name, [c for c in cells if not cover[name][c]])
-    for number in range(1, 8):
+    for number in range(1, 9):
         causes = cover['refusal %d' % number]
         told = '; by cause: ' + '; '.join('%s %d' % c for c in causes.items()) if causes else ''
         print('refusal %d: %d lines%s' % (number, cover['refusals met'][number], told))

@@ -1,4 +1,5 @@
-/* An example in C: a pass list written in every text and read back, fields of a pass found by name, then a damaged list read line by line.
+/* An example in C: a pass list written in every text and read back, fields of a pass found by name, a damaged list read line by line, then a stored list
+   converted.
 
    From the repository's root:
        rt staticlib ion_c
@@ -201,6 +202,19 @@ int main(void) {
         }
         from = at;
     }
-    printf("-- the end mark, at offset %d\n", (int)at);
+    printf("-- the end mark, at offset %d\n\n", (int)at);
+
+    /* A list that was stored with a control character raw, U+0001 in a name. The reader refuses it; converted, it is read. */
+    static const char stored[] = "{norad: 43013, name: \"NOAA\1 20\"}\n";
+    answer = ion_read((const uint8_t *)stored, sizeof stored - 1, tape_read, sizeof tape_read);
+    if (answer != ION_OUTSIDE_GRAMMAR) {
+        fprintf(stderr, "ion_read: answered %lld for a raw control character\n", (long long)answer);
+        return 1;
+    }
+    printf("-- a stored list with a raw control character: refused 8; converted\n");
+    length = counted("ion_convert", ion_convert((const uint8_t *)stored, sizeof stored - 1, text, sizeof text));
+    print_text(length);
+    size_t count = counted("ion_read", ion_read(text, length, tape_read, sizeof tape_read));
+    printf("-- %zu bytes of text from %zu, read as %zu bytes of tape\n", length, sizeof stored - 1, count);
     return 0;
 }

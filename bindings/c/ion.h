@@ -1,5 +1,5 @@
-/* Ion text for C and C++ (x86-64 Linux): tapes written as text, texts read back as tapes, the fields of a struct found by name. Link
-   target/staticlib/libion_c.a, which `rt staticlib ion_c` makes and which needs nothing but memset.
+/* Ion text for C and C++ (x86-64 Linux): tapes written as text, texts read back as tapes, stored texts converted, the fields of a struct found by
+   name. Link target/staticlib/libion_c.a, which `rt staticlib ion_c` makes and which needs nothing but memset.
 
    A tape is the binary form of a list of values: nodes, then u32 body length and u32 number of top-level nodes, all little-endian.
    docs/FORMAT.md has the nodes byte by byte, the texts, and the grammar of what is read.
@@ -32,8 +32,8 @@ enum {
     ION_PRETTY = 2   /* a line feed; children on lines of their own, indented by two blanks a level */
 };
 
-/* The end mark of ion_read_line. ion_write and ion_length answer 0 too, for a tape of no values, ion_index for a struct of no fields, and a lookup for the
-   first place. */
+/* The end mark of ion_read_line. ion_write and ion_length answer 0 too, for a tape of no values, ion_convert for a text of no bytes, ion_index for a
+   struct of no fields, and a lookup for the first place. */
 enum { ION_END = 0 };
 
 /* What ion_find and ion_find_id answer where no field has the name. They refuse nothing, so it is never ION_MISFIT, which has the same number. */
@@ -52,7 +52,9 @@ enum {
     ION_TAPE_TOO_LONG = -9,
     ION_PAST_TEXT = -10,
     ION_NO_STRUCT = -11,
-    ION_TOO_MANY_FIELDS = -12
+    ION_TOO_MANY_FIELDS = -12,
+    ION_OUTSIDE_OLD_GRAMMAR = -13,
+    ION_OUTPUT_TOO_LONG = -14
 };
 
 /* The longest tape, in bytes. */
@@ -105,6 +107,7 @@ int64_t ion_tree_length(const uint8_t *tape, size_t tape_length);
      ION_OUTSIDE_GRAMMAR  the text is not of the grammar (docs/FORMAT.md, "Reading a text")
      ION_TAPE_TOO_LONG    its tape is longer than the lesser of `out` and ION_TAPE_MAX
      the count            the tape's length, at least 8
+   Of the control characters below U+0020, tab, 11 and 12 alone may stand raw in quoted text. Stored texts that have others go through ion_convert.
 
    `out` behind the count: the tape, then the bytes that were there. Behind a refusal: all zero, to its end. */
 int64_t ion_read(const uint8_t *text, size_t text_length, uint8_t *out, size_t out_length);
@@ -114,7 +117,7 @@ int64_t ion_read(const uint8_t *text, size_t text_length, uint8_t *out, size_t o
    Answers, the first that holds:
      ION_PAST_TEXT        *at is past the text's length
      ION_END              *at is the text's length
-     ION_OUTSIDE_GRAMMAR  the line is not one value or marker, blanks around it allowed, and a line feed
+     ION_OUTSIDE_GRAMMAR  the line is not one value or marker of ion_read's grammar, blanks around it allowed, and a line feed
      ION_TAPE_TOO_LONG    the tape of that one value is longer than the lesser of `out` and ION_TAPE_MAX
      the count            the length of that tape, at least 9
 
@@ -127,6 +130,22 @@ int64_t ion_read(const uint8_t *text, size_t text_length, uint8_t *out, size_t o
    and with `out` at least as long as the tape written, the lines that end before the run and those that start behind a line feed of the
    untouched rest are read as they were written. `at` is not null, whatever the lengths. */
 int64_t ion_read_line(const uint8_t *text, size_t text_length, uint64_t *at, uint8_t *out, size_t out_length);
+
+/* Converts a stored text that may have control characters raw: writes the same bytes, each raw U+0000 to U+0008 and U+000E to U+001F in quoted text
+   replaced by \x and two lower-case hex digits. The output is of the grammar of ion_read, and means the tape that the stored text meant. A text of
+   that grammar comes out unchanged, so that converting twice is converting once.
+
+   Answers, the first that holds:
+     ION_OUTSIDE_OLD_GRAMMAR  the text is not of the old grammar: that of ion_read, but in quoted text every raw character except line feed and CR is taken
+     ION_OUTPUT_TOO_LONG      the output is longer than `out`
+     the count                the output's length
+
+   `out` behind the count: the output, then the bytes that were there. Behind a refusal: untouched.
+
+   The text has any length, also where its tape would be longer than ION_TAPE_MAX. The output has text_length bytes and three more for each character
+   replaced: exactly text_length where nothing is replaced, and at most four times text_length, which is always enough to reserve. In a text of the old
+   grammar every byte from 0 to 8 and from 14 to 31 is such a character, so that counting these bytes tells the exact length before. */
+int64_t ion_convert(const uint8_t *text, size_t text_length, uint8_t *out, size_t out_length);
 
 /* A field of a struct, by two offsets from the tape's start: those of the kind bytes of its name and of its value. An annotated value starts with
    its kind 13. */

@@ -275,7 +275,7 @@ static void readers(void) {
     check("read, exactly full", ion_read(BYTES("[true]"), out, 15), 15, 15, LIST, 15, KEPT);
     check("read, one byte short", ion_read(BYTES("[true]"), out, 14), ION_TAPE_TOO_LONG, 14, "", 0, 0);
     check("read, a control character escaped", ion_read(BYTES("\"\\x01\""), out, ROOM), 14, ROOM, CONTROL, 14, KEPT);
-    check("read, a control character raw", ion_read(BYTES("\"\1\""), out, ROOM), 14, ROOM, CONTROL, 14, KEPT);
+    check("read, a control character raw", ion_read(BYTES("\"\1\""), out, ROOM), ION_OUTSIDE_GRAMMAR, ROOM, "", 0, 0);
     check("read, an open list", ion_read(BYTES("[true"), out, ROOM), ION_OUTSIDE_GRAMMAR, ROOM, "", 0, 0);
     check("read, 8 before 9", ion_read(BYTES("[true"), NULL, 0), ION_OUTSIDE_GRAMMAR, 0, "", 0, KEPT);
 }
@@ -305,6 +305,87 @@ static void line_reader(void) {
     check_line("far past the text", UINT64_MAX, UINT64_MAX, ION_PAST_TEXT, ROOM, "", 0, KEPT);
     uint64_t at = 0;
     check("no text, the end mark", ion_read_line(NULL, 0, &at, NULL, 0), ION_END, 0, "", 0, KEPT);
+    check("a line, a control character raw", ion_read_line(BYTES("\"\1\"\n"), &at, out, ROOM), ION_OUTSIDE_GRAMMAR, ROOM, "", 0, 0);
+}
+
+/* Stored texts converted. Behind a refusal `out` is as it was. */
+static void converter(void) {
+    check("convert, nothing", ion_convert(NULL, 0, NULL, 0), 0, 0, "", 0, KEPT);
+    check("convert, no text", ion_convert(NULL, 0, out, ROOM), 0, ROOM, "", 0, KEPT);
+    check("convert, no buffer", ion_convert(BYTES("1"), NULL, 0), ION_OUTPUT_TOO_LONG, 0, "", 0, KEPT);
+    check("convert, clean", ion_convert(BYTES("[ true ]\r\n"), out, ROOM), 10, ROOM, "[ true ]\r\n", 10, KEPT);
+    check("convert, clean, exactly full", ion_convert(BYTES("[ true ]\r\n"), out, 10), 10, 10, "[ true ]\r\n", 10, KEPT);
+    check("convert, clean, one byte short", ion_convert(BYTES("[ true ]\r\n"), out, 9), ION_OUTPUT_TOO_LONG, 9, "", 0, KEPT);
+
+    /* An annotation, a name, a symbol and a string; an escape stays, and so does a clob. */
+    static const char stored[] = "'\1'::{'\2':'\16'}\n\"\7\\a\" {{\"\\x01\"}}";
+    static const char due[] = "'\\x01'::{'\\x02':'\\x0e'}\n\"\\x07\\a\" {{\"\\x01\"}}";
+    size_t full = sizeof due - 1;
+    check("convert, room to spare", ion_convert(BYTES(stored), out, ROOM), (int64_t)full, ROOM, due, full, KEPT);
+    check("convert, exactly full", ion_convert(BYTES(stored), out, full), (int64_t)full, full, due, full, KEPT);
+    for (size_t n = 0; n < full; n++) check("convert, too short", ion_convert(BYTES(stored), out, n), ION_OUTPUT_TOO_LONG, n, "", 0, KEPT);
+    check("convert, its output", ion_convert(BYTES(due), out, full), (int64_t)full, full, due, full, KEPT);
+
+    /* Cut short it is outside the old grammar: 13 comes before 14. */
+    check("convert, cut", ion_convert((const uint8_t *)stored, sizeof stored - 2, out, ROOM), ION_OUTSIDE_OLD_GRAMMAR, ROOM, "", 0, KEPT);
+    check("convert, 13 before 14", ion_convert((const uint8_t *)stored, sizeof stored - 2, out, 1), ION_OUTSIDE_OLD_GRAMMAR, 1, "", 0, KEPT);
+    check("convert, 13, no buffer", ion_convert(BYTES("]"), NULL, 0), ION_OUTSIDE_OLD_GRAMMAR, 0, "", 0, KEPT);
+
+    /* Each control character raw in a string, between two that are replaced: 9, 11 and 12 stay, and a line's ends are refused. In a clob and behind a
+       backslash all are refused. */
+    for (int c = 0; c < 32; c++) {
+        static const char digits[] = "0123456789abcdef";
+        char raw[] = {'"', 1, (char)c, 31, '"'}, hex[] = "\"\\x01\\x__\\x1f\"", kept[] = "\"\\x01_\\x1f\"";
+        char alone[] = {'"', (char)c, '"'}, clob[] = {'{', '{', '"', (char)c, '"', '}', '}'}, behind[] = {'"', '\\', (char)c, '"'};
+        char tape[] = {8, 1, 0, 0, 0, (char)c, 6, 0, 0, 0, 1, 0, 0, 0};
+        hex[7] = digits[c / 16];
+        hex[8] = digits[c % 16];
+        kept[5] = (char)c;
+        int64_t answer = ion_convert((uint8_t *)raw, sizeof raw, out, ROOM);
+        if (c == 10 || c == 13) check("convert, a line's end", answer, ION_OUTSIDE_OLD_GRAMMAR, ROOM, "", 0, KEPT);
+        else if (c == 9 || c == 11 || c == 12) check("convert, a blank", answer, 11, ROOM, kept, 11, KEPT);
+        else check("convert, a control character", answer, 14, ROOM, hex, 14, KEPT);
+        answer = ion_read((uint8_t *)alone, sizeof alone, out, ROOM);
+        if (c == 9 || c == 11 || c == 12) check("read, a blank", answer, 14, ROOM, tape, 14, KEPT);
+        else check("read, a control character", answer, ION_OUTSIDE_GRAMMAR, ROOM, "", 0, 0);
+        check("convert, a clob", ion_convert((uint8_t *)clob, sizeof clob, out, ROOM), ION_OUTSIDE_OLD_GRAMMAR, ROOM, "", 0, KEPT);
+        check("convert, behind a backslash", ion_convert((uint8_t *)behind, sizeof behind, out, ROOM), ION_OUTSIDE_OLD_GRAMMAR, ROOM, "", 0, KEPT);
+    }
+}
+
+static void check_same(const char *what, const uint8_t *found, const uint8_t *due, size_t n) {
+    if (memcmp(found, due, n) != 0) {
+        printf("%s: the buffer or what is beside it is not as it must be\n", what);
+        wrong++;
+    }
+}
+
+/* Texts of 5 MiB, whose tapes would be too long: a string of letters, and one of control characters, each of which takes four bytes. */
+static void long_conversions(void) {
+    for (size_t wide = 1; wide <= 4; wide += 3) {
+        size_t bytes = 5 << 20, text_length = bytes + 2, full = wide * bytes + 2, size = GUARD + full + GUARD;
+        uint8_t *text = malloc(text_length), *room = malloc(size), *due = malloc(size), *output = due + GUARD;
+        if (!text || !room || !due) exit(2);
+        memset(text, wide == 1 ? 'c' : 31, text_length);
+        text[0] = text[text_length - 1] = '"';
+        memset(room, 0xA5, size);
+        memset(due, 0xA5, size);
+        int64_t answer = ion_convert(text, text_length, room + GUARD, full - 1);
+        check("long text, one byte short", answer, ION_OUTPUT_TOO_LONG, 0, "", 0, KEPT);
+        check_same("long text, one byte short", room, due, size);
+        for (size_t i = 0; i < bytes; i++) memcpy(output + 1 + wide * i, wide == 1 ? "c" : "\\x1f", wide);
+        output[0] = output[full - 1] = '"';
+        check("long text", ion_convert(text, text_length, room + GUARD, full), (int64_t)full, 0, "", 0, KEPT);
+        check_same("long text", room, due, size);
+        check("long text, its output", ion_convert(output, full, room + GUARD, full), (int64_t)full, 0, "", 0, KEPT);
+        check_same("long text, its output", room, due, size);
+        check("long text, cut", ion_convert(text, text_length - 1, room + GUARD, full), ION_OUTSIDE_OLD_GRAMMAR, 0, "", 0, KEPT);
+        check_same("long text, cut", room, due, size);
+        check("long text, read", ion_read(output, full, room + GUARD, full), ION_TAPE_TOO_LONG, 0, "", 0, KEPT);
+        free(text);
+        free(room);
+        free(due);
+    }
 }
 
 /* The calls at the greatest depth: 64 lists, each with a value behind the list in it, so that no walk ends with a body inside. */
@@ -319,6 +400,7 @@ static void deepest(void) {
     *p = '\n';
     if (ion_read(text, sizeof text, tape, sizeof tape) != sizeof tape) exit(2);
     if (ion_read_line(text, sizeof text, &at, room, sizeof room) != sizeof tape) exit(2);
+    if (ion_convert(text, sizeof text, room, sizeof room) != sizeof text) exit(2);
     for (uint32_t layout = ION_COMPACT; layout <= ION_PRETTY; layout++) {
         int64_t n = ion_write(layout, tape, sizeof tape, room, sizeof room);
         if (n < 318 || n != ion_length(layout, tape, sizeof tape)) exit(2);
@@ -362,6 +444,8 @@ int main(void) {
     depth_and_length();
     readers();
     line_reader();
+    converter();
+    long_conversions();
     stack();
     if (wrong) printf("limits: %d wrong\n", wrong);
     else printf("limits: %d calls as they must be\n", checked);

@@ -2,10 +2,10 @@
 //!
 //! A *tape* is the binary form of a list of values; the repository's `docs/FORMAT.md` has it byte by byte, with the texts and the grammar.
 //! [`write()`] and [`write_tree`] turn a tape into text, [`read`] turns a text into its tape, and [`read_line`] does so line by line, going on
-//! behind a damaged line. Each works in a lent buffer of any length and answers the count of bytes that it finished there, or a [`Refusal`].
-//! No input makes a call panic. [`to_text`], [`to_tree_text`], [`to_tape`] and [`lines`] are the same with a buffer of their own. [`length`] and
-//! [`tree_length`] tell how long a text will be, before it is written. [`Index`] finds the fields of a struct by name; [`index_into`], [`find`] and
-//! [`find_id`] do so in lent entries.
+//! behind a damaged line. [`convert`] brings over a stored text that has control characters raw, which [`read`] refuses. Each works in a lent buffer of
+//! any length and answers the count of bytes that it finished there, or a [`Refusal`]. No input makes a call panic. [`to_text`], [`to_tree_text`],
+//! [`to_tape`], [`to_converted`] and [`lines`] are the same with a buffer of their own. [`length`] and [`tree_length`] tell how long a text will be,
+//! before it is written. [`Index`] finds the fields of a struct by name; [`index_into`], [`find`] and [`find_id`] do so in lent entries.
 //!
 //! ```
 //! use lechuqta::{lines, to_tape, to_text, to_tree_text, Index, Layout, Refusal};
@@ -144,7 +144,8 @@ pub fn tree_length(tape: &[u8]) -> Result<usize, Refusal> {
 /// Reads a text of any number of values, lays their tape at the start of `out` and answers the tape's length.
 ///
 /// On success the bytes of `out` behind the tape keep their values. Refusals, the first that holds:
-/// [`OutsideGrammar`](Refusal::OutsideGrammar); [`TapeTooLong`](Refusal::TapeTooLong). Either leaves all of `out` zero.
+/// [`OutsideGrammar`](Refusal::OutsideGrammar); [`TapeTooLong`](Refusal::TapeTooLong). Either leaves all of `out` zero. Of the control characters below
+/// U+0020, tab, 11 and 12 alone may stand raw in quoted text; stored texts that have others go through [`convert`].
 ///
 /// ```
 /// let mut out = [7; 18];
@@ -179,6 +180,36 @@ pub fn read_line(text: &[u8], at: &mut usize, out: &mut [u8]) -> Result<Option<u
     *at = offset as usize;
     // A line's tape has 9 bytes or more, so 0 is the end mark alone.
     count.map(|n| (n > 0).then_some(n))
+}
+
+/// Converts a stored text that may have control characters raw, and answers the output's length. The output is the same bytes, each raw U+0000 to U+0008
+/// and U+000E to U+001F in quoted text replaced by `\x` and two lower-case hex digits. It is of the grammar of [`read`], and means the tape that the
+/// stored text meant. A text of that grammar comes out unchanged, so that converting twice is converting once.
+///
+/// On success the bytes of `out` behind the output keep their values. Refusals, the first that holds:
+/// [`OutsideOldGrammar`](Refusal::OutsideOldGrammar); [`OutputTooLong`](Refusal::OutputTooLong). Both leave `out` untouched. The text has any length,
+/// also where its tape would be longer than [`MAX_TAPE`]. The output has three bytes more than the text for each character replaced: at most four times
+/// the text's length.
+///
+/// ```
+/// use lechuqta::{convert, to_tape, Refusal};
+///
+/// let stored = b"{name: \"M\x01 31\"}\n";
+/// assert_eq!(to_tape(stored), Err(Refusal::OutsideGrammar));
+/// let mut out = [b'.'; 22];
+/// assert_eq!(convert(stored, &mut out), Ok(19));
+/// assert_eq!(&out, b"{name: \"M\\x01 31\"}\n...");
+/// assert_eq!(to_tape(&out[..19]), to_tape(br#"{name: "M\u0001 31"}"#));
+///
+/// assert_eq!(convert(stored, &mut out[..18]), Err(Refusal::OutputTooLong));
+/// assert_eq!(convert(b"{name: \"M\x01 31\"", &mut out), Err(Refusal::OutsideOldGrammar));
+///
+/// // A clean text comes out unchanged.
+/// assert_eq!(convert(b"[1, 2]", &mut out), Ok(6));
+/// assert_eq!(&out[..6], b"[1, 2]");
+/// ```
+pub fn convert(text: &[u8], out: &mut [u8]) -> Result<usize, Refusal> {
+    answered(raw::convert(text, out))
 }
 
 /// The tape that a call gives in a buffer that is long enough: the buffer is doubled, until it has [`MAX_TAPE`] bytes, as long as it is too short.
@@ -233,6 +264,29 @@ pub fn to_tree_text(tape: &[u8]) -> Result<Vec<u8>, Refusal> {
 /// ```
 pub fn to_tape(text: &[u8]) -> Result<Vec<u8>, Refusal> {
     tape_of(text.len(), |out| read(text, out))
+}
+
+/// A stored text converted. As [`convert`], never [`OutputTooLong`](Refusal::OutputTooLong).
+///
+/// ```
+/// # use lechuqta::{to_converted, to_tape, to_tree_text, Refusal};
+/// let stored = b"[{field: 'm\x00'}, {field: \"\x07\t\"}]";
+/// assert_eq!(to_tape(stored), Err(Refusal::OutsideGrammar));
+/// let text = to_converted(stored)?;
+/// assert_eq!(text, b"[{field: 'm\\x00'}, {field: \"\\x07\t\"}]");
+///
+/// // It reads to the tape that the stored list meant, and is clean, so that it comes out unchanged.
+/// assert_eq!(to_tree_text(&to_tape(&text)?)?, br#"[{field: 'm\0'}, {field: "\a\t"}]"#);
+/// assert_eq!(to_converted(&text)?, text);
+/// # Ok::<(), Refusal>(())
+/// ```
+pub fn to_converted(text: &[u8]) -> Result<Vec<u8>, Refusal> {
+    // In a text of the old grammar these bytes stand raw in quoted text and nowhere else. Each takes three bytes more.
+    let replaced = text.iter().filter(|byte| matches!(byte, 0..=8 | 14..=31)).count();
+    let mut out = vec![0; text.len() + 3 * replaced];
+    let count = convert(text, &mut out)?;
+    out.truncate(count);
+    Ok(out)
 }
 
 /// A line of a text, as [`Lines`] gives it.

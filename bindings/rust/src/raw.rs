@@ -15,6 +15,7 @@ extern "C" {
     fn ion_tree_length(tape: *const u8, tape_length: usize) -> i64;
     fn ion_read(text: *const u8, text_length: usize, out: *mut u8, out_length: usize) -> i64;
     fn ion_read_line(text: *const u8, text_length: usize, at: *mut u64, out: *mut u8, out_length: usize) -> i64;
+    fn ion_convert(text: *const u8, text_length: usize, out: *mut u8, out_length: usize) -> i64;
     fn ion_index(tape: *const u8, tape_length: usize, at: u64, entries: *mut Entry, entries_length: usize) -> i64;
     fn ion_find(tape: *const u8, tape_length: usize, entries: *const Entry, entries_length: usize, name: *const u8, name_length: usize) -> i64;
     fn ion_find_id(tape: *const u8, tape_length: usize, entries: *const Entry, entries_length: usize, id: u32) -> i64;
@@ -48,6 +49,11 @@ pub fn read(text: &[u8], out: &mut [u8]) -> i64 {
 pub fn read_line(text: &[u8], at: &mut u64, out: &mut [u8]) -> i64 {
     // SAFETY: both slices and the offset are whole and apart, as said above; the offset may be any number.
     unsafe { ion_read_line(text.as_ptr(), text.len(), at, out.as_mut_ptr(), out.len()) }
+}
+
+pub fn convert(text: &[u8], out: &mut [u8]) -> i64 {
+    // SAFETY: both slices are whole and apart, as said above.
+    unsafe { ion_convert(text.as_ptr(), text.len(), out.as_mut_ptr(), out.len()) }
 }
 
 pub fn index(tape: &[u8], at: u64, entries: &mut [Entry]) -> i64 {

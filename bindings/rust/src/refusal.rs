@@ -34,11 +34,15 @@ pub enum Refusal {
     NoStruct,
     /// 12: the struct has more fields than there are entries.
     TooManyFields,
+    /// 13: the text is outside the old grammar: that of [`read`](crate::read), but in quoted text every raw character except line feed and CR is taken.
+    OutsideOldGrammar,
+    /// 14: the output is longer than the buffer.
+    OutputTooLong,
 }
 
 impl Refusal {
     /// Every refusal, in the table's order.
-    pub const ALL: [Refusal; 12] = [
+    pub const ALL: [Refusal; 14] = [
         Refusal::Misfit,
         Refusal::BadNode,
         Refusal::TooDeep,
@@ -51,6 +55,8 @@ impl Refusal {
         Refusal::PastText,
         Refusal::NoStruct,
         Refusal::TooManyFields,
+        Refusal::OutsideOldGrammar,
+        Refusal::OutputTooLong,
     ];
 
     /// Its number in the table.
@@ -77,6 +83,8 @@ impl Refusal {
             Refusal::PastText => "the offset is past the text",
             Refusal::NoStruct => "no struct starts at the offset",
             Refusal::TooManyFields => "the struct has more fields than there are entries",
+            Refusal::OutsideOldGrammar => "the text is outside the old grammar",
+            Refusal::OutputTooLong => "the output is longer than the buffer",
         }
     }
 }

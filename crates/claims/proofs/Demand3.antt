@@ -46,7 +46,7 @@ written-text (more h n ns) = ap (λ (t : List ℕ). line h n ++ t) (written-text
 -- A node's own Lines text is a line that the grammar reads to that node's tape.
 pub line-reads : (h : Head) (n : Node) → Fines 64 Top (more h n nil) → noteds (more h n nil) ≡ false → lineTape (streamText 1 (more h n nil)) ≡ some (tape (more h n nil))
 unfolding line single rawRule
-line-reads h n f q = ap lineTape (line-alone h n) ∙ line-tape (lineBody h n) ∙ rw (line-body-back true h n f q)
+line-reads h n f q = ap lineTape (line-alone h n) ∙ line-tape (lineBody h n) ∙ rw (line-body-back false h n f q)
 
 pub tape-fits : (t : List ℕ) (n : ℕ) → length t ≤ n → length t ≤ 1048576 → fits t n ≡ true
 unfolding fits

@@ -1,5 +1,5 @@
 -- What A5 changed: a text free of the characters that it escapes is as it was, which is the Rust's, in every layout and as tree text; in a string or a symbol that has
--- them they are replaced, and nothing else; the reader takes both spellings. Assumes nothing.
+-- them they are replaced, and nothing else; by 01's raw rule both spellings are read. Assumes nothing.
 use Prim.Native.Nat.{ℕ, _≤_, _<_}
 use mathlib.Core.Path.{_≡_, refl, sym, ap, ap₂, _∙_}
 use mathlib.Core.Bool.{Bool, true, false, not, _&&_, _||_}

@@ -20,7 +20,7 @@ use Rattle.tape.specs.Fine.{Bytes}
 use Rattle.tape.specs.Answer.{Outcome, counted, ended, refused, outcome}
 use Rattle.tape.specs.declared.answer.Answer.{Answer}
 use Rattle.tape.specs.declared.answer.Answer.the-variants as A
-use Rattle.tokens.specs.Quoted.{oldRaw, rawRule}
+use Rattle.tokens.specs.Quoted.{strictRaw, rawRule}
 use Rattle.reader.specs.Grammar.{meaning}
 use Rattle.reader.specs.Outcome.{fits, zeros, tapeAnswer, tapeLeaves, answer}
 use Rattle.reader.specs.Outcome as read
@@ -60,9 +60,9 @@ finished y t b n e = refused-or (refusal y t) refl (ap count e)
     refused-or (suc f) r h = absurd (omega arith)
 
 -- by the reader's rule
-means : (y : ℕ) (t : List ℕ) → Bytes t → refusal y t ≡ 0 → meaning oldRaw (streamText y (nodesOf t)) ≡ some (nodesOf t)
+means : (y : ℕ) (t : List ℕ) → Bytes t → refusal y t ≡ 0 → meaning strictRaw (streamText y (nodesOf t)) ≡ some (nodesOf t)
 unfolding rawRule
-means y t b e = written-means true y t b e
+means y t b e = written-means false y t b e
 
 -- what the reader answers and leaves for the text of a tape is what it does for that very tape
 pub text-answer : (y : ℕ) (t : List ℕ) (n : ℕ) → Bytes t → refusal y t ≡ 0 → answer (streamText y (nodesOf t)) n ≡ tapeAnswer t n
@@ -93,17 +93,17 @@ handed-on A.OutputTooLong h t o = (refl, refl)
 -- What the reader counts is a tape that the writers let through: its limit is the tape's own.
 pub counted-accepted : (s b : List ℕ) (n : ℕ) → answer s (length b) ≡ counted n → verdict (take n (read.leaves s b)) ≡ 0
 unfolding answer read.leaves tapeAnswer tapeLeaves fits
-counted-accepted s b n e = by-meaning (meaning oldRaw s) refl (ap count e)
+counted-accepted s b n e = by-meaning (meaning strictRaw s) refl (ap count e)
   where
-    by-room : (ns : Nodes) → meaning oldRaw s ≡ some ns → (g : Bool) → leb (length (tape ns)) (min (length b) 1_048_576) ≡ g → count (if g (counted (length (tape ns))) (refused 9)) ≡ suc n
+    by-room : (ns : Nodes) → meaning strictRaw s ≡ some ns → (g : Bool) → leb (length (tape ns)) (min (length b) 1_048_576) ≡ g → count (if g (counted (length (tape ns))) (refused 9)) ≡ suc n
         → verdict (take n (if g (tape ns ++ drop (length (tape ns)) b) (zeros b))) ≡ 0
     by-room ns m true q h =
         let l = leb-true (length (tape ns)) (min (length b) 1_048_576) q in
         let k : length (tape ns) ≡ n = omega arith in
-        ap verdict (take-at (tape ns) (drop (length (tape ns)) b) n k) ∙ read-accepted oldRaw s ns m (omega arith) .0
+        ap verdict (take-at (tape ns) (drop (length (tape ns)) b) n k) ∙ read-accepted strictRaw s ns m (omega arith) .0
     by-room ns m false q h = absurd (omega arith)
 
-    by-meaning : (o : Option Nodes) → meaning oldRaw s ≡ o → count (on o (λ ns. if (leb (length (tape ns)) (min (length b) 1_048_576)) (counted (length (tape ns))) (refused 9)) (refused 8)) ≡ suc n
+    by-meaning : (o : Option Nodes) → meaning strictRaw s ≡ o → count (on o (λ ns. if (leb (length (tape ns)) (min (length b) 1_048_576)) (counted (length (tape ns))) (refused 9)) (refused 8)) ≡ suc n
         → verdict (take n (on o (λ ns. if (leb (length (tape ns)) (min (length b) 1_048_576)) (tape ns ++ drop (length (tape ns)) b) (zeros b)) (zeros b))) ≡ 0
     by-meaning none m h = absurd (omega arith)
     by-meaning (some ns) m h = by-room ns m (leb (length (tape ns)) (min (length b) 1_048_576)) refl h

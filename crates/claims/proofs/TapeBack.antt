@@ -19,7 +19,7 @@ use Rattle.tape.specs.Refusal.{noteds}
 use Rattle.tape.specs.Answer.{Outcome, counted, refused}
 use Rattle.tape.specs.Fine.{Bytes, Fines}
 use Rattle.tape.specs.declared.Frame.the-variants.{Top}
-use Rattle.tokens.specs.Quoted.{oldRaw, rawRule}
+use Rattle.tokens.specs.Quoted.{strictRaw, rawRule}
 use Rattle.reader.specs.Grammar.{meaning}
 use Rattle.reader.specs.Outcome.{fits, tapeAnswer, tapeLeaves, answer, leaves}
 use Rattle.writer.specs.Outcome.{laid, refusal, measured, streamed}
@@ -56,16 +56,16 @@ pub written-means : (old : Bool) (y : ℕ) (t : List ℕ) → Bytes t → refusa
 written-means old y t b e = let z = through y t e in stream-back old y (nodesOf t) (tape-fine t b (z .0)) (z .1)
 
 -- what the reader answers and leaves for a text, by its meaning
-answer-some : (s : List ℕ) (n : ℕ) (ns : Nodes) → meaning oldRaw s ≡ some ns → length (tape ns) ≤ n → length (tape ns) ≤ 1048576 → answer s n ≡ counted (length (tape ns))
+answer-some : (s : List ℕ) (n : ℕ) (ns : Nodes) → meaning strictRaw s ≡ some ns → length (tape ns) ≤ n → length (tape ns) ≤ 1048576 → answer s n ≡ counted (length (tape ns))
 unfolding answer tapeAnswer fits
 answer-some s n ns e l m = rw (e, le-leb (length (tape ns)) (min n 1048576) (omega arith))
 
-leaves-some : (s b : List ℕ) (ns : Nodes) → meaning oldRaw s ≡ some ns → length (tape ns) ≤ length b → length (tape ns) ≤ 1048576 → leaves s b ≡ tape ns ++ drop (length (tape ns)) b
+leaves-some : (s b : List ℕ) (ns : Nodes) → meaning strictRaw s ≡ some ns → length (tape ns) ≤ length b → length (tape ns) ≤ 1048576 → leaves s b ≡ tape ns ++ drop (length (tape ns)) b
 unfolding leaves tapeLeaves fits
 leaves-some s b ns e l m = rw (e, le-leb (length (tape ns)) (min (length b) 1048576) (omega arith))
 
 -- a text that means an accepted tape's nodes, read with room, gives the tape itself
-pub means-tape : (s t b : List ℕ) → Bytes t → verdict t ≡ 0 → meaning oldRaw s ≡ some (nodesOf t) → length t ≤ length b → (answer s (length b) ≡ counted (length t)) × (leaves s b ≡ t ++ drop (length t) b)
+pub means-tape : (s t b : List ℕ) → Bytes t → verdict t ≡ 0 → meaning strictRaw s ≡ some (nodesOf t) → length t ≤ length b → (answer s (length b) ≡ counted (length t)) × (leaves s b ≡ t ++ drop (length t) b)
 means-tape s t b h v m l =
     let same : tape (nodesOf t) ≡ t = tape-back t h v in
     let most = verdict-told t v .most in
@@ -77,7 +77,7 @@ means-tape s t b h v m l =
 -- Reading it back with room gives the tape itself: its length is answered, and it lies at the buffer's start, the rest kept.
 pub round-trip : (y : ℕ) (t b : List ℕ) → Bytes t → refusal y t ≡ 0 → length t ≤ length b
     → (answer (streamText y (nodesOf t)) (length b) ≡ counted (length t)) × (leaves (streamText y (nodesOf t)) b ≡ t ++ drop (length t) b)
-round-trip y t b h e l = means-tape (streamText y (nodesOf t)) t b h (through y t e .0) (unfold rawRule in written-means true y t h e) l
+round-trip y t b h e l = means-tape (streamText y (nodesOf t)) t b h (through y t e .0) (unfold rawRule in written-means false y t h e) l
 
 -- ---- which tapes are let through
 

@@ -173,7 +173,7 @@ tree-means old t b e = tree-back old (nodesOf t) (tape-fine t b (tree-through t 
 -- Reading it back with room gives the tape itself: its length is answered, and it lies at the buffer's start, the rest kept.
 pub tree-round-trip : (t b : List ℕ) → Bytes t → refusal t ≡ 0 → length t ≤ length b
     → (answer (treeText (nodesOf t)) (length b) ≡ counted (length t)) × (leaves (treeText (nodesOf t)) b ≡ t ++ drop (length t) b)
-tree-round-trip t b h e l = means-tape (treeText (nodesOf t)) t b h (tree-through t e .0) (unfold rawRule in tree-means true t h e) l
+tree-round-trip t b h e l = means-tape (treeText (nodesOf t)) t b h (tree-through t e .0) (unfold rawRule in tree-means false t h e) l
 
 -- ---- which tapes have a tree text
 

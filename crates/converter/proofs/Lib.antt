@@ -12,3 +12,9 @@ pub mod Mapped
 pub mod Characters
 pub mod Meaning
 pub mod Answers
+pub mod CleanRules
+pub mod CleanTokens
+pub mod CleanNumbers
+pub mod Strict
+pub mod Calls
+pub mod Examples

@@ -75,6 +75,16 @@ length-least t = length-kept t .0
 pub length-most : (t : List ℕ) → length (converted t) ≤ 4 * length t
 length-most t = length-kept t .1
 
+-- nothing was replaced
+pub length-same : (t : List ℕ) → length (converted t) ≡ length t → converted t ≡ t
+unfolding converted
+length-same [] h = refl
+length-same (c ∷ t) h = go (replaced c) h (length-same t)
+  where
+    go : (b : Bool) → length (if b (hexEscape c) (c ∷ []) ++ converted t) ≡ suc (length t) → (length (converted t) ≡ length t → converted t ≡ t) → if b (hexEscape c) (c ∷ []) ++ converted t ≡ c ∷ t
+    go true e i = absurd (omega (arith, length-least t))
+    go false e i = ap (λ (u : List ℕ). c ∷ u) (i (omega arith))
+
 -- ---- the first byte
 
 -- what a class finds at a text's start: a byte of the class, which stays; or another, and then another stands at the start of the converted text

@@ -15,6 +15,8 @@ replaced c = oldRaw c && not (strictRaw c)
 abbrev pub replacement : ℕ → List ℕ
 replacement c = if (replaced c) (hexEscape c) (c ∷ [])
 
+-- Byte by byte: in a text of the old grammar such a byte stands raw in quoted text and nowhere else. Elsewhere the output would have a backslash where the
+-- grammar takes none, or one byte of a clob in two ways, and it would not mean what the text meant (`converted-means`).
 unfoldable pub converted : List ℕ → List ℕ
 converted [] = []
 converted (c ∷ s) = replacement c ++ converted s

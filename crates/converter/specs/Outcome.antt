@@ -15,13 +15,13 @@ unfoldable pub isOld : List ℕ → Bool
 isOld t = on (meaning oldRaw t) (λ ns. true) false
 
 -- the output is no longer than a buffer of n bytes
-unfoldable pub fits : List ℕ → ℕ → Bool
-fits t n = leb (length (converted t)) n
+unfoldable pub hasRoom : List ℕ → ℕ → Bool
+hasRoom t n = leb (length (converted t)) n
 
 -- "13 where the converter's text is outside the old grammar; then 14 where the output is longer than the buffer"
 unfoldable pub answer : List ℕ → ℕ → Outcome
-answer t n = if (isOld t) (if (fits t n) (counted (length (converted t))) (refused 14)) (refused 13)
+answer t n = if (isOld t) (if (hasRoom t n) (counted (length (converted t))) (refused 14)) (refused 13)
 
 -- the output at the buffer's start, the rest kept; "both leave the buffer untouched"
 unfoldable pub leaves : List ℕ → List ℕ → List ℕ
-leaves t b = if (isOld t) (if (fits t (length b)) (converted t ++ drop (length (converted t)) b) b) b
+leaves t b = if (isOld t) (if (hasRoom t (length b)) (converted t ++ drop (length (converted t)) b) b) b

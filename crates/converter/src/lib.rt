@@ -24,7 +24,7 @@ fn is_replaced(b: u8) -> bool
 }
 
 // 0 only for a byte that stays as it is.
-fn suspect(b: u8) -> u8
+fn may_be_replaced(b: u8) -> u8
     ensures { λ r. ⌜ (r ≡ 0 → replaced b ≡ false) ⌝ }
 {
     if b <= 8 {
@@ -40,13 +40,13 @@ fn suspect(b: u8) -> u8
 }
 
 // 0 only where every byte stays as it is. There is no way out of the loop, so that the compiler makes it a vector loop.
-fn any_suspect(s: &[u8]) -> u8
+fn any_replaced(s: &[u8]) -> u8
     ensures { λ r. ⌜ (r ≡ 0 → converted (now (s .entry)) ≡ now (s .entry)) ⌝ }
 {
     let mut n = 0;
     let mut i = 0;
     while i < s.len() {
-        n = n | suspect(s[i]);
+        n = n | may_be_replaced(s[i]);
         i += 1;
     }
     n
@@ -79,7 +79,7 @@ fn count_bytes(s: &[u8]) -> usize
 fn count_block(s: &[u8]) -> usize
     ensures { λ r. ⌜ length (now (s .entry)) + 3 * r ≡ length (converted (now (s .entry))) ⌝ }
 {
-    if any_suspect(s) == 0 {
+    if any_replaced(s) == 0 {
         return 0;
     }
     count_bytes(s)
@@ -94,7 +94,7 @@ fn block_end(at: usize, end: usize) -> usize
 }
 
 // How many bytes of a text are replaced.
-fn replaced_count(s: &[u8]) -> usize
+pub fn replaced_count(s: &[u8]) -> usize
     ensures { λ r. ⌜ length (now (s .entry)) + 3 * r ≡ length (converted (now (s .entry))) ⌝ }
 {
     let mut c: usize = 0;
@@ -137,14 +137,14 @@ fn put_converted_block(buf: &mut [u8], pos: usize, s: &[u8]) -> usize
     requires { ⌜ pos ≤ limit ⌝ }
     ensures { λ r. ⌜ Wrote (now (buf .entry)) (now (buf .exit)) pos r (converted (now (s .entry))) ⌝ }
 {
-    if any_suspect(s) == 0 {
+    if any_replaced(s) == 0 {
         return output::put_bytes(buf, pos, s);
     }
     put_converted_bytes(buf, pos, s)
 }
 
 // The whole text, block by block.
-fn put_converted(buf: &mut [u8], pos: usize, s: &[u8]) -> usize
+pub fn put_converted(buf: &mut [u8], pos: usize, s: &[u8]) -> usize
     requires { ⌜ pos ≤ limit ⌝ }
     ensures { λ r. ⌜ Wrote (now (buf .entry)) (now (buf .exit)) pos r (converted (now (s .entry))) ⌝ }
 {
@@ -158,8 +158,19 @@ fn put_converted(buf: &mut [u8], pos: usize, s: &[u8]) -> usize
     p
 }
 
+// The output of a text of which c bytes are replaced. Most texts have none: these are copied without being looked at again.
+fn put_output(buf: &mut [u8], s: &[u8], c: usize) -> usize
+    requires { ⌜ length (now s) + 3 * c ≡ length (converted (now s)) ⌝ }
+    ensures { λ r. ⌜ Wrote (now (buf .entry)) (now (buf .exit)) 0 r (converted (now (s .entry))) ⌝ }
+{
+    if c == 0 {
+        return output::put_bytes(buf, 0, s);
+    }
+    put_converted(buf, 0, s)
+}
+
 // The text is in the old grammar, however long its tape is.
-fn is_old(text: &[u8]) -> bool
+pub fn is_old(text: &[u8]) -> bool
     ensures { λ r. ⌜ r ≡ isOld (now (text .entry)) ⌝ }
 {
     let mut spare = [0u8; 1];
@@ -181,9 +192,10 @@ pub fn convert(text: &[u8], out: &mut [u8]) -> Answer
     if out.len() < text.len() {
         return Answer::OutputTooLong;
     }
-    if (out.len() - text.len()) / 3 < replaced_count(text) {
+    let c = replaced_count(text);
+    if (out.len() - text.len()) / 3 < c {
         return Answer::OutputTooLong;
     }
-    let n = put_converted(out, 0, text);
+    let n = put_output(out, text, c);
     Answer::Count(n)
 }

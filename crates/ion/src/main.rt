@@ -64,7 +64,11 @@ fn text_reason(number: u8) {
         9 => say(b"the tape is longer than 1,048,576 bytes"),
         10 => say(b"the offset is past the text"),
         11 => say(b"no struct starts at the offset (show tells the offsets)"),
-        _ => say(b"the struct has more than 65,536 fields"),
+        12 => say(b"the struct has more than 65,536 fields"),
+        13 => say(
+            b"the text is outside the old grammar, which takes control characters raw (split shows its lines by the strict one)",
+        ),
+        _ => say(b"the output is longer than the buffer"),
     }
 }
 
@@ -98,6 +102,12 @@ fn refused_lines(refused: usize, lines: usize) {
     say(b"\n");
 }
 
+// How many characters of a text were replaced, which is no refusal.
+fn replaced_characters(replaced: usize) {
+    say_number(b"ion: replaced characters: ", replaced as u64);
+    say(b"\n");
+}
+
 // What the words do.
 fn help(fd: i32) {
     let whole = io::write_all(
@@ -115,6 +125,7 @@ From a tape, of at most 1,048,576 bytes:
 From an Ion text, of at most 4,200,000 bytes:
   read     its tape
   split    its lines: number, offset, length, and what each is
+  convert  a stored text, the raw control characters that read refuses as \\x escapes; how many were replaced is said on standard error
 No FILE, or -: standard input. What is refused is said on standard error.
 docs/FORMAT.md says what tapes and texts are, and when each refusal comes.
 ",
@@ -440,9 +451,45 @@ fn split(text: &[u8], tape: &mut [u8], spare: &mut [u8]) {
     }
 }
 
+// ---- a stored text, its raw control characters replaced
+
+// A part of a text that, converted, fits in the longest tape's room.
+fn part_end(at: usize, end: usize) -> usize
+    requires { ⌜ at < end ⌝ }
+    ensures { λ r. ⌜ (at < r) × (r ≤ end) ⌝ }
+{
+    if end - at <= 262144 { end } else { at + 262144 }
+}
+
+// The text converted, part by part. Says whether it is out.
+fn converted_out(text: &[u8], spare: &mut [u8]) -> bool {
+    let mut at: usize = 0;
+    while at < text.len() {
+        let end = part_end(at, text.len());
+        let n = converter::put_converted(spare, 0, &text[at..end]);
+        if !line::emit(spare, n) {
+            return false;
+        }
+        at = end;
+    }
+    true
+}
+
+// The text converted, and on standard error how many characters were replaced.
+fn convert(text: &[u8], spare: &mut [u8]) {
+    if !converter::is_old(text) {
+        refusal(13);
+        return;
+    }
+    if converted_out(text, spare) {
+        replaced_characters(converter::replaced_count(text));
+    }
+}
+
 fn with_text(word: Word, text: &[u8], tape: &mut [u8], spare: &mut [u8]) {
     match word {
         Word::Read => give_tape(text, tape),
+        Word::Convert => convert(text, spare),
         _ => split(text, tape, spare),
     }
 }
@@ -535,6 +582,7 @@ fn obey(
         Word::Help => help(libc::STDOUT_FILENO),
         Word::Read => on_text(word, name, text, tape, spare),
         Word::Split => on_text(word, name, text, tape, spare),
+        Word::Convert => on_text(word, name, text, tape, spare),
         _ => on_tape(word, name, text, tape, spare),
     }
 }

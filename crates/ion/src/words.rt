@@ -14,6 +14,7 @@ pub enum Word {
     Find,
     Read,
     Split,
+    Convert,
     Help,
     Unknown,
 }
@@ -50,6 +51,9 @@ pub fn word_of(s: &[u8]) -> Word
     }
     if same_word(s, b"split") {
         return Word::Split;
+    }
+    if same_word(s, b"convert") {
+        return Word::Convert;
     }
     if same_word(s, b"help") {
         return Word::Help;

@@ -15,6 +15,8 @@ use Rattle.tape.specs.Fine.{Bytes}
 use Rattle.tape.specs.Tree.{Nodes, tape}
 use Rattle.reader.specs.Grammar.{meaning}
 use Rattle.reader.specs.Outcome.{fits, tapeAnswer, answer}
+use Rattle.converter.specs.Convert.{converted}
+use Rattle.converter.specs.Outcome as convert
 use Rattle.writer.specs.Text.{streamText}
 use Rattle.writer.specs.Outcome.{refusal, measured, answered, streamed}
 use Rattle.measure.specs.Outcome.{textLength}
@@ -84,6 +86,17 @@ answer-small t n = go (meaning _ t)
     go : (m : Option Nodes) → Small (on m (λ ns. tapeAnswer (tape ns) n) (refused 8))
     go none = tt
     go (some ns) = tape-small (tape ns) n
+
+-- ---- converting
+
+pub convert-small : (t : List ℕ) (n : ℕ) → n < 2 ^ 63 → Small (convert.answer t n)
+unfolding convert.answer convert.hasRoom
+convert-small t n h = go (convert.isOld t) (leb (length (converted t)) n) refl
+  where
+    go : (o b : Bool) → leb (length (converted t)) n ≡ b → Small (if o (if b (counted (length (converted t))) (refused 14)) (refused 13))
+    go false b e = tt
+    go true true e = omega (arith, leb-true (length (converted t)) n e)
+    go true false e = tt
 
 -- ---- line calls
 

@@ -8,6 +8,7 @@ ghost use Rattle.writer.specs.Outcome.{streamed, leaves};
 ghost use Rattle.measure.specs.Outcome.{textLength};
 ghost use Rattle.tree.specs.Outcome as tree;
 ghost use Rattle.reader.specs.Outcome as read;
+ghost use Rattle.converter.specs.Outcome as convert;
 ghost use Rattle.line_reader.specs.Calls.{step};
 ghost use Rattle.field_index.specs.Index.{indexed};
 ghost use Rattle.ion_c.specs.Code.{code, Small, placeCode, Near, Indexes, Places};
@@ -111,6 +112,16 @@ pub extern "C" fn ion_read(text: &[u8], out: &mut [u8]) -> i64
     ensures buffer { λ _. ⌜ now (out .exit) ≡ read.leaves (now (text .entry)) (now (out .entry)) ⌝ }
 {
     let a = reader::read_text(text, out);
+    code_of(a)
+}
+
+// A text of the old grammar as one of the strict grammar.
+#[no_mangle]
+pub extern "C" fn ion_convert(text: &[u8], out: &mut [u8]) -> i64
+    ensures answer { λ r. ⌜ r ≡ code (convert.answer (now (text .entry)) (length (now (out .entry)))) ⌝ }
+    ensures buffer { λ _. ⌜ now (out .exit) ≡ convert.leaves (now (text .entry)) (now (out .entry)) ⌝ }
+{
+    let a = converter::convert(text, out);
     code_of(a)
 }
 

@@ -9,7 +9,7 @@ use borrow.Author.Tests.{lt-ltb, le-ltb, eq-eqb, ne-eqb, leb-true}
 use lib.ListN.{length, take, drop, length-append, length-drop, length-replicate}
 use lib.Seq.{drop-drop, drop-append-seam, take-at, getD-at}
 use Rattle.output.specs.Logic.{if, on, then}
-use Rattle.tokens.specs.Quoted.{oldRaw}
+use Rattle.tokens.specs.Quoted.{strictRaw}
 use Rattle.reader.specs.Grammar.{meaning}
 use Rattle.reader.specs.Outcome.{fits, zeros}
 use Rattle.line_reader.specs.Cut.{lf, linesOf, toFirst}
@@ -34,7 +34,7 @@ step-line text at buf h = rw (le-ltb (length text) at (omega arith), ne-eqb at (
 -- ---- the book's turn for a line
 
 -- bytes and LF: the line's tape is that of the one node that the bytes mean
-pub line-tape : (u : List ℕ) → lineTape (u ++ lf ∷ []) ≡ then (meaning oldRaw u) single
+pub line-tape : (u : List ℕ) → lineTape (u ++ lf ∷ []) ≡ then (meaning strictRaw u) single
 unfolding lineTape endsInLf
 line-tape u =
     let n : length u ≡ length (u ++ lf ∷ []) - 1 = omega (arith, length-append u (lf ∷ [])) in

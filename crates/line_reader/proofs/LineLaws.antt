@@ -12,7 +12,7 @@ use lib.Seq.{drop-cons}
 use Rattle.tape.specs.Tree.{Nodes, nil, more, size, tape}
 use Rattle.tape.specs.declared.answer.Answer.{Answer}
 use Rattle.tape.specs.declared.answer.Answer.the-variants.{Count, OutsideGrammar, TapeTooLong}
-use Rattle.tokens.specs.Quoted.{oldRaw}
+use Rattle.tokens.specs.Quoted.{strictRaw}
 use Rattle.reader.specs.Grammar.{meaning}
 use Rattle.reader.specs.Outcome.{zeros}
 use Rattle.reader.specs.Steps.{Laid}
@@ -72,11 +72,11 @@ module _ (line : List ℕ) (at : ℕ) (buf : List ℕ) where
   book-open last z e = book-other last z (rw e)
 
   module _ (e : endsInLf line ≡ true) where
-    pub book-none : (last : List ℕ) → last ≡ replicate (length buf) 0 → meaning oldRaw (take (length line - 1) line) ≡ none → byBook line at buf ≡ called OutsideGrammar (at + length line) last
+    pub book-none : (last : List ℕ) → last ≡ replicate (length buf) 0 → meaning strictRaw (take (length line - 1) line) ≡ none → byBook line at buf ≡ called OutsideGrammar (at + length line) last
     unfolding lineTape
     book-none last z m = book-other last z (rw (e, m))
 
-    module _ (ns : Nodes) (m : meaning oldRaw (take (length line - 1) line) ≡ some ns) where
+    module _ (ns : Nodes) (m : meaning strictRaw (take (length line - 1) line) ≡ some ns) where
       pub book-several : (last : List ℕ) → last ≡ replicate (length buf) 0 → (size ns ≡ 1 → ⊥) → byBook line at buf ≡ called OutsideGrammar (at + length line) last
       unfolding lineTape
       book-several last z s = book-other last z (rw (e, m) (single-other ns s))

@@ -9,7 +9,7 @@ use lib.Dec.{eqb}
 use Rattle.output.specs.Logic.{if, on, then}
 use Rattle.tape.specs.Tree.{Nodes, nil, more, tape}
 use Rattle.tape.specs.Answer.{Outcome, counted, ended, refused}
-use Rattle.tokens.specs.Quoted.{oldRaw}
+use Rattle.tokens.specs.Quoted.{strictRaw}
 use Rattle.reader.specs.Grammar.{meaning}
 use Rattle.reader.specs.Outcome.{fits, zeros}
 use Rattle.line_reader.specs.Cut.{lf, linesOf}
@@ -46,9 +46,9 @@ single nil = none
 single (more h n nil) = some (tape (more h n nil))
 single (more h n (more h' n' ns)) = none
 
--- the tape of a line that "is one value or marker by the grammar, blanks around it allowed, then LF"
+-- the tape of a line that "is one value or marker by the grammar, blanks around it allowed, then LF"; the grammar has Ion's raw rule (02, A6)
 unfoldable pub lineTape : List ℕ → Option (List ℕ)
-lineTape line = if (endsInLf line) (then (meaning oldRaw (take (length line - 1) line)) single) none
+lineTape line = if (endsInLf line) (then (meaning strictRaw (take (length line - 1) line)) single) none
 
 -- a tape that was read is laid, "or [the call] answers 9 if that row holds": it is longer than the lesser of buffer and 1,048,576
 unfoldable pub room : List ℕ → List ℕ → Turn

@@ -50,7 +50,7 @@ fn read_line(line: &[u8], out: &mut [u8]) -> Answer
     }
     let end = line.len() - 1;
     let limit = reader::limit_of(out.len());
-    let Made::Length(n, count) = reader::write_tape(&line[..end], true, &mut out[..limit]) else {
+    let Made::Length(n, count) = reader::write_tape(&line[..end], false, &mut out[..limit]) else {
         output::zero(out);
         return Answer::OutsideGrammar;
     };

@@ -8,7 +8,7 @@ use native.Mathlib.Omega.{arith}
 use lib.ListN.{length, take, drop, replicate, take-append-drop}
 use lib.Seq.{drop-append-le, length-take-le}
 use borrow.Author.Tests.{le-leb, lt-leb}
-use Rattle.tokens.specs.Quoted.{oldRaw}
+use Rattle.tokens.specs.Quoted.{strictRaw}
 use Rattle.tape.specs.Tree.{Nodes, tape}
 use Rattle.tape.specs.Answer.{counted, refused}
 use Rattle.reader.specs.Grammar.{meaning}
@@ -33,11 +33,11 @@ module _ (b : List ℕ) (l n : ℕ) (part : List ℕ) (ns : Nodes) (lim : l ≡ 
       (le-leb (length (tape ns)) (min (length b) 1_048_576) (omega arith), k, g)
 
 module _ (t b : List ℕ) where
-  pub whole-none : meaning oldRaw t ≡ none → (refused 8 ≡ answer t (length b)) × (replicate (length b) 0 ≡ leaves t b)
+  pub whole-none : meaning strictRaw t ≡ none → (refused 8 ≡ answer t (length b)) × (replicate (length b) 0 ≡ leaves t b)
   unfolding answer leaves zeros
   whole-none e = (rw e, rw e)
 
-  module _ (l n : ℕ) (part : List ℕ) (ns : Nodes) (lim : l ≡ min (length b) 1_048_576) (e : meaning oldRaw t ≡ some ns) (w : Laid (take l b) part 0 n (tape ns)) where
+  module _ (l n : ℕ) (part : List ℕ) (ns : Nodes) (lim : l ≡ min (length b) 1_048_576) (e : meaning strictRaw t ≡ some ns) (w : Laid (take l b) part 0 n (tape ns)) where
     pub whole-long : l < n → (refused 9 ≡ answer t (length b)) × (replicate (length b) 0 ≡ leaves t b)
     unfolding answer leaves tapeAnswer tapeLeaves zeros
     whole-long h =

@@ -118,7 +118,7 @@ abbrev pub within : {A : Type 0} → ℕ → (ℕ → Option A) → Option A
 within zero g = none
 within (suc left) g = g left
 
--- The rules that quoted text is part of, by what a raw character may be: `oldRaw` and `strictRaw` are the two cases.
+-- The rules that quoted text is part of, by what a raw character may be. By `strictRaw` they are the reader's grammar, by `oldRaw` the old one (02, A6).
 module _ (isRaw : ℕ → Bool) where
   -- ---- what stands before a value
 

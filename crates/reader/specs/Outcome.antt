@@ -5,7 +5,7 @@ use mathlib.Core.Bool.{Bool}
 use lib.ListN.{length, drop, replicate}
 use lib.Dec.{leb}
 use Rattle.output.specs.Logic.{if, on}
-use Rattle.tokens.specs.Quoted.{oldRaw}
+use Rattle.tokens.specs.Quoted.{strictRaw}
 use Rattle.tape.specs.Tree.{tape}
 use Rattle.tape.specs.Answer.{Outcome, counted, refused}
 use Rattle.reader.specs.Grammar.{meaning}
@@ -25,10 +25,10 @@ tapeAnswer t n = if (fits t n) (counted (length t)) (refused 9)
 unfoldable pub tapeLeaves : List ℕ → List ℕ → List ℕ
 tapeLeaves t b = if (fits t (length b)) (t ++ drop (length t) b) (zeros b)
 
--- the answer for a text and a buffer's length: 8 where the text is outside the grammar
+-- the answer for a text and a buffer's length: 8 where the text is outside the grammar, which has Ion's raw rule (02, A6)
 unfoldable pub answer : List ℕ → ℕ → Outcome
-answer t n = on (meaning oldRaw t) (λ ns. tapeAnswer (tape ns) n) (refused 8)
+answer t n = on (meaning strictRaw t) (λ ns. tapeAnswer (tape ns) n) (refused 8)
 
 -- the whole buffer after the call
 unfoldable pub leaves : List ℕ → List ℕ → List ℕ
-leaves t b = on (meaning oldRaw t) (λ ns. tapeLeaves (tape ns) b) (zeros b)
+leaves t b = on (meaning strictRaw t) (λ ns. tapeLeaves (tape ns) b) (zeros b)

@@ -66,9 +66,6 @@ fn note_at(text: &[u8], at: usize, old: bool, buf: &mut [u8], pos: usize) -> Ste
     requires { ⌜ (at ≤ length (now text)) × (pos ≤ limit) ⌝ }
     ensures { λ r. ⌜ Tried encodeSym (now (text .entry)) (suc at) (now (buf .entry)) (now (buf .exit)) pos (note (rawRule old) (drop at (now (text .entry)))) r ⌝ }
 {
-    if !may_note(text, at) {
-        return Step::Bad;
-    }
     let mut none = [0u8; 1];
     let Step::Next { at: a, pos: _ } = symbol_at(text, at, old, &mut none, 0) else {
         return Step::Bad;
@@ -91,6 +88,9 @@ fn marks_at(text: &[u8], from: usize, old: bool, buf: &mut [u8], start: usize) -
     let mut pos = start;
     let mut count: usize = 0;
     loop {
+        if !may_note(text, at) {
+            return Run::Whole { at, pos, count };
+        }
         let Step::Next { at: next, pos: p } = note_at(text, at, old, buf, pos) else {
             return Run::Whole { at, pos, count };
         };
@@ -108,6 +108,9 @@ fn notes_at(text: &[u8], at: usize, old: bool, buf: &mut [u8], pos: usize) -> Ru
     requires { ⌜ (at ≤ length (now text)) × (pos ≤ limit) ⌝ }
     ensures { λ r. ⌜ Counted encodeNotes length (now (text .entry)) at (now (buf .entry)) (now (buf .exit)) pos 0 (notes (rawRule old) 16 (drop at (now (text .entry)))) r ⌝ }
 {
+    if !may_note(text, at) {
+        return Run::Whole { at, pos, count: 0 };
+    }
     let s = output::ahead(pos, 2);
     let Step::Next { at: a, pos: p } = note_at(text, at, old, buf, s) else {
         return Run::Whole { at, pos, count: 0 };

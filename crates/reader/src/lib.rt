@@ -49,7 +49,7 @@ pub fn read_text(text: &[u8], out: &mut [u8]) -> Answer
     ensures buffer { λ _. ⌜ now (out .exit) ≡ leaves (now (text .entry)) (now (out .entry)) ⌝ }
 {
     let limit = limit_of(out.len());
-    let Made::Length(n, _) = write_tape(text, true, &mut out[..limit]) else {
+    let Made::Length(n, _) = write_tape(text, false, &mut out[..limit]) else {
         output::zero(out);
         return Answer::OutsideGrammar;
     };

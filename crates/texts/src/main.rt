@@ -333,7 +333,7 @@ fn words() {
 fn reread_symbol(text: &[u8]) {
     let mut content = [0u8; 256];
     let mut again = [0u8; 1024];
-    let r = tokens::values::symbol_at(text, 0, true, &mut content, 0);
+    let r = tokens::values::symbol_at(text, 0, false, &mut content, 0);
     match r {
         SymbolRead::Text { at, pos } => {
             if pos <= 256 {
@@ -378,7 +378,7 @@ fn reread_string(text: &[u8]) {
     if text.len() == 0 {
         return;
     }
-    let r = tokens::quoted::characters_at(text, 1, b'"', true, &mut content, 0);
+    let r = tokens::quoted::characters_at(text, 1, b'"', false, &mut content, 0);
     match r {
         Step::Next { at, pos } => {
             if pos <= 256 {

@@ -47,7 +47,7 @@ HexRead text at w Hex.Bad = hex w 0 (drop at text) ≡ none
 pub record HexAt (text : List ℕ) (at w : ℕ) (r : Hex) : Type 0 where
   pub told : HexRead text at w r
 
--- a byte that is a character of quoted text as it stands, where the mark is q: by either raw rule, for what Ion's takes 01's takes
+-- a byte that is a character of quoted text as it stands, where the mark is q: by both raw rules, for what Ion's takes 01's takes
 unfoldable pub isPlain : ℕ → ℕ → Bool
 isPlain q c = strictRaw c && ltb c 0x80 && not (eqb c (byte "\\")) && not (eqb c q)
 

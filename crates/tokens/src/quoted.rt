@@ -263,7 +263,7 @@ fn is_usual(b: u8) -> bool
     b < 0x80
 }
 
-// A byte that is a character as it stands, by either rule, where the mark is q.
+// A byte that is a character as it stands, by both rules, where the mark is q.
 fn is_plain(b: u8, q: u8) -> bool
     ensures { λ r. ⌜ r ≡ isPlain q b ⌝ }
 {

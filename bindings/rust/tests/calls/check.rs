@@ -1,6 +1,6 @@
 //! A call and all that it may and may not touch.
 
-use lechuqta::Refusal;
+use lechuqta::{convert, to_converted, Refusal};
 use std::fmt::Debug;
 
 const GUARD: usize = 32;
@@ -70,4 +70,26 @@ pub fn check_tape<A: PartialEq + Debug>(
     for room in [full - 1, full / 2, 0] {
         check(text, room, &read, Err(Refusal::TapeTooLong), Left::Zero);
     }
+}
+
+/// The converter, which must give this output: with room to spare, exactly full, one byte short, with half the room and with none.
+pub fn check_converted(text: &[u8], output: &[u8]) {
+    let full = output.len();
+    for room in [full + 9, full] {
+        check(text, room, convert, Ok(full), Left::Begins(output));
+    }
+    for room in [full.saturating_sub(1), full / 2, 0] {
+        if room < full {
+            check(text, room, convert, Err(Refusal::OutputTooLong), Left::Untouched);
+        }
+    }
+    assert!(to_converted(text).as_deref() == Ok(output), "to_converted on {:?}", String::from_utf8_lossy(&text[..text.len().min(80)]));
+}
+
+/// The converter, which must refuse the text as outside the old grammar, in buffers of any length.
+pub fn check_outside_old(text: &[u8]) {
+    for room in [0, 1, text.len(), 4 * text.len() + 9] {
+        check(text, room, convert, Err(Refusal::OutsideOldGrammar), Left::Untouched);
+    }
+    assert_eq!(to_converted(text), Err(Refusal::OutsideOldGrammar));
 }

@@ -41,7 +41,8 @@ fn tempting() {
     prints(blob(b"\xfb\xff"), "{{+/8=}}");
 }
 
-/// Control characters below U+0020 that have no letter are written as `\x` and two hex digits, and read raw too.
+/// Control characters below U+0020 that have no letter are written as `\x` and two hex digits. But for tab, 11 and 12 none is read raw, and the
+/// converter replaces them.
 #[test]
 fn control_characters() {
     prints(string("\u{1}\u{1f} \u{7f}"), "\"\\x01\\x1f \u{7f}\"");
@@ -50,8 +51,32 @@ fn control_characters() {
     let tape = tape(&[annotated(&[symbol("\u{1}")], structure(&[(symbol("\u{2}"), string("\u{1f}"))]))]);
     let text: &[u8] = br#"'\x01'::{'\x02': "\x1f"}"#;
     check_text(&tape, text, write_tree);
-    for text in [text, br#"'\x01'::{'\x02': "\x1F"}"#, b"'\x01'::{'\x02': \"\x1f\"}"] {
+    for text in [text, br#"'\x01'::{'\x02': "\x1F"}"#, br#"'\u0001'::{'\U00000002': "\x1f"}"#] {
         check_tape(text, &tape, read, |n| n);
+        check_converted(text, text);
+    }
+    let stored = b"'\x01'::{'\x02': \"\x1f\"}";
+    check(stored, 60, read, Err(Refusal::OutsideGrammar), Left::Zero);
+    check_converted(stored, text);
+    // Line by line too, and the lines around are read.
+    let read: Vec<_> = lines(b"1\n'\x01'\n2\n").map(|line| line.tape).collect();
+    assert_eq!(read, [Ok(single(&int(1))), Err(Refusal::OutsideGrammar), Ok(single(&int(2)))]);
+}
+
+/// The examples of "Converting a stored text".
+#[test]
+fn conversion() {
+    let texts = [
+        ("\"\u{1}\t\u{7f}é'\" '\0' \"\u{7}\\a\"", "\"\\x01\t\u{7f}é'\" '\\x00' \"\\x07\\a\""),
+        ("'\u{6}'::{'\u{1e}' : '\u{10}', b: {{\"\\x01\"}}}", r#"'\x06'::{'\x1e' : '\x10', b: {{"\x01"}}}"#),
+        ("[ 1 ,\n2 ]\r\n", "[ 1 ,\n2 ]\r\n"),
+    ];
+    for (text, output) in texts {
+        check_converted(text.as_bytes(), output.as_bytes());
+        check_converted(output.as_bytes(), output.as_bytes());
+    }
+    for text in ["1\u{1}", "{{\"\u{1}\"}}", "\"\\\u{1}\"", "\"\n\"", "\"\u{1}"] {
+        check_outside_old(text.as_bytes());
     }
 }
 

@@ -32,6 +32,13 @@ fn nothing_to_read() {
 }
 
 #[test]
+fn nothing_to_convert() {
+    for text in ["", " ", "\n", " \t\n\x0b\x0c\r "] {
+        check_converted(text.as_bytes(), text.as_bytes());
+    }
+}
+
+#[test]
 fn the_end_mark_keeps_all() {
     for text in ["1\n", "1", "\n\n", "1\n2\n3\n"] {
         for room in [0, 1, 40] {
@@ -63,6 +70,7 @@ fn the_longest_tape() {
     assert_eq!(to_text(Layout::Lines, &tape).as_ref(), Ok(&text));
     assert_eq!(to_tree_text(&tape).as_deref(), Ok(&text[..text.len() - 1]));
     assert_eq!(to_tape(&text).as_ref(), Ok(&tape));
+    check_converted(&text, &text);
 }
 
 #[test]
@@ -83,6 +91,50 @@ fn tapes_that_are_too_long() {
         assert_eq!(to_text(Layout::Lines, &tape), Err(Refusal::Misfit));
         assert_eq!(to_tree_text(&tape), Err(Refusal::Misfit));
         assert_eq!(to_tape(&text), Err(Refusal::TapeTooLong));
+        // The converter's text may mean such a tape.
+        for room in [text.len(), text.len() + 5] {
+            check(&text, room, convert, Ok(text.len()), Left::Begins(&text));
+        }
+        check(&text, text.len() - 1, convert, Err(Refusal::OutputTooLong), Left::Untouched);
+    }
+}
+
+/// A string of so many raw control characters, all that are replaced in turn, and the output.
+fn stored(count: usize) -> (Vec<u8>, Vec<u8>) {
+    let bytes = || (0..=8u8).chain(14..=31).cycle().take(count);
+    let escapes: String = bytes().map(|byte| format!("\\x{byte:02x}")).collect();
+    ([b"\"".to_vec(), bytes().collect(), b"\"".to_vec()].concat(), format!("\"{escapes}\"").into_bytes())
+}
+
+#[test]
+fn long_conversions() {
+    // The tape of so many characters has 13 bytes more: the first is as long as a tape may be, the others are too long.
+    for (count, fits) in [(MAX_TAPE - 13, true), (MAX_TAPE - 12, false), (2 * MAX_TAPE, false)] {
+        let (text, output) = stored(count);
+        check_converted(&text, &output);
+        assert_eq!(to_tape(&text), Err(Refusal::OutsideGrammar));
+        assert_eq!(to_tape(&output).map(|tape| tape.len()), if fits { Ok(MAX_TAPE) } else { Err(Refusal::TapeTooLong) });
+        assert!(to_converted(&output).as_ref() == Ok(&output));
+        check(&text[..text.len() - 1], output.len(), convert, Err(Refusal::OutsideOldGrammar), Left::Untouched);
+    }
+    // Many short values: their tape is too long too.
+    let (text, output) = (b"'\x01' ".repeat(MAX_TAPE / 4), br"'\x01' ".repeat(MAX_TAPE / 4));
+    assert!(to_converted(&text).as_ref() == Ok(&output));
+    assert_eq!(to_tape(&output), Err(Refusal::TapeTooLong));
+}
+
+/// The converter goes by blocks of 1,024 bytes: one character replaced, on both sides of where blocks and texts end.
+#[test]
+fn ends_of_blocks() {
+    for at in (1..4).chain(1020..1028).chain(2044..2052) {
+        for behind in (0..4).chain(1020..1028) {
+            let parts = |middle: &str| format!("\"{}{middle}{}\"", "a".repeat(at - 1), "b".repeat(behind));
+            let (text, output) = (parts("\u{1f}"), parts(r"\x1f"));
+            for room in [output.len(), output.len() + 3] {
+                check(text.as_bytes(), room, convert, Ok(output.len()), Left::Begins(output.as_bytes()));
+            }
+            check(text.as_bytes(), output.len() - 1, convert, Err(Refusal::OutputTooLong), Left::Untouched);
+        }
     }
 }
 
@@ -98,6 +150,7 @@ fn long_texts_of_short_tapes() {
     check_tape(&escapes, &due, |t, out| read_line(t, &mut 0, out), Some);
     for open in ["[", "{a:", "(", "\"", "a::", "'", "{{\""] {
         check(open.repeat(MAX_TAPE).as_bytes(), 1000, read, Err(Refusal::OutsideGrammar), Left::Zero);
+        check(open.repeat(MAX_TAPE).as_bytes(), 1000, convert, Err(Refusal::OutsideOldGrammar), Left::Untouched);
     }
 }
 

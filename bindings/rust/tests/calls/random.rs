@@ -26,8 +26,10 @@ impl Random {
     }
 
     fn text(&mut self) -> String {
-        let pieces =
-            ["a", "norad", "$", "7", "_", " ", "true", "null", "$ion_1_0", "\n", "\r", "\0", "'", "\"", "\\", "\u{1}", "é", "日", "\u{10FFFF}"];
+        let pieces = [
+            "a", "norad", "$", "7", "_", " ", "true", "null", "$ion_1_0", "\t", "\n", "\r", "\0", "\u{7}", "'", "\"", "\\", "\u{1}", "\u{e}",
+            "\u{1f}", "\u{7f}", "é", "日", "\u{10FFFF}",
+        ];
         self.several(4, |r| r.pick(&pieces)).concat()
     }
 

@@ -1,4 +1,4 @@
-//! Each refusal of the table from 1 to 12, its place in the order, and what it leaves in the buffer or the entries.
+//! Each refusal of the table from 1 to 14, its place in the order, and what it leaves in the buffer or the entries.
 
 use crate::check::*;
 use crate::index::check_index;
@@ -182,15 +182,29 @@ fn r7_no_layout() {
     }
 }
 
+/// Texts outside the grammar, and outside the old one.
+const OUTSIDE: [&str; 49] = [
+    "[", "[1", "[1,,]", "[,]", "]", "(1]", "{a}", "{a:}", "{\"a\":1}", "1 2]", "[1][2]", "01", "-0", "+1", "9223372036854775808", ".5", "1d", "1D2",
+    "1.0d-2147483648", "18446744073709551616.", "$01", "$4294967296", "$ion_1_1", "null.null", "null.foo", "nan::1", "\"a", "\"\n\"", "\"\r\"",
+    "'''a'''", "\"\\q\"", "\"\\ud800\"", "{{ \"a\" }}", "{{\"\\u0041\"}}", "a::", "a ::1", "a:: 1", "a::$ion_1_0", "[$ion_1_0]", "2023-02-29T",
+    "2026-11-15", "2026-11-15T02:14", "2026-11-15T02:14:07.Z", "2026-11-15T24:00Z", "// comment", "1.5e0", "a,b", "\0", "1\u{1f}",
+];
+
+/// Texts of the old grammar alone, and what the converter makes of them.
+const STORED: [(&str, &str); 8] = [
+    ("\"\0\"", r#""\x00""#),
+    ("'a\u{7}b'", r"'a\x07b'"),
+    ("{'\u{8}':1}", r"{'\x08':1}"),
+    ("'\u{e}'::1", r"'\x0e'::1"),
+    ("a::'\u{1f}'::[]", r"a::'\x1f'::[]"),
+    ("[\"\t\u{1}é\", {{\"\\x01\"}}]", "[\"\t\\x01é\", {{\"\\x01\"}}]"),
+    ("\"\\\\\u{2}\\x02\"", r#""\\\x02\x02""#),
+    ("(\"'\u{10}'\" '\"\u{11}\"')", r#"("'\x10'" '"\x11"')"#),
+];
+
 #[test]
 fn r8_outside_grammar() {
-    let texts = [
-        "[", "[1", "[1,,]", "[,]", "]", "(1]", "{a}", "{a:}", "{\"a\":1}", "1 2]", "[1][2]", "01", "-0", "+1", "9223372036854775808", ".5", "1d",
-        "1D2", "1.0d-2147483648", "18446744073709551616.", "$01", "$4294967296", "$ion_1_1", "null.null", "null.foo", "nan::1", "\"a", "\"\n\"",
-        "'''a'''", "\"\\q\"", "\"\\ud800\"", "{{ \"a\" }}", "{{\"\\u0041\"}}", "a::", "a ::1", "a:: 1", "a::$ion_1_0", "[$ion_1_0]", "2023-02-29T",
-        "2026-11-15", "2026-11-15T02:14", "2026-11-15T02:14:07.Z", "2026-11-15T24:00Z", "// comment", "1.5e0", "a,b", "\0",
-    ];
-    for text in texts {
+    for text in OUTSIDE.into_iter().chain(STORED.map(|(text, _)| text)) {
         for room in [0, 7, 60] {
             check(text.as_bytes(), room, read, Err(Refusal::OutsideGrammar), Left::Zero);
             let line = format!("{text}\n");
@@ -203,13 +217,15 @@ fn r8_outside_grammar() {
     check(many.as_bytes(), 200, read, Err(Refusal::OutsideGrammar), Left::Zero);
     // 8 is found behind a tape that is already too long.
     check(b"1 2 3 4 5 6 7 8 9 ?", 20, read, Err(Refusal::OutsideGrammar), Left::Zero);
+    check(b"1 2 3 4 5 6 7 8 9 \"\x01\"", 20, read, Err(Refusal::OutsideGrammar), Left::Zero);
 }
 
 #[test]
 fn r8_lines() {
     let texts =
         [("\n5\n", 1), (" \t\r\n5\n", 4), ("1 2\n5\n", 4), ("$ion_1_0 $ion_1_0\n5\n", 18), ("[1\n5]\n", 3), ("1", 1), ("$ion_1_0", 8), (" ", 1)];
-    for (text, end) in texts {
+    let stored = STORED.map(|(text, _)| (format!("{text}\n5\n"), text.len() + 1));
+    for (text, end) in texts.map(|(text, end)| (text.to_string(), end)).into_iter().chain(stored) {
         for room in [0, 9, 60] {
             let mut at = 0;
             check(text.as_bytes(), room, |t, out| read_line(t, &mut at, out), Err(Refusal::OutsideGrammar), Left::Zero);
@@ -273,9 +289,39 @@ fn r12_too_many_fields() {
 }
 
 #[test]
+fn r13_outside_old_grammar() {
+    for text in OUTSIDE {
+        check_outside_old(text.as_bytes());
+        // Beside what would be too long for the shorter buffers: 13 comes before 14.
+        check_outside_old(format!("\"\u{1}\" {text}").as_bytes());
+        check_outside_old(format!("{text} \"\u{1}\"").as_bytes());
+    }
+    check_outside_old(b"\"\x01\xC3\"");
+    check_outside_old(b"\"\xC0\x80\"");
+    // The limits of depth and of annotations are those of the reader.
+    let deep = |depth: usize| "[".repeat(depth) + "'\u{1}'" + &"]".repeat(depth);
+    check_converted(deep(64).as_bytes(), deep(64).replace('\u{1}', r"\x01").as_bytes());
+    check_outside_old(deep(65).as_bytes());
+    let noted = |notes: usize| "'\u{1}'::".repeat(notes) + "1";
+    check_converted(noted(16).as_bytes(), noted(16).replace('\u{1}', r"\x01").as_bytes());
+    check_outside_old(noted(17).as_bytes());
+}
+
+#[test]
+fn r14_output_too_long() {
+    for (text, output) in STORED.into_iter().chain([("[1, 2]", "[1, 2]")]) {
+        // Every length of the buffer, that of the text among them where something is replaced.
+        for room in 0..output.len() {
+            check(text.as_bytes(), room, convert, Err(Refusal::OutputTooLong), Left::Untouched);
+        }
+        check_converted(text.as_bytes(), output.as_bytes());
+    }
+}
+
+#[test]
 fn numbers_and_messages() {
     let numbers = Refusal::ALL.map(Refusal::number);
-    assert_eq!(numbers, [1, 2, 3, 4, 5, 6, 7, 8, 9, 10, 11, 12]);
+    assert_eq!(numbers, [1, 2, 3, 4, 5, 6, 7, 8, 9, 10, 11, 12, 13, 14]);
     for (i, refusal) in Refusal::ALL.into_iter().enumerate() {
         assert_eq!(refusal.to_string(), format!("refused {}: {}", i + 1, refusal.message()));
         for other in &Refusal::ALL[..i] {

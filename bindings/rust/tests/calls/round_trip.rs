@@ -1,4 +1,4 @@
-//! Every written text gives its own tape: the layouts, the tree text, and the lines one by one.
+//! Every written text gives its own tape: the layouts, the tree text, and the lines one by one. It is clean, so that the converter leaves it.
 
 use crate::check::*;
 use crate::random::Random;
@@ -13,6 +13,7 @@ fn stream_and_back(nodes: &[Node]) {
         check_text(&tape_of_all, &text, |t, out| write(layout, t, out));
         check_tape(&text, &tape_of_all, read, |n| n);
         assert_eq!(to_tape(&text).as_ref(), Ok(&tape_of_all));
+        assert_eq!(to_converted(&text).as_ref(), Ok(&text));
         if layout == Layout::Lines {
             let due: Vec<_> = nodes.iter().map(|node| Ok(single(node))).collect();
             assert_eq!(lines(&text).map(|line| line.tape).collect::<Vec<_>>(), due);
@@ -26,6 +27,7 @@ fn tree_and_back(node: Node) {
     check_text(&tape, &text, write_tree);
     check_tape(&text, &tape, read, |n| n);
     assert_eq!(to_tape(&text).as_ref(), Ok(&tape));
+    assert_eq!(to_converted(&text).as_ref(), Ok(&text));
 }
 
 #[test]

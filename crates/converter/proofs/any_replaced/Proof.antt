@@ -1,4 +1,4 @@
--- `converter::any_suspect` meets its contract. Assumes nothing.
+-- `converter::any_replaced` meets its contract. Assumes nothing.
 use Prim.Native.Nat.{_-_, _≤_}
 use mathlib.Core.Path.{_≡_, sym, ap, _∙_}
 use mathlib.Core.List.{List, [], _∷_}
@@ -10,8 +10,8 @@ use Rattle.text_rules.proofs.Places.{byte-at}
 use Rattle.converter.specs.Convert.{converted}
 use Rattle.converter.proofs.Texts.{converted-nothing, converted-kept}
 use borrow.Author.Needs.{needs}
-use Rattle.converter.proofs.any_suspect.Statement.{statement}
-use Rattle.converter.proofs.any_suspect.Tie as tie
+use Rattle.converter.proofs.any_replaced.Statement.{statement}
+use Rattle.converter.proofs.any_replaced.Tie as tie
 
 -- where no flag is set yet, the whole stays as it is if what is left does
 abbrev Inv-loop : tie.InvT-loop
@@ -23,11 +23,11 @@ abbrev μ-loop : tie.MeasureT-loop
 loop-holds : tie.Need-loop-holds Inv-loop μ-loop
 loop-holds c = (omega arith, λ e h. h)
 
-shared-slice-read-suspect : tie.Need-shared-slice-read-suspect Inv-loop μ-loop
-shared-slice-read-suspect c = search needs
+shared-slice-read-may-be-replaced : tie.Need-shared-slice-read-may-be-replaced Inv-loop μ-loop
+shared-slice-read-may-be-replaced c = search needs
 
-suspect-requires : tie.Need-suspect-requires Inv-loop μ-loop
-suspect-requires c κs = search needs
+may-be-replaced-requires : tie.Need-may-be-replaced-requires Inv-loop μ-loop
+may-be-replaced-requires c κs = search needs
 
 add-i : tie.Need-add-i Inv-loop μ-loop
 add-i c = search needs
@@ -39,7 +39,7 @@ loop-again : tie.Need-loop-again Inv-loop μ-loop
 loop-again c =
     let l = c .before .before .before .loop in
     let s : List ℕ = c .before .before .before .before .before .args .s .now in
-    let x = c .suspect in
+    let x = c .may-be-replaced in
     let a = byte-at s (l .i) (c .before .before .loop-test .taken) in (
       omega arith,
       λ e h. l .inv .1 (omega (arith, or-left (l .n) (x .result)))
@@ -53,5 +53,5 @@ returns c =
     let e : drop (l .i) s ≡ [] = drop-of-length-le s {i = l .i} (omega arith) in
     λ z. l .inv .1 z (rw e converted-nothing)
 
-pub any-suspect-spec : {M : Type 1} → statement M
-any-suspect-spec = tie.close (tie.spec Inv-loop μ-loop loop-holds shared-slice-read-suspect suspect-requires add-i loop-less loop-again returns)
+pub any-replaced-spec : {M : Type 1} → statement M
+any-replaced-spec = tie.close (tie.spec Inv-loop μ-loop loop-holds shared-slice-read-may-be-replaced may-be-replaced-requires add-i loop-less loop-again returns)

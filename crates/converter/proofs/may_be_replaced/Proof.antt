@@ -1,8 +1,8 @@
--- `converter::suspect` meets its contract. Assumes nothing.
+-- `converter::may_be_replaced` meets its contract. Assumes nothing.
 use native.Mathlib.Omega.{arith}
 use Rattle.converter.proofs.Bytes.{high-kept, middle-kept}
-use Rattle.converter.proofs.suspect.Statement.{statement}
-use Rattle.converter.proofs.suspect.Tie as tie
+use Rattle.converter.proofs.may_be_replaced.Statement.{statement}
+use Rattle.converter.proofs.may_be_replaced.Tie as tie
 
 returns : tie.Need-returns
 returns c = λ e. absurd (omega arith)
@@ -16,5 +16,5 @@ returns-3 c = λ e. absurd (omega arith)
 returns-4 : tie.Need-returns-4
 returns-4 c = λ e. high-kept (c .before .before .before .args .b) (c .if3 .left)
 
-pub suspect-spec : {M : Type 1} → statement M
-suspect-spec = tie.close (tie.spec returns returns-2 returns-3 returns-4)
+pub may-be-replaced-spec : {M : Type 1} → statement M
+may-be-replaced-spec = tie.close (tie.spec returns returns-2 returns-3 returns-4)
