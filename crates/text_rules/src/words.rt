@@ -283,6 +283,24 @@ fn dollar_kind(w: &[u8], identifier: bool) -> Kind
     Kind::Refused
 }
 
+// A keyword. Most words start otherwise, and are told without a call.
+fn is_keyword(w: &[u8]) -> bool
+    requires { ⌜ 0 < length (now w) ⌝ }
+    ensures { λ r. ⌜ r ≡ isKeyword (now (w .entry)) ⌝ }
+{
+    let b = w[0];
+    if b == b't' {
+        return token_is_keyword(w);
+    }
+    if b == b'f' {
+        return token_is_keyword(w);
+    }
+    if b == b'n' {
+        return token_is_keyword(w);
+    }
+    false
+}
+
 // What a word is of which it is known whether it is an identifier.
 fn known_kind(w: &[u8], identifier: bool) -> Kind
     requires { ⌜ (0 < length (now w)) × (identifier ≡ isIdentifier (now w)) ⌝ }
@@ -291,7 +309,7 @@ fn known_kind(w: &[u8], identifier: bool) -> Kind
     if w[0] == b'$' {
         return dollar_kind(w, identifier);
     }
-    if token_is_keyword(w) {
+    if is_keyword(w) {
         return keyword_kind(w);
     }
     if identifier {

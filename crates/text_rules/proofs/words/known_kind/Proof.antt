@@ -15,20 +15,20 @@ dollar-kind-requires c κs = (starts-at (c .before .before .before .args .w .now
 returns : tie.Need-returns
 returns c = search needs
 
-token-is-keyword-requires : tie.Need-token-is-keyword-requires
-token-is-keyword-requires c κs = search needs
+is-keyword-requires : tie.Need-is-keyword-requires
+is-keyword-requires c κs = search needs
 
 keyword-kind-requires : tie.Need-keyword-kind-requires
-keyword-kind-requires c κs = sym (c .before .token-is-keyword .ensures) ∙ c .if2 .taken
+keyword-kind-requires c κs = sym (c .before .is-keyword .ensures) ∙ c .if2 .taken
 
 returns-2 : tie.Need-returns-2
 returns-2 c = search needs
 
 returns-3 : tie.Need-returns-3
-returns-3 c = sym (kind-plain (c .before .before .before .before .before .before .args .w .now) (c .before .before .before .before .before .before .pre .0) (c .before .before .before .if1 .left) (sym (c .before .before .token-is-keyword .ensures) ∙ c .before .if2 .left) true (sym (c .before .before .before .before .before .before .pre .1) ∙ c .if3 .taken))
+returns-3 c = sym (kind-plain (c .before .before .before .before .before .before .args .w .now) (c .before .before .before .before .before .before .pre .0) (c .before .before .before .if1 .left) (sym (c .before .before .is-keyword .ensures) ∙ c .before .if2 .left) true (sym (c .before .before .before .before .before .before .pre .1) ∙ c .if3 .taken))
 
 returns-4 : tie.Need-returns-4
-returns-4 c = sym (kind-plain (c .before .before .before .before .before .before .args .w .now) (c .before .before .before .before .before .before .pre .0) (c .before .before .before .if1 .left) (sym (c .before .before .token-is-keyword .ensures) ∙ c .before .if2 .left) false (sym (c .before .before .before .before .before .before .pre .1) ∙ c .if3 .left))
+returns-4 c = sym (kind-plain (c .before .before .before .before .before .before .args .w .now) (c .before .before .before .before .before .before .pre .0) (c .before .before .before .if1 .left) (sym (c .before .before .is-keyword .ensures) ∙ c .before .if2 .left) false (sym (c .before .before .before .before .before .before .pre .1) ∙ c .if3 .left))
 
 pub known-kind-spec : {M : Type 1} → statement M
 known-kind-spec =
@@ -37,7 +37,7 @@ known-kind-spec =
     shared-slice-read-if1
     dollar-kind-requires
     returns
-    token-is-keyword-requires
+    is-keyword-requires
     keyword-kind-requires
     returns-2
     returns-3
