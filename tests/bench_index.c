@@ -68,15 +68,16 @@ static size_t size_of(const uint8_t *p) {
     }
 }
 
-/* The offset of the value of the first field with a name, or -1. */
+/* The offset of the value of the latest field with a name, or -1: a tape is walked forward alone, so that every field is looked at. */
 static int64_t linear(const uint8_t *name, size_t k) {
     const uint8_t *tape = tapes[0].bytes, *p = tape + 5, *end = p + u32_at(tape + 1);
+    int64_t latest = -1;
     while (p < end) {
         const uint8_t *value = p + size_of(p);
-        if (*p == 6 && u32_at(p + 1) == k && !memcmp(p + 5, name, k)) return value - tape;
+        if (*p == 6 && u32_at(p + 1) == k && !memcmp(p + 5, name, k)) latest = value - tape;
         p = value + size_of(value);
     }
-    return -1;
+    return latest;
 }
 
 static int64_t found(const uint8_t *name, size_t k) {

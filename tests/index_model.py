@@ -51,8 +51,8 @@ def name(tape, at):
 
 
 def tie(entry):
-    """The tie: equal names stand earliest first."""
-    return entry[0]
+    """The tie: equal names stand latest first."""
+    return -entry[0]
 
 
 class Tape:

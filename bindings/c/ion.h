@@ -164,8 +164,8 @@ typedef struct ion_entry {
      the count            the number of fields
    Annotated values may stand anywhere: never ION_UNSUITED.
 
-   Identifiers come first, by number; then texts by their bytes, a proper beginning first. An identifier equals no text. Equal names stand earliest
-   first.
+   Identifiers come first, by number; then texts by their bytes, a proper beginning first. An identifier equals no text. Equal names stand latest
+   first: of two fields with one name the one that stands later in the struct comes first.
 
    `entries` behind the count: the index, then the entries that were there. Behind a refusal: untouched. A field takes 7 bytes of the tape or more,
    so that tape_length / 7 entries are always enough, and 149,794 for every tape.
@@ -176,8 +176,8 @@ int64_t ion_index(const uint8_t *tape, size_t tape_length, uint64_t at, ion_entr
 /* Finds a field by its name: by a text, `name_length` bytes of UTF-8, or by an identifier. `entries` is an index, as many entries as ion_index
    counted, and the tape is the one that it was made of.
 
-   Answers the place in `entries`, from 0, of the first entry with the name; or ION_NONE, exactly if no field has it. Bytes that are not UTF-8 are no
-   field's name.
+   Answers the place in `entries`, from 0, of the first entry with the name, which is that of the latest field with it; or ION_NONE, exactly if no
+   field has it. Bytes that are not UTF-8 are no field's name.
 
    Over any other entries or tape it answers ION_NONE or some place below entries_length; which one is not said. Offsets past the tape are not
    followed. */

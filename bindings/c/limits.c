@@ -146,7 +146,7 @@ static void check_index(const char *what, int64_t answer, int64_t due, const ion
 
 enum { INNER = 27, FIELDS = 5 };
 
-static const ion_entry pass_index[FIELDS] = {{32, 37}, {39, 46}, {13, 19}, {52, 58}, {5, 11}};
+static const ion_entry pass_index[FIELDS] = {{32, 37}, {39, 46}, {52, 58}, {13, 19}, {5, 11}};
 
 static void index_calls(void) {
     check_index("index: room to spare", ion_index(BYTES(PASS), 0, entries, ENTRIES), FIELDS, pass_index);
@@ -184,8 +184,8 @@ static void lookups(void) {
     const ion_entry *index = pass_index;
     check_find("find: an identifier", ion_find_id(BYTES(PASS), index, FIELDS, 7), 0);
     check_find("find: a text like it", ion_find(BYTES(PASS), index, FIELDS, BYTES("$7")), 1);
-    check_find("find: the first of two", ion_find(BYTES(PASS), index, FIELDS, BYTES("a")), 2);
-    check_find("find: the first of two, the second in the middle", ion_find(BYTES(PASS), index + 1, FIELDS - 1, BYTES("a")), 1);
+    check_find("find: the latest of two", ion_find(BYTES(PASS), index, FIELDS, BYTES("a")), 2);
+    check_find("find: the latest of two, the earlier in the middle", ion_find(BYTES(PASS), index + 1, FIELDS - 1, BYTES("a")), 1);
     check_find("find: the last", ion_find(BYTES(PASS), index, FIELDS, BYTES("b")), 4);
     check_find("find: before all texts", ion_find(BYTES(PASS), index, FIELDS, BYTES("!")), ION_NONE);
     check_find("find: between two", ion_find(BYTES(PASS), index, FIELDS, BYTES("aa")), ION_NONE);

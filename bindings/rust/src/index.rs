@@ -16,8 +16,8 @@ pub struct Entry {
 /// Makes the index of a struct in lent entries, an entry for each of its fields, sorted by name, and answers the number of fields. `at` is the offset
 /// of the struct's kind byte, the 12, at whatever depth it stands; behind annotations too it is that of the 12.
 ///
-/// Identifiers come first, by number; then texts by their bytes, a proper beginning first. An identifier equals no text. Equal names stand earliest
-/// first.
+/// Identifiers come first, by number; then texts by their bytes, a proper beginning first. An identifier equals no text. Equal names stand latest
+/// first: of two fields with one name the one that stands later in the struct comes first.
 ///
 /// On success the entries behind the index keep their values. Refusals, the first that holds: those of the tape, [`Misfit`](Refusal::Misfit) to
 /// [`FiniteFloat`](Refusal::FiniteFloat), as by [`write()`](crate::write()); [`NoStruct`](Refusal::NoStruct);
@@ -46,7 +46,8 @@ fn place(answer: i64) -> Option<usize> {
     usize::try_from(answer).ok()
 }
 
-/// The place in an index of the first entry whose name is this text, or `None`, exactly if no field has the name.
+/// The place in an index of the first entry whose name is this text, which is that of the latest field with it, or `None`, exactly if no field has
+/// the name.
 ///
 /// The entries are the index that [`index_into`] made of the same tape, as many as it answered. Over any other entries or tape the answer is `None` or
 /// some place in the slice. A name that is not UTF-8 is no field's.
@@ -118,6 +119,21 @@ impl From<Entry> for Field {
 /// assert_eq!(Index::new(&tape, name).err(), Some(Refusal::NoStruct));
 /// # Ok::<(), Refusal>(())
 /// ```
+///
+/// A record is corrected by adding the field again at its end: of fields with one name [`get`](Index::get) and [`get_id`](Index::get_id) give the
+/// latest. The tape and its texts keep them all.
+///
+/// ```
+/// # use lechuqta::{to_tape, to_tree_text, Index};
+/// let tape = to_tape(b"{norad: 25544, peak: 61.25, peak: 62.50}")?;
+/// let pass = Index::new(&tape, 0)?;
+/// let peak = pass.get("peak").expect("a pass has a peak").value;
+///
+/// // A decimal is its kind byte, its sign, u64 digits and its exponent: here 6250 and -2.
+/// assert_eq!(tape[peak..peak + 14], *b"\x04\0\x6A\x18\0\0\0\0\0\0\xFE\xFF\xFF\xFF");
+/// assert_eq!(to_tree_text(&tape)?, b"{norad: 25544, peak: 61.25, peak: 62.50}");
+/// # Ok::<(), lechuqta::Refusal>(())
+/// ```
 #[derive(Clone, Debug, PartialEq, Eq, Hash)]
 pub struct Index<'a> {
     tape: &'a [u8],
@@ -140,12 +156,12 @@ impl<'a> Index<'a> {
         Ok(Index { tape, entries })
     }
 
-    /// The first field whose name is this text, or `None`, exactly if there is none.
+    /// The latest field whose name is this text, or `None`, exactly if there is none.
     pub fn get(&self, name: impl AsRef<[u8]>) -> Option<Field> {
         find(self.tape, &self.entries, name).map(|place| self.entries[place].into())
     }
 
-    /// The first field whose name is this symbol identifier, or `None`, exactly if there is none.
+    /// The latest field whose name is this symbol identifier, or `None`, exactly if there is none.
     pub fn get_id(&self, id: u32) -> Option<Field> {
         find_id(self.tape, &self.entries, id).map(|place| self.entries[place].into())
     }
@@ -160,7 +176,7 @@ impl<'a> Index<'a> {
         self.entries.is_empty()
     }
 
-    /// The fields, sorted by name.
+    /// The fields, sorted by name, of equal names the latest first.
     ///
     /// ```
     /// # use lechuqta::{to_tape, Index};

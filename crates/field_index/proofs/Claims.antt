@@ -1,5 +1,5 @@
 -- What an index is: sorted, with each field once and no others, and the only such list; and names are equal where comparing finds no difference.
--- That a lookup over it gives the first field with the name is `lookup-over-index` (LookLaws). Assumes nothing.
+-- That a lookup over it gives the latest field with the name is `lookup-over-index` (LookLaws). Assumes nothing.
 use Prim.Native.Nat.{ℕ, zero, suc, _+_, _<_, _≤_}
 use mathlib.Core.Path.{_≡_, refl, ap, _∙_}
 use mathlib.Core.List.{List, [], _∷_, _++_}

@@ -1,4 +1,4 @@
--- A lookup over an index gives the first field with the name, and none exactly if no field has it. Assumes nothing.
+-- A lookup over an index gives the latest field with the name, and none exactly if no field has it. Assumes nothing.
 use Prim.Native.Nat.{ℕ, zero, suc, _+_, _<_, _≤_}
 use mathlib.Core.Path.{_≡_, refl, sym, ap, subst, _∙_}
 use mathlib.Core.List.{List, [], _∷_, _++_}
@@ -27,10 +27,10 @@ use Rattle.field_index.specs.declared.Looked.the-variants as L
 use Rattle.field_index.specs.declared.names.Way.{Way}
 use Rattle.field_index.specs.declared.names.Way.the-variants.{Less, Equal, Greater}
 use Rattle.field_index.specs.Names.{noEntry, thenBy, isLess, isEqual, comparedNumbers, comparedNames, nameAt, comparedPlaces, before}
-use Rattle.field_index.specs.Sorted.{many, Same, First, Sorted, sorted}
+use Rattle.field_index.specs.Sorted.{many, Same, filter, reversed, First, Sorted, sorted}
 use Rattle.field_index.specs.Structs.{structAt, fieldsFrom}
 use Rattle.field_index.specs.Index.{indexed, refusal, fieldsAt, indexAt, answered, left, IndexOf}
-use Rattle.field_index.specs.Lookup.{sought, named, further, firstWith, Within, Finds, isNamed, firstField, lookedBy, placeIn, foundAs}
+use Rattle.field_index.specs.Lookup.{sought, named, further, firstWith, Within, Finds, isNamed, latestField, lookedBy, placeIn, foundAs}
 use Rattle.field_index.specs.IndexSteps.{childrenIn, Body, countOf, lookedAs}
 use Rattle.field_index.proofs.OrderLaws.{turned, names, greater-is, before-order}
 use Rattle.field_index.proofs.SortedLaws.{same-length, sorted-sorted, sorted-same, only-one}
@@ -40,10 +40,6 @@ use Rattle.field_index.proofs.IndexLaws.{no-refusal, fields-few, fields
 use Rattle.field_index.proofs.Located.{held, name-read}
 
 -- ---- the elements that pass a test, in their order
-
-unfoldable pub filter : {A : Type 0} → (A → Bool) → List A → List A
-filter q [] = []
-filter q (x ∷ l) = if (q x) (x ∷ filter q l) (filter q l)
 
 module _ {A : Type 0} (q : A → Bool) where
   many-filter : (p : A → Bool) (l : List A) → many p (filter q l) ≡ many (λ x. if (q x) (p x) false) l
@@ -76,6 +72,38 @@ module _ {A : Type 0} (q : A → Bool) where
         go : (c : Bool) → Sorted b (filter q l) → Sorted b (if c (x ∷ filter q l) (filter q l))
         go true r = (filter-first x l (s .0), r)
         go false r = r
+
+-- ---- a list from its end
+
+module _ {A : Type 0} where
+  many-last : (p : A → Bool) (l : List A) (x : A) → many p (l ++ x ∷ []) ≡ many p (x ∷ l)
+  many-last p [] x = refl
+  many-last p (y ∷ l) x = let e = many-last p l x in omega arith
+
+  reversed-same : (l : List A) → Same (reversed l) l
+  unfolding reversed
+  reversed-same [] p = refl
+  reversed-same (x ∷ l) p = many-last p (reversed l) x ∙ ap (λ (n : ℕ). if (p x) 1 0 + n) (reversed-same l p)
+
+  module _ (b : A → A → Bool) where
+    first-last : (x : A) (l : List A) (y : A) → First b x l → b y x ≡ false → First b x (l ++ y ∷ [])
+    first-last x [] y f e = (e, tt)
+    first-last x (z ∷ l) y f e = (f .0, first-last x l y (f .1) e)
+
+    sorted-last : (l : List A) (x : A) → Sorted b l → First (λ u v. b v u) x l → Sorted b (l ++ x ∷ [])
+    sorted-last [] x s f = (tt, tt)
+    sorted-last (y ∷ l) x s f = (first-last y l x (s .0) (f .0), sorted-last l x (s .1) (f .1))
+
+    first-reversed : (x : A) (l : List A) → First b x l → First b x (reversed l)
+    unfolding reversed
+    first-reversed x [] f = tt
+    first-reversed x (y ∷ l) f = first-last x (reversed l) y (first-reversed x l (f .1)) (f .0)
+
+  -- in order from its end
+  reversed-sorted : (b : A → A → Bool) (l : List A) → Sorted (λ x y. b y x) l → Sorted b (reversed l)
+  unfolding reversed
+  reversed-sorted b [] s = tt
+  reversed-sorted b (x ∷ l) s = sorted-last b (reversed l) x (reversed-sorted b l (s .1)) (first-reversed (λ u v. b v u) x l (s .0))
 
 abbrev headAs : List Entry → Looked
 headAs [] = L.Nothing
@@ -113,26 +141,30 @@ encoded-some marker = omega arith
 pub child-some : (h : Head) (n : Node) → 0 < length (encodeHead h ++ encode n)
 child-some h n = let a = length-append (encodeHead h) (encode n) in let s = encoded-some n in omega arith
 
--- ---- fields with one name stand in the index as they stand in the struct
+-- ---- fields with one name stand in the index from the struct's end
 
 pub equal-of : (w : Way) → isEqual w ≡ true → w ≡ Equal
 equal-of Less e = never (sym e)
 equal-of Equal e = refl
 equal-of Greater e = never (sym e)
 
+-- y comes before x
+abbrev comesLater : List ℕ → Entry → Entry → Bool
+comesLater t x y = before t y x
+
 module _ (t : List ℕ) (name : Sym) where
-  -- of two of them the one with the smaller offset comes first
-  not-before : (x y : Entry) → x .name < y .name → named t name x ≡ true → named t name y ≡ true → before t y x ≡ false
+  -- of two of them the one with the smaller offset comes last
+  not-before : (x y : Entry) → x .name < y .name → named t name x ≡ true → named t name y ≡ true → before t x y ≡ false
   unfolding before sought
   not-before x y h p q = ap (λ (w : Way). isLess (thenBy w (comparedPlaces y x))) same ∙ ap (λ (w : Way). isLess (thenBy w (comparedNumbers (y .value) (x .value)))) (greater-is (y .name) (x .name) h)
     where
-      same : comparedNames (nameAt t (y .name)) (nameAt t (x .name)) ≡ Equal
-      same = names .alike (nameAt t (y .name)) name (nameAt t (x .name)) (equal-of (sought t name y) q) ∙ names .flips (nameAt t (x .name)) name ∙ ap turned (equal-of (sought t name x) p)
+      same : comparedNames (nameAt t (x .name)) (nameAt t (y .name)) ≡ Equal
+      same = names .alike (nameAt t (x .name)) name (nameAt t (y .name)) (equal-of (sought t name x) p) ∙ names .flips (nameAt t (y .name)) name ∙ ap turned (equal-of (sought t name y) q)
 
   abbrev has : Entry → Bool
   has e = named t name e
 
-  later-first : (x : Entry) (p : ℕ) (ns : Nodes) → x .name < p → has x ≡ true → First (before t) x (filter has (fieldsFrom p ns))
+  later-first : (x : Entry) (p : ℕ) (ns : Nodes) → x .name < p → has x ≡ true → First (comesLater t) x (filter has (fieldsFrom p ns))
   unfolding filter fieldsFrom
   later-first x p nil h e = tt
   later-first x p (more g n ns) h e = go (has y) refl (later-first x (p + length (encodeHead g ++ encode n)) ns (omega arith) e)
@@ -140,11 +172,11 @@ module _ (t : List ℕ) (name : Sym) where
       y : Entry
       y = record { name = p; value = p + length (encodeName (g .0)) }
 
-      go : (c : Bool) → has y ≡ c → First (before t) x (filter has (fieldsFrom (p + length (encodeHead g ++ encode n)) ns)) → First (before t) x (if c (y ∷ filter has (fieldsFrom (p + length (encodeHead g ++ encode n)) ns)) (filter has (fieldsFrom (p + length (encodeHead g ++ encode n)) ns)))
+      go : (c : Bool) → has y ≡ c → First (comesLater t) x (filter has (fieldsFrom (p + length (encodeHead g ++ encode n)) ns)) → First (comesLater t) x (if c (y ∷ filter has (fieldsFrom (p + length (encodeHead g ++ encode n)) ns)) (filter has (fieldsFrom (p + length (encodeHead g ++ encode n)) ns)))
       go true q r = (not-before x y h e q, r)
       go false q r = r
 
-  in-order : (p : ℕ) (ns : Nodes) → Sorted (before t) (filter has (fieldsFrom p ns))
+  in-order : (p : ℕ) (ns : Nodes) → Sorted (comesLater t) (filter has (fieldsFrom p ns))
   unfolding filter fieldsFrom
   in-order p nil = tt
   in-order p (more g n ns) = go (has y) refl (in-order (p + length (encodeHead g ++ encode n)) ns)
@@ -152,18 +184,34 @@ module _ (t : List ℕ) (name : Sym) where
       y : Entry
       y = record { name = p; value = p + length (encodeName (g .0)) }
 
-      go : (c : Bool) → has y ≡ c → Sorted (before t) (filter has (fieldsFrom (p + length (encodeHead g ++ encode n)) ns)) → Sorted (before t) (if c (y ∷ filter has (fieldsFrom (p + length (encodeHead g ++ encode n)) ns)) (filter has (fieldsFrom (p + length (encodeHead g ++ encode n)) ns)))
+      go : (c : Bool) → has y ≡ c → Sorted (comesLater t) (filter has (fieldsFrom (p + length (encodeHead g ++ encode n)) ns)) → Sorted (comesLater t) (if c (y ∷ filter has (fieldsFrom (p + length (encodeHead g ++ encode n)) ns)) (filter has (fieldsFrom (p + length (encodeHead g ++ encode n)) ns)))
       go true q r = (later-first y (p + length (encodeHead g ++ encode n)) ns (let l = child-some g n in omega arith) q, r)
       go false q r = r
 
-  pub same-order : (p : ℕ) (ns : Nodes) → filter has (sorted (before t) (fieldsFrom p ns)) ≡ filter has (fieldsFrom p ns)
-  same-order p ns =
-      only-one (before t) (before-order t) (filter has (sorted (before t) (fieldsFrom p ns))) (filter has (fieldsFrom p ns))
+  pub other-order : (p : ℕ) (ns : Nodes) → filter has (sorted (before t) (fieldsFrom p ns)) ≡ reversed (filter has (fieldsFrom p ns))
+  other-order p ns =
+      only-one (before t) (before-order t) (filter has (sorted (before t) (fieldsFrom p ns))) (reversed (filter has (fieldsFrom p ns)))
       (filter-sorted has (before t) (sorted (before t) (fieldsFrom p ns)) (sorted-sorted (before t) (before-order t) (fieldsFrom p ns)))
-      (in-order p ns)
-      (filter-same has (sorted (before t) (fieldsFrom p ns)) (fieldsFrom p ns) (sorted-same (before t) (fieldsFrom p ns)))
+      (reversed-sorted (before t) (filter has (fieldsFrom p ns)) (in-order p ns))
+      (λ q. filter-same has (sorted (before t) (fieldsFrom p ns)) (fieldsFrom p ns) (sorted-same (before t) (fieldsFrom p ns)) q ∙ sym (reversed-same (filter has (fieldsFrom p ns)) q))
 
-  -- ---- the first field with the name
+  -- ---- the latest field with the name
+
+  -- the last of a list with x in front, where x passes: the list's last, else x
+  last-of : (x : Entry) (l : List Entry) (o : Option Entry) (c : Bool) → headAs (reversed l) ≡ lookedBy 0 o → headAs (reversed (if c (x ∷ l) l)) ≡ lookedBy 0 (on o some (if c (some x) none))
+  unfolding reversed
+  last-of x l o false e = e ∙ kept o
+    where
+      kept : (o : Option Entry) → lookedBy 0 o ≡ lookedBy 0 (on o some none)
+      kept none = refl
+      kept (some y) = refl
+  last-of x l o true e = go (reversed l) o e
+    where
+      go : (m : List Entry) (o : Option Entry) → headAs m ≡ lookedBy 0 o → headAs (m ++ x ∷ []) ≡ lookedBy 0 (on o some (some x))
+      go [] none e = refl
+      go [] (some y) e = let z : _≡_ {A = ℕ} 0 1 = cc in absurd (omega arith)
+      go (y ∷ m) none e = let z : _≡_ {A = ℕ} 0 1 = cc in absurd (omega arith)
+      go (y ∷ m) (some z) e = e
 
   size-none : (ns : Nodes) → size ns ≡ 0 → ns ≡ nil
   unfolding size
@@ -190,32 +238,30 @@ module _ (t : List ℕ) (name : Sym) where
         let i = its-name t p e (b .bytes) h (b .inside) (b .fine) in
         ap (isNamed name) (i .name) ∙ ap (λ (s : Sym). isEqual (comparedNames s name)) (sym (name-read t p e (i .it) (i .count) (i .read)))
 
-    first-turn : firstField name p (childrenIn t p e) ≡ if (has x) (some x) (firstField name (nextAt t p e b h) rest)
-    unfolding firstField
-    first-turn =
-        ap (firstField name p) (its-turn t p e b h .nodes)
-        ∙ ap (λ (c : Bool). if c (some (record { name = p; value = p + length (encodeName (head .0)) })) (firstField name (p + length (encodeHead head ++ encode its-node)) rest)) named-alike
-        ∙ ap (λ (m : ℕ). if (has x) (some (record { name = p; value = p + m })) (firstField name (p + length (encodeHead head ++ encode its-node)) rest)) (name-long t p e (b .bytes) h (b .inside) (b .fine))
-        ∙ ap (λ (m : ℕ). if (has x) (some x) (firstField name m rest)) (next-is Struct t p e (b .bytes) h (b .inside) (b .fine))
+    latest-turn : latestField name p (childrenIn t p e) ≡ on (latestField name (nextAt t p e b h) rest) some (if (has x) (some x) none)
+    unfolding latestField
+    latest-turn =
+        ap (latestField name p) (its-turn t p e b h .nodes)
+        ∙ ap (λ (c : Bool). on (latestField name (p + length (encodeHead head ++ encode its-node)) rest) some (if c (some (record { name = p; value = p + length (encodeName (head .0)) })) none)) named-alike
+        ∙ ap (λ (m : ℕ). on (latestField name (p + length (encodeHead head ++ encode its-node)) rest) some (if (has x) (some (record { name = p; value = p + m })) none)) (name-long t p e (b .bytes) h (b .inside) (b .fine))
+        ∙ ap (λ (m : ℕ). on (latestField name m rest) some (if (has x) (some x) none)) (next-is Struct t p e (b .bytes) h (b .inside) (b .fine))
 
-    behind : headAs (filter has (fieldsFrom (nextAt t p e b h) rest)) ≡ lookedBy 0 (firstField name (nextAt t p e b h) rest)
-        → headAs (filter has (fieldsFrom p (childrenIn t p e))) ≡ lookedBy 0 (firstField name p (childrenIn t p e))
+    behind : headAs (reversed (filter has (fieldsFrom (nextAt t p e b h) rest))) ≡ lookedBy 0 (latestField name (nextAt t p e b h) rest)
+        → headAs (reversed (filter has (fieldsFrom p (childrenIn t p e)))) ≡ lookedBy 0 (latestField name p (childrenIn t p e))
     unfolding filter
-    behind i = ap (λ (l : List Entry). headAs (filter has l)) (fields-turn t p e (b .bytes) h (b .inside) (b .fine)) ∙ go (has x) i ∙ ap (lookedBy 0) (sym first-turn)
-      where
-        go : (c : Bool) → headAs (filter has (fieldsFrom (nextAt t p e b h) rest)) ≡ lookedBy 0 (firstField name (nextAt t p e b h) rest)
-            → headAs (if c (x ∷ filter has (fieldsFrom (nextAt t p e b h) rest)) (filter has (fieldsFrom (nextAt t p e b h) rest))) ≡ lookedBy 0 (if c (some x) (firstField name (nextAt t p e b h) rest))
-        go true i = refl
-        go false i = i
+    behind i =
+        ap (λ (l : List Entry). headAs (reversed (filter has l))) (fields-turn t p e (b .bytes) h (b .inside) (b .fine))
+        ∙ last-of x (filter has (fieldsFrom (nextAt t p e b h) rest)) (latestField name (nextAt t p e b h) rest) (has x) i
+        ∙ ap (lookedBy 0) (sym latest-turn)
 
   -- by the names on the tape and by those of the nodes alike
-  field-first : (n p e : ℕ) → Body t p e → size (childrenIn t p e) ≡ n → headAs (filter has (fieldsFrom p (childrenIn t p e))) ≡ lookedBy 0 (firstField name p (childrenIn t p e))
-  unfolding filter fieldsFrom firstField size
-  field-first zero p e b z = rw (size-none (childrenIn t p e) z) refl
-  field-first (suc n) p e b z =
+  field-latest : (n p e : ℕ) → Body t p e → size (childrenIn t p e) ≡ n → headAs (reversed (filter has (fieldsFrom p (childrenIn t p e)))) ≡ lookedBy 0 (latestField name p (childrenIn t p e))
+  unfolding filter reversed fieldsFrom latestField size
+  field-latest zero p e b z = rw (size-none (childrenIn t p e) z) refl
+  field-latest (suc n) p e b z =
       let h = some-left t p e b (omega arith) in
       let o = one-less t p e b h in
-      behind p e b h (field-first n (nextAt t p e b h) e (body-next t p e b h) (omega arith))
+      behind p e b h (field-latest n (nextAt t p e b h) e (body-next t p e b h) (omega arith))
 
 -- ---- a whole lookup
 
@@ -224,19 +270,23 @@ module _ (t : List ℕ) (at : ℕ) (ns : Nodes) (b : Bytes t) (v : verdict t ≡
   unfolding indexAt
   index-is = ap (sorted (before t)) (fields-of t at 0 ns s)
 
-  by-nodes : headAs (filter (named t name) (fieldsFrom (at + 5) ns)) ≡ lookedBy 0 (firstField name (at + 5) ns)
+  by-nodes : headAs (reversed (filter (named t name) (fieldsFrom (at + 5) ns))) ≡ lookedBy 0 (latestField name (at + 5) ns)
   by-nodes =
       let k = held t at ns b v s in
-      subst (λ (m : Nodes). headAs (filter (named t name) (fieldsFrom (at + 5) m)) ≡ lookedBy 0 (firstField name (at + 5) m)) (k .is) (field-first t name (size (childrenIn t (at + 5) (k .stop))) (at + 5) (k .stop) (k .body) refl)
+      subst (λ (m : Nodes). headAs (reversed (filter (named t name) (fieldsFrom (at + 5) m))) ≡ lookedBy 0 (latestField name (at + 5) m)) (k .is) (field-latest t name (size (childrenIn t (at + 5) (k .stop))) (at + 5) (k .stop) (k .body) refl)
 
-  -- LOOKUP OVER THE INDEX of a struct: the first field with the name, in tape order, or none exactly if no field has it
-  pub lookup-over-index : (r : Found) → Finds t name (indexAt t at) r → foundAs r (getD (indexAt t at) (placeIn r) noEntry) ≡ lookedBy 0 (firstField name (at + 5) ns)
+  -- the entries of an index that have the name: its fields with the name, the latest first
+  pub latest-first : filter (named t name) (indexAt t at) ≡ reversed (filter (named t name) (fieldsFrom (at + 5) ns))
+  latest-first = ap (filter (named t name)) index-is ∙ other-order t name (at + 5) ns
+
+  -- LOOKUP OVER THE INDEX of a struct: the latest field with the name, in tape order, or none exactly if no field has it
+  pub lookup-over-index : (r : Found) → Finds t name (indexAt t at) r → foundAs r (getD (indexAt t at) (placeIn r) noEntry) ≡ lookedBy 0 (latestField name (at + 5) ns)
   lookup-over-index r f =
       let l : List Entry = sorted (before t) (fieldsFrom (at + 5) ns) in
       let first : r ≡ firstWith (named t name) l = subst (λ (m : List Entry). Sorted (before t) m → r ≡ firstWith (named t name) m) index-is (f .first) (sorted-sorted (before t) (before-order t) (fieldsFrom (at + 5) ns)) in
       ap (λ (m : List Entry). foundAs r (getD m (placeIn r) noEntry)) index-is
       ∙ ap (λ (k : Found). foundAs k (getD l (placeIn k) noEntry)) first
-      ∙ first-filter (named t name) l ∙ ap headAs (same-order t name (at + 5) ns) ∙ by-nodes
+      ∙ first-filter (named t name) l ∙ ap headAs (other-order t name (at + 5) ns) ∙ by-nodes
 
 -- ---- an index, and a lookup in its entries, as running code does it
 
@@ -284,19 +334,19 @@ module _ (t : List ℕ) (at : ℕ) (name : Sym) (l l′ : List Entry) (b : Bytes
   entry-is Nothing w = refl
   entry-is (At k) w = ap (λ (m : List Entry). L.Field (getD m k noEntry)) laid ∙ ap L.Field (List·getD-append (indexAt t at) (drop (length (fieldsAt t at)) l) noEntry k w)
 
-  found-told : (f : Found) → Finds t name (take (length (fieldsAt t at)) l′) f → foundAs f (getD l′ (placeIn f) noEntry) ≡ lookedBy 0 (on (structAt t at) (firstField name (at + 5)) none)
+  found-told : (f : Found) → Finds t name (take (length (fieldsAt t at)) l′) f → foundAs f (getD l′ (placeIn f) noEntry) ≡ lookedBy 0 (on (structAt t at) (latestField name (at + 5)) none)
   found-told f g =
       let h = subst (λ (m : List Entry). Finds t name m f) part-is g in
       let s = no-refusal t at (length l) z in
-      entry-is f (h .within) ∙ lookup-over-index t at (s .nodes) b (s .tape) (s .struct) name f h ∙ ap (λ (o : Option Nodes). lookedBy 0 (on o (firstField name (at + 5)) none)) (sym (s .struct))
+      entry-is f (h .within) ∙ lookup-over-index t at (s .nodes) b (s .tape) (s .struct) name f h ∙ ap (λ (o : Option Nodes). lookedBy 0 (on o (latestField name (at + 5)) none)) (sym (s .struct))
 
--- INDEX AND LOOKUP: of any entries, indexed, the part that the index fills is handed to a lookup: the index's refusal, or the first field with the name, in tape order, or none exactly if no field has it
+-- INDEX AND LOOKUP: of any entries, indexed, the part that the index fills is handed to a lookup: the index's refusal, or the latest field with the name, in tape order, or none exactly if no field has it
 pub look-told : (t : List ℕ) (at : ℕ) (name : Sym) (l l′ : List Entry) (i : Indexed) (f : Found) → Bytes t → IndexOf t at l l′ i → Finds t name (take (countOf i) l′) f
-    → lookedAs i f (getD l′ (placeIn f) noEntry) ≡ lookedBy (refusal t at (length l)) (on (structAt t at) (firstField name (at + 5)) none)
+    → lookedAs i f (getD l′ (placeIn f) noEntry) ≡ lookedBy (refusal t at (length l)) (on (structAt t at) (latestField name (at + 5)) none)
 look-told t at name l l′ i f b x g = go i (x .answer) g
   where
     o : Option Entry
-    o = on (structAt t at) (firstField name (at + 5)) none
+    o = on (structAt t at) (latestField name (at + 5)) none
 
     -- a refusal's number is the answer's
     refuses : (r n : ℕ) → refused n ≡ answered r (length (fieldsAt t at)) → L.Refused n ≡ lookedBy r o

@@ -13,7 +13,7 @@ use Rattle.text_rules.specs.Text.{Sym}
 use Rattle.field_index.specs.declared.Entry.{Entry}
 use Rattle.field_index.specs.declared.names.Way.{Way}
 use Rattle.field_index.specs.declared.names.Way.the-variants.{Less, Equal, Greater}
-use Rattle.field_index.specs.Names.{thenBy, isLess, comparedNumbers, comparedTexts, comparedNames, nameAt, comparedPlaces, before}
+use Rattle.field_index.specs.Names.{thenBy, isLess, isEqual, comparedNumbers, comparedTexts, comparedNames, nameAt, comparedPlaces, before}
 use Rattle.field_index.specs.Sorted.{Order}
 
 abbrev pub turned : Way → Way
@@ -234,6 +234,10 @@ places-apart e f p =
     let n = equal-means (e .value) (f .value) (q .1) in
     λ i. record { name = m i; value = n i }
 
+-- a comparison turned round
+swapped : {A : Type 0} (c : A → A → Way) → Compares c → Compares (λ x y. c y x)
+swapped c k = record { flips = λ x y. k .flips y x; chain = λ x y z p q. k .chain z y x q p; alike = λ x y z e. sym (alike-right c k z y x e) }
+
 -- by name and then by place, in either direction
 module _ (tape : List ℕ) (d : Entry → Entry → Way) (D : Compares d) (apart : (e f : Entry) → d e f ≡ Equal → e ≡ f) where
   abbrev then-by : Entry → Entry → Way
@@ -244,4 +248,14 @@ module _ (tape : List ℕ) (d : Entry → Entry → Way) (D : Compares d) (apart
 
 pub before-order : (tape : List ℕ) → Order (before tape)
 unfolding before
-before-order tape = name-order tape comparedPlaces places places-apart
+before-order tape = name-order tape (λ e f. comparedPlaces f e) (swapped comparedPlaces places) (λ e f p. sym (places-apart f e p))
+
+-- of different names the names alone decide
+pub names-decide : (tape : List ℕ) (e f : Entry) → isEqual (comparedNames (nameAt tape (e .name)) (nameAt tape (f .name))) ≡ false → before tape e f ≡ isLess (comparedNames (nameAt tape (e .name)) (nameAt tape (f .name)))
+unfolding before
+names-decide tape e f = go (comparedNames (nameAt tape (e .name)) (nameAt tape (f .name)))
+  where
+    go : (w : Way) → isEqual w ≡ false → isLess (thenBy w (comparedPlaces f e)) ≡ isLess w
+    go Less h = refl
+    go Equal h = never h
+    go Greater h = refl

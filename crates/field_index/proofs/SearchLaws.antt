@@ -203,7 +203,7 @@ module _ {A K : Type 0} (none₀ : A) (k : A → K) (c : K → K → Way) (C : C
 -- ---- the entries
 index-rises : (tape : List ℕ) (name : Sym) (l : List Entry) → Sorted (before tape) l → Rises noEntry (sought tape name) l
 unfolding before sought
-index-rises tape name l s = sorted-rises noEntry (λ e. nameAt tape (e .name)) comparedNames names comparedPlaces name l s
+index-rises tape name l s = sorted-rises noEntry (λ e. nameAt tape (e .name)) comparedNames names (λ e f. comparedPlaces f e) name l s
 
 -- A search of a sorted list of fewer than 2 ^ k entries is over after at most k comparisons of names, and answers the place of the first with the name.
 pub searched-is : (tape : List ℕ) (name : Sym) (k : ℕ) (l : List Entry) → length l < 2 ^ k → Sorted (before tape) l

@@ -74,17 +74,17 @@ abbrev pub isNamed : Sym → Option Sym → Bool
 isNamed name none = false
 isNamed name (some s) = isEqual (comparedNames s name)
 
--- the first field with the name, in tape order; of fields that start at an offset
-unfoldable pub firstField : Sym → ℕ → Nodes → Option Entry
-firstField name at nil = none
-firstField name at (more h n ns) =
-    if (isNamed name (h .0)) (some (record { name = at; value = at + length (encodeName (h .0)) })) (firstField name (at + length (encodeHead h ++ encode n)) ns)
+-- the latest field with the name, in tape order; of fields that start at an offset: the latest of those behind the first, else the first if it has the name
+unfoldable pub latestField : Sym → ℕ → Nodes → Option Entry
+latestField name at nil = none
+latestField name at (more h n ns) =
+    on (latestField name (at + length (encodeHead h ++ encode n)) ns) some (if (isNamed name (h .0)) (some (record { name = at; value = at + length (encodeName (h .0)) })) none)
 
 abbrev pub lookedBy : ℕ → Option Entry → Looked
 lookedBy zero none = L.Nothing
 lookedBy zero (some e) = L.Field e
 lookedBy (suc f) o = L.Refused (suc f)
 
--- the refusals of an index in 65,536 entries; else the first field of the struct with the name, or none exactly if no field has it
+-- the refusals of an index in 65,536 entries; else the latest field of the struct with the name, or none exactly if no field has it
 unfoldable pub lookedUp : List ℕ → ℕ → Sym → Looked
-lookedUp t at name = lookedBy (refusal t at 65_536) (on (structAt t at) (firstField name (at + 5)) none)
+lookedUp t at name = lookedBy (refusal t at 65_536) (on (structAt t at) (latestField name (at + 5)) none)

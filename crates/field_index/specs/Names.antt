@@ -1,4 +1,4 @@
--- The order of the entries: by name, then by place. Assumes nothing: these are definitions.
+-- The order of the entries: by name, and of equal names the later place first. Assumes nothing: these are definitions.
 use mathlib.Core.Bool.{Bool, true, false}
 use mathlib.Core.List.{List, [], _∷_}
 use Prim.Native.Nat.{ℕ}
@@ -52,13 +52,13 @@ comparedNames (Sym.text s) (Sym.text t) = comparedTexts s t
 unfoldable pub nameAt : List ℕ → ℕ → Sym
 nameAt t at = reading (symOf (drop at t)) (Sym.text []) (λ s n. s)
 
--- the field that stands earlier comes first. The values' offsets only make it an order of all entries: fields have different names' offsets
+-- the field that stands earlier is less. The values' offsets only make it an order of all entries: fields have different names' offsets
 abbrev pub comparedPlaces : Entry → Entry → Way
 comparedPlaces e f = thenBy (comparedNumbers (e .name) (f .name)) (comparedNumbers (e .value) (f .value))
 
--- by name; equal names stand earliest first
+-- by name; equal names stand latest first (02, A7)
 abbrev pub compared : List ℕ → Entry → Entry → Way
-compared t e f = thenBy (comparedNames (nameAt t (e .name)) (nameAt t (f .name))) (comparedPlaces e f)
+compared t e f = thenBy (comparedNames (nameAt t (e .name)) (nameAt t (f .name))) (comparedPlaces f e)
 
 -- e comes before f
 unfoldable pub before : List ℕ → Entry → Entry → Bool

@@ -2,7 +2,7 @@
 -- Assumes nothing.
 use mathlib.Core.Path.{_≡_}
 use mathlib.Core.Bool.{Bool, true, false}
-use mathlib.Core.List.{List, [], _∷_}
+use mathlib.Core.List.{List, [], _∷_, _++_}
 use Prim.Native.Nat.{ℕ, _+_}
 use Rattle.output.specs.Logic.{if}
 
@@ -16,6 +16,16 @@ pub record Order {A : Type 0} (b : A → A → Bool) : Type 0 where
 abbrev pub many : {A : Type 0} → (A → Bool) → List A → ℕ
 many p [] = 0
 many p (x ∷ l) = if (p x) 1 0 + many p l
+
+-- the elements that pass a test, in their order
+unfoldable pub filter : {A : Type 0} → (A → Bool) → List A → List A
+filter q [] = []
+filter q (x ∷ l) = if (q x) (x ∷ filter q l) (filter q l)
+
+-- a list from its end
+unfoldable pub reversed : {A : Type 0} → List A → List A
+reversed [] = []
+reversed (x ∷ l) = reversed l ++ x ∷ []
 
 -- the same elements, each as often
 abbrev pub Same : {A : Type 0} → List A → List A → Type 0

@@ -191,7 +191,7 @@ fn told(tape: &[u8], i: Indexed, f: Found, e: Entry) -> Looked
     }
 }
 
-// The field with a name of the struct node at an offset: indexed in 65,536 entries of its own, and looked up. It
+// The latest field with a name of the struct node at an offset: indexed in 65,536 entries of its own, and looked up. It
 // takes no slice of entries, so that code with a proof written by the tool can call it.
 pub fn look_up<'a>(tape: &'a [u8], at: usize, name: &'a [u8], key: Key) -> Looked
     ensures { λ r. ⌜ r ≡ lookedUp (now (tape .entry)) at (keyOf (now (name .entry)) key) ⌝ }

@@ -127,7 +127,7 @@ fn compare_names(tape: &[u8], a: usize, b: usize) -> Way
     compare_two(tape, name_at(tape, a), name_at(tape, b))
 }
 
-// Where entries have one name: the earlier field first.
+// The earlier field is less.
 fn compare_places(a: Entry, b: Entry) -> Way
     ensures { λ r. ⌜ r ≡ comparedPlaces a b ⌝ }
 {
@@ -138,13 +138,14 @@ fn compare_places(a: Entry, b: Entry) -> Way
     }
 }
 
+// By name; of equal names the later field comes first.
 fn compare_entries(tape: &[u8], a: Entry, b: Entry) -> Way
     ensures { λ r. ⌜ r ≡ compared (now (tape .entry)) a b ⌝ }
 {
     match compare_names(tape, a.name, b.name) {
         Way::Less => Way::Less,
         Way::Greater => Way::Greater,
-        Way::Equal => compare_places(a, b),
+        Way::Equal => compare_places(b, a),
     }
 }
 

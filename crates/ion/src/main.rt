@@ -121,7 +121,7 @@ From a tape, of at most 1,048,576 bytes:
   length   how many bytes one of these four texts has; a second word names it
   check    whether it is a good tape
   show     its nodes, one a line: offset, kind and value
-  find     the field NAME of the struct at OFFSET: where it stands, and its nodes; $7 is an identifier, and a text if single quote marks stand around it
+  find     the latest field NAME of the struct at OFFSET: where it stands, and its nodes; $7 is an identifier, and a text if single quote marks stand around it
 From an Ion text, of at most 4,200,000 bytes:
   read     its tape
   split    its lines: number, offset, length, and what each is
@@ -293,7 +293,7 @@ fn places(name: usize, value: usize, text: &mut [u8]) {
     line::emit(text, e);
 }
 
-// The field with a name: where it stands, and its nodes as `show` has them; or why there is none.
+// The latest field with a name: where it stands, and its nodes as `show` has them; or why there is none.
 fn find<'a>(tape: &'a [u8], at: usize, name: &'a [u8], text: &mut [u8], spare: &mut [u8]) {
     let found = looked_up(tape, at, name);
     match found {

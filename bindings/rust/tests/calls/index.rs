@@ -47,7 +47,8 @@ fn index_of(at: usize, fields: &[(Node, Node)]) -> (Vec<Entry>, Vec<Name>) {
         all.push((name(node), Entry { name: from as u64, value: (from + node.len()) as u64 }));
         from += node.len() + value.len();
     }
-    // The tie: this sort keeps the order of equal names, so the earliest stands first.
+    // The tie: this sort keeps the order of equal names, so from the struct's end the latest stands first.
+    all.reverse();
     all.sort_by(|(a, _), (b, _)| a.cmp(b));
     all.into_iter().map(|(name, entry)| (entry, name)).unzip()
 }
@@ -110,8 +111,18 @@ fn order() {
     };
     let sorted: Vec<_> = Index::new(&tape, 0).unwrap().iter().map(shown).collect();
     let due =
-        "$9=1 $9=2 $10=1 $256=1 $4294967295=1 ''=1 '$9'=1 '9'=1 'a'=1 'a'=2 'a\0'=1 'aa'=1 'ab'=1 'b'=1 'z'=1 'é'=1 '\u{FFFF}'=1 '\u{10FFFF}'=1";
+        "$9=2 $9=1 $10=1 $256=1 $4294967295=1 ''=1 '$9'=1 '9'=1 'a'=2 'a'=1 'a\0'=1 'aa'=1 'ab'=1 'b'=1 'z'=1 'é'=1 '\u{FFFF}'=1 '\u{10FFFF}'=1";
     assert_eq!(sorted.join(" "), due);
+}
+
+/// A field that was added again is found as it stands last, whatever stands between.
+#[test]
+fn corrected() {
+    let tape = to_tape(b"{peak: 1, $7: 2, norad: 3, '$7': 4, peak: 5, $7: 6, peak: 7, sunlit: 8}").unwrap();
+    let pass = Index::new(&tape, 0).unwrap();
+    let value = |field: Option<Field>| tape[field.unwrap().value + 1];
+    assert_eq!(["peak", "norad", "$7", "sunlit"].map(|name| value(pass.get(name))), [7, 3, 4, 8]);
+    assert_eq!((value(pass.get_id(7)), pass.len()), (6, 8));
 }
 
 /// Structs in containers, in fields and behind annotations; the byte 12 at places where no struct starts.

@@ -284,7 +284,7 @@ fn r12_too_many_fields() {
     for room in 0..20 {
         check_index(&t, 0, room, Err(Refusal::TooManyFields));
     }
-    let index: Vec<_> = (0..20).map(|i| Entry { name: 5 + 19 * i, value: 11 + 19 * i }).collect();
+    let index: Vec<_> = (0..20).rev().map(|i| Entry { name: 5 + 19 * i, value: 11 + 19 * i }).collect();
     check_index(&t, 0, 20, Ok(&index));
 }
 

@@ -56,7 +56,7 @@ use Rattle.field_index.specs.Names.{noEntry}
 use Rattle.field_index.specs.Index.{refusal, IndexOf}
 use Rattle.field_index.specs.Structs.{structAt}
 use Rattle.field_index.specs.IndexSteps.{countOf, lookedAs}
-use Rattle.field_index.specs.Lookup.{Finds, firstField, lookedBy, lookedUp, keyOf, placeIn}
+use Rattle.field_index.specs.Lookup.{Finds, latestField, lookedBy, lookedUp, keyOf, placeIn}
 use Rattle.field_index.specs.declared.Entry.{Entry}
 use Rattle.field_index.specs.declared.Indexed.{Indexed}
 use Rattle.field_index.specs.declared.Found.{Found}
@@ -297,7 +297,7 @@ module _ {M : Type 1} (𝓤 : URA M) (H : Heap 𝓤) (A : Atoms 𝓤) (W : Given
       unfolding lookedUp
       looked b =
           look-told (t .now) a (keyOf (nm .now) key) (nones 65536) zs i f b indexed found
-          ∙ ap (λ (m : ℕ). lookedBy (refusal (t .now) a m) (on (structAt (t .now) a) (firstField (keyOf (nm .now) key) (a + 5)) none)) (nones-long 65536)
+          ∙ ap (λ (m : ℕ). lookedBy (refusal (t .now) a m) (on (structAt (t .now) a) (latestField (keyOf (nm .now) key) (a + 5)) none)) (nones-long 65536)
 
   module _ (C : Calls 𝓤 H) (Λ : Loops 𝓤 H) (fm : FmC 𝓤 H (W .laws) C) (known-index : Triple 𝓤 (C #field-index·index) (Indexes 𝓤 H A at-mem run)) (known-count : Triple 𝓤 (C #field-index·count-of) (Counts 𝓤 H A at-mem run)) (known-find : Triple 𝓤 (C #field-index·find) (Searches 𝓤 H A at-mem run))
       (known-place : Triple 𝓤 (C #field-index·place-of) (Places 𝓤 H A at-mem run)) (known-told : Triple 𝓤 (C #field-index·told) (Tells 𝓤 H A at-mem run)) where
