@@ -1,0 +1,10 @@
+pub mod WholeDigits
+pub mod WholeLaws
+pub mod WholeBack
+pub mod WholeOnce
+pub mod WholeBytes
+pub mod WholeOther
+pub mod WholeExamples
+pub mod ValueLaws
+pub mod ValueBits
+pub mod ValueExamples

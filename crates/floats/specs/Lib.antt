@@ -1,0 +1,4 @@
+pub mod Whole
+pub mod WholeSteps
+pub mod Value
+pub mod ValueSteps

@@ -1,0 +1,3 @@
+// Floats as text, written and read.
+pub mod bits;
+pub mod whole;
