@@ -161,11 +161,10 @@ fn unsigned_at(text: &[u8], at: usize, negative: bool) -> NumeralRead
             if k == 0 {
                 return NumeralRead::Bad;
             }
-            if k == 1 {
-                return behind_whole(text, end, negative, m);
-            }
-            if text[at] == b'0' {
-                return NumeralRead::Bad;
+            if 1 < k {
+                if text[at] == b'0' {
+                    return NumeralRead::Bad;
+                }
             }
             behind_whole(text, end, negative, m)
         }
@@ -178,8 +177,7 @@ pub fn numeral_at(text: &[u8], at: usize) -> NumeralRead
     requires { ⌜ at ≤ length (now text) ⌝ }
     ensures { λ r. ⌜ Reads (now (text .entry)) (suc at) (numeral (drop at (now (text .entry)))) (numeralRead r) ⌝ }
 {
-    if stands(text, at, b'-') {
-        return unsigned_at(text, at + 1, true);
-    }
-    unsigned_at(text, at, false)
+    let neg = stands(text, at, b'-');
+    let from = if neg { at + 1 } else { at };
+    unsigned_at(text, from, neg)
 }

@@ -1,6 +1,7 @@
 -- `numbers::numeral::unsigned_at` meets its contract. Assumes nothing.
 use native.Mathlib.Omega.{arith}
 use Prim.Native.Nat.{_≤_, _<_}
+use mathlib.Core.Logic.{⊎-elim}
 use borrow.Author.Tests.{eq-eqb, ne-eqb}
 use lib.ListN.{length, drop}
 use Rattle.numbers.specs.Numeral.{unsigned}
@@ -20,8 +21,6 @@ enum-known-m c = search needs
 
 sub-k : tie.Need-sub-k
 sub-k c =
-    let x = c .before .before .before .before .before .args in
-    let t = x .text .now in
     let v = rw (c .before .m .given .1) at (c .before .before .before .digits-at .ensures) in
     omega (arith, v .2)
 
@@ -34,68 +33,51 @@ returns c =
     let es = run (drop (x .at) t) in
     refused (rw (whole-none es (omega (arith, v .2, c .if1 .taken))))
 
-behind-whole-requires : tie.Need-behind-whole-requires
-behind-whole-requires c κs =
-    let x = c .before .before .before .before .before .before .before .args in
-    let t = x .text .now in
-    let v = rw (c .before .before .before .m .given .1) at (c .before .before .before .before .before .digits-at .ensures) in
-    v .3
+shared-slice-read-if3 : tie.Need-shared-slice-read-if3
+shared-slice-read-if3 c =
+    let x = c .before .before .before .before .before .before .before .before .args in
+    let v = rw (c .before .before .before .before .m .given .1) at (c .before .before .before .before .before .before .digits-at .ensures) in
+    omega (arith, v .2, v .3, c .before .if2 .taken)
 
 returns-2 : tie.Need-returns-2
 unfolding unsigned
 returns-2 c =
-    let x = c .before .before .before .before .before .before .before .before .args in
-    let t = x .text .now in
-    let v = rw (c .before .before .before .before .m .given .1) at (c .before .before .before .before .before .before .digits-at .ensures) in
-    let es = run (drop (x .at) t) in
-    rw (whole-one es (omega (arith, v .2, c .before .if2 .taken)), v .0, v .1) (reads-from (c .behind-whole .ensures) (omega (arith, v .2, c .before .if2 .taken)))
-
-shared-slice-read-if3 : tie.Need-shared-slice-read-if3
-shared-slice-read-if3 c =
-    let x = c .before .before .before .before .before .before .before .before .args in
-    let t = x .text .now in
-    let v = rw (c .before .before .before .before .m .given .1) at (c .before .before .before .before .before .before .digits-at .ensures) in
-    let es = run (drop (x .at) t) in
-    let two : 2 ≤ length es = omega (arith, v .2, c .before .before .if1 .left, c .before .if2 .left) in
-    let lt : x .at < length t = omega (arith, v .2, v .3) in
-    lt
-
-returns-3 : tie.Need-returns-3
-unfolding unsigned
-returns-3 c =
     let x = c .before .before .before .before .before .before .before .before .before .args in
     let t = x .text .now in
     let v = rw (c .before .before .before .before .before .m .given .1) at (c .before .before .before .before .before .before .before .digits-at .ensures) in
     let es = run (drop (x .at) t) in
-    let two : 2 ≤ length es = omega (arith, v .2, c .before .before .before .if1 .left, c .before .before .if2 .left) in
+    let two : 2 ≤ length es = omega (arith, v .2, c .before .before .if2 .taken) in
     let lt : x .at < length t = omega (arith, v .2, v .3) in
     refused (rw (whole-at t (x .at) lt two, eq-eqb _ _ (c .if3 .taken)))
 
-behind-whole-requires-2 : tie.Need-behind-whole-requires-2
-behind-whole-requires-2 c κs =
-    let x = c .before .before .before .before .before .before .before .before .before .args in
-    let t = x .text .now in
-    let v = rw (c .before .before .before .before .before .m .given .1) at (c .before .before .before .before .before .before .before .digits-at .ensures) in
+behind-whole-requires : tie.Need-behind-whole-requires
+behind-whole-requires c κs =
+    let v = rw (c .before .before .before .m .given .1) at (c .before .before .before .before .before .digits-at .ensures) in
     v .3
 
 enum-told : tie.Need-enum-told
 enum-told c = search needs
 
-returns-4 : tie.Need-returns-4
+-- two digits or more, the first not 0; or one
+returns-3 : tie.Need-returns-3
 unfolding unsigned
-returns-4 c =
-    let x = c .before .before .before .before .before .before .before .before .before .before .args in
+returns-3 c =
+    let x = c .before .before .before .before .before .before .before .before .args in
     let t = x .text .now in
-    let v = rw (c .before .before .before .before .before .before .m .given .1) at (c .before .before .before .before .before .before .before .before .digits-at .ensures) in
+    let v = rw (c .before .before .before .before .m .given .1) at (c .before .before .before .before .before .before .digits-at .ensures) in
     let es = run (drop (x .at) t) in
-    let two : 2 ≤ length es = omega (arith, v .2, c .before .before .before .before .if1 .left, c .before .before .before .if2 .left) in
+    ⊎-elim
+    (λ w.
+    let two : 2 ≤ length es = omega (arith, v .2, w .0 .taken) in
     let lt : x .at < length t = omega (arith, v .2, v .3) in
-    rw (whole-at t (x .at) lt two, ne-eqb _ _ (c .before .if3 .left), v .0, v .1) (reads-from (c .behind-whole2 .ensures) (omega (arith, v .2)))
+    rw (whole-at t (x .at) lt two, ne-eqb _ _ (w .2 .left), v .0, v .1) (reads-from (c .behind-whole .ensures) (omega (arith, v .2))))
+    (λ w.
+    let one = whole-one es (omega (arith, v .2, c .before .before .if1 .left, w .left)) in
+    rw (one, v .0, v .1) (reads-from (c .behind-whole .ensures) (omega (arith, v .2, c .before .before .if1 .left))))
+    (c .before .if2 .came)
 
-returns-5 : tie.Need-returns-5
-returns-5 c =
-    let x = c .before .before .before .before .args in
-    let t = x .text .now in
+returns-4 : tie.Need-returns-4
+returns-4 c =
     let v = rw (c .enum-told .given .1) at (c .before .before .digits-at .ensures) in
     refused (unsigned-over _ _ v)
 
@@ -107,11 +89,9 @@ unsigned-at-spec =
     enum-known-m
     sub-k
     returns
-    behind-whole-requires
-    returns-2
     shared-slice-read-if3
-    returns-3
-    behind-whole-requires-2
+    returns-2
+    behind-whole-requires
     enum-told
-    returns-4
-    returns-5)
+    returns-3
+    returns-4)
