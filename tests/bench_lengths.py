@@ -12,7 +12,7 @@ import sys
 import tempfile
 
 import builds
-from tapes import tape
+from tapes import tape, whole
 
 SMALL = b'abcdefghijklmnopqrstuvwxyz'
 WORDS = {'small letters': SMALL, 'capitals': b'ABCDEFG', 'mixed': b'Ngc_72', 'blanks': b'a b', 'quote marks': b"'",
@@ -54,6 +54,8 @@ def kinds():
         yield 'decimal %d, %d' % (m, e), ('dec', 1, m, e)
     for bits in 0, 0x7FF << 52, 0x7FF8 << 48:
         yield 'float %x' % bits, ('float', bits)
+    for n in 7, -15, 100, 1234567, 123456789012, 2**53:
+        yield 'float %d' % n, whole(n)
     yield 'bool', ('bool', 1)
     yield 'time', ('ts', 4, 2026, 11, 16, 3, 4, 5, -300, 3, 123)
     yield 'day', ('ts', 2, 2026, 11, 16, 0, 0, 0, 32767, 0, 0)

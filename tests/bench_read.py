@@ -15,6 +15,9 @@ import sys
 import tempfile
 
 import builds
+import model
+import samples
+from tapes import tape
 
 ROUNDS = int(sys.argv[1]) if len(sys.argv) > 1 else 4
 JANSSON = ctypes.util.find_library('jansson') and os.path.exists('/usr/include/jansson.h')
@@ -35,8 +38,11 @@ with open(os.path.join(builds.ROOT, 'crates/ion/data/passes.ion')) as f:
 MARGIN = ' ' * 64
 BYTES = random.Random(1).randbytes(1 << 20)
 NEST = '[' * 60 + '1' + ']' * 60 + ' '
+COUNTS = model.stream(1, tape(dict(samples.samples())['floats'][0][1])).decode().replace('\n', ' ')
 SHAPES = {
     'flat ints': lambda n: filled('1234 ', n),
+    'floats': lambda n: filled(COUNTS, n),
+    'small floats': lambda n: filled('1.5e1 ', n),
     'symbols': lambda n: filled('abcdef ', n),
     'pass list': lambda n: filled(PASS + '\n', n),
     'pass list as written': lambda n: filled(WRITTEN, n),

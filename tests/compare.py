@@ -196,7 +196,7 @@ def damaged_lines(r, pairs, texts):
 
 # Nodes that one refusal or another waits for.
 ODD = [b'\x10', b'\x0f', b'\x0e', b'\x0d\0', b'\x0d\x11', node(('notes', [('sym', b'a')], ('int', 1)))]
-ODD += [node(('float', bits)) for bits in (0x3FF0 << 48, 1, 0x7FEFFFFFFFFFFFFF, 0x7FF8000000000001, 0xFFF8 << 48)]
+ODD += [node(('float', bits)) for bits in (0x3FF8 << 48, 1, 0x7FEFFFFFFFFFFFFF, 0x4340000000000001, 0x7FF8000000000001, 0xFFF8 << 48)]
 
 
 def damaged(r, values):

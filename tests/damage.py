@@ -13,7 +13,7 @@ import struct
 
 import model
 from grammar import book, expect
-from tapes import UNKNOWN, tape
+from tapes import UNKNOWN, tape, whole
 
 PRIME = 4294967291
 ROOM = 256
@@ -49,6 +49,8 @@ TAPES = [
     [string('a\n"é\\'), sym('true'), sym(''), sym('$7'), sym('it\'s\0'), string('日\x01')],
     # Control characters that hex digits escape: a damaged escape is refused, or means other characters.
     [string('\x01\x1f'), ('struct', [(sym('\x06'), sym('a\x0e'))]), string('\x10\x7f\0'), ('clob', b'\x01')],
+    # Records with counts as floats, and floats by themselves: a damaged spelling is refused, or means another float or number.
+    [('struct', [(sym('n'), whole(15))]), whole(100), ('struct', [(sym('n'), whole(2**53))]), whole(-120), whole(7)],
     [dec(123456, 0), dec(1234567, 0), dec(116, -8), dec(116, -9, 1), dec(0, 0, 1), dec(12, 3)],
     [('ts', 2, 2024, 2, 29, 0, 0, 0, UNKNOWN, 0, 0), ('ts', 3, 2024, 2, 29, 23, 59, 0, UNKNOWN, 0, 0), ('ts', 0, 2026, 0, 0, 0, 0, 0, UNKNOWN, 0, 0),
      ('ts', 4, 1999, 12, 31, 23, 59, 7, 330, 3, 42)],

@@ -17,7 +17,7 @@ import grammar
 from listing import ROOT, escaped, write
 from readings import (FALSE, INF, MARKER, MINUS_INF, MINUS_ZERO, NAN, TRUE, ZERO, blob, clob, day, dec, int_, list_, minus, minute, month, notes, null, rec,
                       second, sexp, sid, str_, sym, year)
-from tapes import UNKNOWN, tape
+from tapes import UNKNOWN, tape, whole
 
 SITE = 'amazon-ion.github.io/ion-docs/'
 lines, rows, seen = [], set(), set()
@@ -81,9 +81,9 @@ takes('_1', sym('_1'))
 
 page('docs/spec.html, Real Numbers')
 takes('0.123', dec(123, -3))
-out('nonzero finite floats', '-0.12e4')
+out('floats spelled otherwise', '-0.12e4')
 takes('-0.12d4', minus(12, 2))
-out('zero floats spelled otherwise', '0E0')
+out('floats spelled otherwise', '0E0')
 out('`D` for `d` in decimals', '0D0')
 takes('0.', dec(0, 0))
 takes('-0e0', MINUS_ZERO)
@@ -99,8 +99,10 @@ takes('-inf', MINUS_INF)
 
 page('docs/float.html and docs/decimal.html')
 takes('0e0', ZERO)
-out('nonzero finite floats', '1e0', '1.5e1', '0.1e0', '3.14e0', '6.02e23', '-1.5e-3', '123.456e42')
-out('zero floats spelled otherwise', '0.0e0', '-0.0e0')
+takes('1e0', whole(1))
+takes('1.5e1', whole(15))
+out('floats that are no whole number of magnitude up to 2^53', '0.1e0', '3.14e0', '6.02e23', '-1.5e-3', '123.456e42')
+out('floats spelled otherwise', '0.0e0', '-0.0e0')
 takes('0d0', dec(0, 0))
 takes('0.0', dec(0, -1))
 takes('0.00', dec(0, -2))

@@ -11,12 +11,15 @@ of tests/readings.py:
 import base64
 import calendar
 import re
+import struct
 
 from tapes import UNKNOWN, tape
 
 LONGEST = 1048576
 TYPES = b'null bool int float decimal timestamp symbol string clob blob list sexp struct'.split()
 FLOATS = {b'nan': 0x7FF8 << 48, b'+inf': 0x7FF0 << 48, b'-inf': 0xFFF0 << 48, b'0e0': 0, b'-0e0': 1 << 63}
+# As printed: no trailing zero before `e`, no leading one behind it.
+FLOAT = re.compile(rb'(-?)([1-9])(?:\.([0-9]*[1-9]))?e(0|[1-9][0-9]*)')
 NULLS = {b'null': 0, **{b'null.' + t: i for i, t in enumerate(TYPES) if i}}
 WORDS = {b'true': ('bool', 1), b'false': ('bool', 0), **{n: ('null', i) for n, i in NULLS.items()}, **{n: ('float', b) for n, b in FLOATS.items()}}
 CLOSING = {'[': (b']', 'list'), '(': (b')', 'sexp'), '{': (b'}', 'struct')}
@@ -81,10 +84,21 @@ def time(year, month, day, hour, minute, second, fraction, z, sign, hours, minut
     return ('ts', precision, y, m, d, h, n, s, offset, len(fraction or b''), int(fraction or 0))
 
 
+def whole(sign, first, more, exponent):
+    """The float that is a whole number of magnitude up to 2^53."""
+    digits, zeros = first + (more or b''), int(exponent) - len(more or b'')
+    need(zeros >= 0 and len(digits) + zeros <= 16 and int(digits) * 10**zeros <= 2**53)
+    value = int(digits) * 10**zeros
+    return ('float', *struct.unpack('<Q', struct.pack('<d', -value if sign else value)))
+
+
 def number(token):
     """Ints, decimals, timestamps, and the floats that start like them."""
     if token in FLOATS:
         return ('float', FLOATS[token])
+    found = FLOAT.fullmatch(token)
+    if found:
+        return whole(*found.groups())
     if INT.fullmatch(token):
         need(-2**63 <= int(token) < 2**63)
         return ('int', int(token))

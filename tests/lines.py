@@ -10,7 +10,7 @@ import time
 
 import model
 from random_tapes import nested, stream
-from tapes import tape
+from tapes import tape, whole
 
 PROGRAM = 'target/bin/lines'
 MOST = 65536
@@ -83,7 +83,8 @@ def main():
     r = random.Random(1)
     prints_text(tape([nested(r, 64, ('int', 1))]))
     refuses(3, tape([nested(r, 65, ('int', 1))]))
-    refuses(4, tape([('float', 0x3FF0 << 48)]))
+    refuses(4, tape([('float', 0x3FF8 << 48)]))
+    prints_text(tape([whole(15), whole(-2**53)]))
     refuses(5, tape([('notes', [('sym', b'a')], ('int', 1))]))
     prints_text(text_of(MOST - 1))
     prints_text(text_of(MOST))

@@ -14,6 +14,7 @@ UNKNOWN = 32767
 NAN = 0x7FF8 << 48
 TYPES = b'null bool int float decimal timestamp symbol string clob blob list sexp struct'.split()
 FLOATS = {NAN: b'nan', 0x7FF0 << 48: b'+inf', 0xFFF0 << 48: b'-inf', 0: b'0e0', 1 << 63: b'-0e0'}
+MOST_WHOLE = 9_007_199_254_740_992
 
 
 class Refused(Exception):
@@ -21,6 +22,14 @@ class Refused(Exception):
 
 
 # The tape, read in its order: each node's header (2), then 3, then 4.
+
+
+def float_of(bits):
+    return struct.unpack('<d', struct.pack('<Q', bits))[0]
+
+
+def is_whole(x):
+    return x.is_integer() and abs(x) <= MOST_WHOLE
 
 
 def is_utf8(text):
@@ -122,7 +131,7 @@ class Nodes:
         exponent, mantissa = (bits >> 52) & 0x7FF, bits & ((1 << 52) - 1)
         if exponent == 0x7FF and mantissa and bits != NAN:
             raise Refused(2)
-        if exponent != 0x7FF and (exponent or mantissa):
+        if exponent != 0x7FF and not is_whole(float_of(bits)):
             raise Refused(4)
         return ('float', bits)
 
@@ -215,6 +224,14 @@ def decimal_text(negative, magnitude, e):
     return (('-' if negative else '') + text).encode()
 
 
+def whole_text(bits):
+    """The float that is a whole number: a minus, the digits without trailing zeros, a point behind the first if more follow, `e`, the exponent."""
+    x = float_of(bits)
+    d = str(abs(int(x)))
+    shown = d.rstrip('0')
+    return (('-' if x < 0 else '') + '.'.join(filter(None, (shown[0], shown[1:]))) + 'e%d' % (len(d) - 1)).encode()
+
+
 def time_text(p, year, month, day, hour, minute, second, offset, digits, fraction):
     if p < 3:
         return (('%04d', '%04d-%02d', '%04d-%02d-%02d')[p] % (year, month, day)[:p + 1]).encode() + b'T'
@@ -253,7 +270,7 @@ def value_text(layout, v, level):
     if kind == 'int':
         return b'%d' % v[1]
     if kind == 'float':
-        return FLOATS[v[1]]
+        return FLOATS.get(v[1]) or whole_text(v[1])
     if kind == 'dec':
         return decimal_text(*v[1:])
     if kind == 'ts':

@@ -2,7 +2,7 @@
 import calendar
 import random
 
-from tapes import UNKNOWN
+from tapes import UNKNOWN, whole
 
 WORDS = ['', 'a', 'norad_id', 'true', 'false', 'nan', 'null', 'nulls', '$', '$7', '$07', '$7a', '$ion_1_0', '$ion_1_0_0', '$ion_', '_x', 'x y',
          "it's", 'q"q', 'back\\slash', 'tab\tLF\n', '\0\x01\x07\x08\x0b\x0c\r\x1f\x7f', 'é', '日本', '😀', '+', '7up', 'inf', 'Z']
@@ -44,6 +44,15 @@ def timestamp(r):
     return ('ts', p, year, month, day, hour, minute, second, offset, digits, r.randrange(10**digits))
 
 
+def float_(r):
+    """NaN, an infinity, a zero, or a whole number up to 2^53: few digits or many, few zeros behind them or many."""
+    if r.random() < .3:
+        return ('float', r.choice([0x7FF8 << 48, 0x7FF0 << 48, 0xFFF0 << 48, 0, 1 << 63]))
+    n = r.choice([r.randrange(10**r.randrange(1, 16)), r.randrange(1, 10) * 10**r.randrange(16), 2**r.randrange(54) + r.choice([-1, 0, 1]),
+                  10**r.randrange(16) + r.choice([-1, 1]), 2**53 - r.randrange(3)])
+    return whole(r.choice([-1, 1]) * min(n, 2**53))
+
+
 def value(r, depth, ids, notes):
     if notes and r.random() < .15:
         return ('notes', [symbol(r, ids) for _ in range(r.choice([1, 1, 2, 16]))], value(r, depth, ids, False))
@@ -55,7 +64,7 @@ def value(r, depth, ids, notes):
     if kind == 2:
         return ('int', number(r, 64) - 2**63 if r.random() < .5 else r.choice([-1, 1]) * number(r, 63))
     if kind == 3:
-        return ('float', r.choice([0x7FF8 << 48, 0x7FF0 << 48, 0xFFF0 << 48, 0, 1 << 63]))
+        return float_(r)
     if kind == 4:
         return decimal(r)
     if kind == 5:

@@ -11,7 +11,7 @@ to write crates/readings/stdin (each text, then a byte 255) and crates/readings/
 import base64
 import os
 
-from tapes import UNKNOWN, tape
+from tapes import UNKNOWN, tape, whole
 
 rows = []
 conversions = {}
@@ -161,6 +161,8 @@ for x in BYTES:
         yes(x, sym(x))
         if x == b'd':
             yes(b'1d2', dec(1, 2))
+        elif x == b'e':
+            yes(b'1e2', whole(100))
         else:
             no(b'1' + x + b'2')
     else:
@@ -184,8 +186,8 @@ for x in BYTES:
         yes(b'[1,2]', list_(one, two))
     elif x in DIGITS:
         yes(b'[1' + x + b'2]', list_(int_(102 + 10 * int(x))))
-    elif x in b'.d':
-        yes(b'[1' + x + b'2]', list_(dec(12, -1) if x == b'.' else dec(1, 2)))
+    elif x in b'.de':
+        yes(b'[1' + x + b'2]', list_({b'.': dec(12, -1), b'd': dec(1, 2), b'e': whole(100)}[x]))
     else:
         no(b'[1' + x + b'2]')
 
@@ -250,7 +252,7 @@ no('{a}', '{a:}', '{:1}', '{a 1}', '{a::1}', '{a: :1}', '{a:b:1}', '{1}', '{a,b}
 no('{"a":1}', '{1:1}', '{1.:1}', '{true:1}', '{false:1}', '{nan:1}', '{null:1}', '{null.int:1}', '{+inf:1}', '{2007T:1}')
 no('{$01:1}', '{$4294967296:1}', '{$ion_1_0:1}', '{$ion_1_1:1}', '{[a]:1}', '{{{"a"}}:1}', "{'''a''':1}", '{é:1}', '{a-b:1}')
 
-# --- Null, bool, the five floats, markers as printed.
+# --- Null, bool, floats, markers as printed.
 yes('null', null())
 for name in TYPES[1:]:
     yes('null.' + name, null(name))
@@ -277,8 +279,9 @@ yes('-0e0', MINUS_ZERO)
 yes('[nan,+inf,-inf,0e0,-0e0]', list_(NAN, INF, MINUS_INF, ZERO, MINUS_ZERO))
 yes('(+inf -inf)', sexp(INF, MINUS_INF))
 no('+nan', '-nan', '+Inf', '+INF', '-Inf', '+in', '+', '-', '+infx', '-inf1', '+inf-inf', '--inf', '+-inf', '-i', '+infinity')
-# Out: nonzero finite floats. As printed: no other spelling of a zero.
-no('1e0', '1e5', '1.5e3', '-1e-1', '0e1', '0e', '0e00', '0e+0', '0e-0', '0E0', '-0E0', '0.0e0', '0.e0', '00e0', '+0e0', '0e0x', '0e0.')
+# Out: floats that are no whole number up to 2^53. As printed: no other spelling.
+yes('-1.5e3', whole(-1500))
+no('1.5e0', '15e0', '10e1', '1.0e1', '1e+2', '1e02', '1E2', '9.007199254740993e15', '1e16', '-1e-1', '0e1', '0e', '0.0e0', '+0e0', '0e0x')
 yes('$ion_1_0', MARKER)
 yes(' $ion_1_0 ', MARKER)
 yes('$ion_1_0\n1\n', MARKER, one)
@@ -360,7 +363,7 @@ no('.5', '-.5', '.', '-.', '.d1', '+1.', '+1d1', '01.', '00.', '-01.5', '00d0', 
 yes('1. 5.', dec(1, 0), dec(5, 0))
 no('1d', '1.d', '1.5d', '1d+', '1d-', '1d+-1', '1d--1', '1dd1', '1d1d1', '1d1.', '1d1.5', '1d1x', '1.x', '1.5x', '1d_1', '1_0.', '1._0')
 no('1.0_')
-no('1D5', '1.5D5', '0D0', '-0D0', '1E5', '1.5E5', '1.5e5', '1.e5', '0.0e0', '1d00000000005', '1d-00000000000', '1d+00000000001', '0x1.')
+no('1D5', '1.5D5', '0D0', '-0D0', '1E5', '1.5E5', '1.e5', '0.0e0', '1d00000000005', '1d-00000000000', '1d+00000000001', '0x1.')
 no('1.a')
 
 # --- Magnitude: all digits joined, in u64.
@@ -655,7 +658,7 @@ yes('{a:{{Zm9v}}}', rec('a', blob('foo')))
 yes('{a: b::{{Zm9v}}, }', rec('a', notes('b', blob('foo'))))
 yes('jpeg::{{/9j/4AAQ}}', notes('jpeg', blob(bytes.fromhex('ffd8ffe00010'))))
 
-# --- Out: nonzero finite floats, larger integers, comments, long strings.
+# --- Out: other finite floats, larger integers, comments, long strings.
 no('// a', '//', '1 // a', '/* a */', '/**/', '/* a */ 1', '1 /* a */', '[1, /* a */ 2]', '1//', '# a', '-- a')
 yes('"// a" "/* b */"', str_('// a'), str_('/* b */'))
 

@@ -11,7 +11,7 @@ import random
 import sys
 
 import model
-from tapes import UNKNOWN, tape
+from tapes import UNKNOWN, tape, whole
 
 
 def sym(text):
@@ -101,6 +101,7 @@ def samples():
     yield 'annotated', [('list', [('notes', [sym(r.choice(units)) for _ in range(r.choice([2, 3]))], ('int', r.randrange(10**6))) for _ in range(1000)])]
     yield 'blob', [('blob', r.randbytes(1024))]
     yield 'blobs', [('list', [('blob', r.randbytes(n)) for n in range(300)])]
+    yield 'floats', [('list', [whole(r.choice([-1, 1]) * r.randrange(10**r.randrange(1, 16))) for _ in range(1000)])]
 
 
 def write(folder):

@@ -15,6 +15,11 @@ KINDS = {'list': 10, 'sexp': 11, 'struct': 12}
 CONTROLS = re.compile(rb'[\x01-\x06\x0e-\x1f]')
 
 
+def whole(n):
+    """The float of a number, as a value."""
+    return ('float', *struct.unpack('<Q', struct.pack('<d', n)))
+
+
 def node(v):
     kind = v[0]
     if kind == 'null':

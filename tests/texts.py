@@ -5,7 +5,7 @@ characters as document 02, A5, has them (`amended` of tests/tapes.py):
 """
 import sys
 
-from tapes import UNKNOWN, ask, tape
+from tapes import UNKNOWN, ask, tape, whole
 
 values = [('int', z) for z in [
     0, 1, -1, 9, 10, -10, 99999999, 100000000, 9999999999999999, 10000000000000000, 2**63 - 1, -2**63]]
@@ -28,6 +28,7 @@ for n in range(10):
 
 values += [('null', t) for t in range(13)] + [('bool', 1), ('bool', 0)]
 values += [('float', b) for b in (0x7FF8 << 48, 0x7FF0 << 48, 0xFFF0 << 48, 0, 1 << 63)]
+values += [whole(n) for n in (1, 15, 100, -250, 12345678, 123456789, 10**15, -9007199254740991, 9007199254740992)]
 wide = bytes.fromhex('C280DFBFE0A080ED9FBFEE8080EFBFBFF0908080F48FBFBF')
 values += [('str', bytes([b])) for b in range(128)] + [('str', s) for s in (b'', b'a "b" c\td\n\\ \'e\'', wide)]
 words = ('', 'true', 'false', 'nan', 'null', 'True', 'inf', 'nulls', '$', '$7', '$007', '$7a', '$ion', '$ion_', '$ion_1_0', '$ion_12_34',

@@ -20,7 +20,7 @@ import model
 from compare import damaged
 from listing import LONGEST, escaped, write
 from random_tapes import IDS, nested, stream, tree, value
-from tapes import UNKNOWN, ask, node, tape
+from tapes import UNKNOWN, ask, node, tape, whole
 from writings import (FALSE, INF, MARKER, MINUS_INF, MINUS_ZERO, NAN, NULL, TRUE, ZERO, at, blob, clob, dec, fraction, int_, list_, minus, nest, notes,
                       sexp, sid, sized, string, struct_, sym, time, trailed)
 
@@ -135,6 +135,14 @@ for i in range(13):
     add(list_(('null', i), ('null', 12 - i)))
 add(TRUE, FALSE, NULL)
 add(*FLOATS)
+# 02, A8: the powers of two and of ten up to 2^53 and their neighbours, other whole numbers, of either sign.
+WHOLES = sorted({min(max(n, 1), model.MOST_WHOLE) for b in [*(2**k for k in range(54)), *(10**k for k in range(16))] for n in (b - 1, b, b + 1)})
+for n in WHOLES:
+    add(whole(n), whole(-n))
+for d in range(1, 17):
+    add(*(whole(int('9007199254740992'[:d]) * 10**k) for k in range(17 - d)))
+for n in 15, 100, 120, 123456789, 1234567890123456, 1000000000000010, 9000000000000000:
+    add(struct_(('n', whole(n))), list_(whole(n), whole(-n)), notes(whole(n), sym('a')), over='39m')
 for i in sorted({s * b + d for b in [0, *(10**k for k in range(1, 19)), 2**31, 2**32, 2**53] for d in (-1, 0, 1) for s in (1, -1)}):
     add(int_(i))
 for i in 2**63 - 1, 2**63 - 2, -2**63, -2**63 + 1:
@@ -402,11 +410,21 @@ refused(2, trailed(sized(12, A + ONE + A), 1), 'a name without a value')
 refused(2, trailed(b'\x0d\x01' + A, 1), 'annotations without a value')
 
 section('refusal 4')
-for bits in (0x3FF0 << 48, 1, 0x8000000000000001, 0x7FEFFFFFFFFFFFFF, 0xFFEFFFFFFFFFFFFF, 0x3FB999999999999A, 0x0010000000000000, 0xBFF8 << 48):
+MOST = 0x4340000000000000  # the bits of 2^53
+for bits in (0x3FF8 << 48, 1, 0x8000000000000001, 0x7FEFFFFFFFFFFFFF, 0xFFEFFFFFFFFFFFFF, 0x3FB999999999999A, 0x0010000000000000, 0xBFF8 << 48,
+             MOST + 1, MOST + (1 << 63) + 1, 0x3FE0 << 48, 0x3FEFFFFFFFFFFFFF, 0x3FF0000000000001):
     f = ('float', bits)
     for said, v in ('', f), (' in a list', list_(TRUE, f)), (' in a struct', struct_(('a', f))), (' annotated', notes(f, sym('a'))):
-        refused(4, tape([v]), 'a nonzero finite float' + said)
-    refused(4, tape([int_(1), f]), 'a nonzero finite float, second')
+        refused(4, tape([v]), 'a finite float that is no whole number of magnitude up to 2^53' + said)
+    refused(4, tape([int_(1), f]), 'a finite float that is no whole number of magnitude up to 2^53, second')
+for k in range(1, 60):
+    refused(4, tape([whole(2.0**-k)]), 'a power of two below one')
+for k in range(54, 64):
+    refused(4, tape([whole(2.0**k)]), 'a power of two over 2^53')
+for k in range(16, 30):
+    refused(4, tape([whole(10.0**k)]), 'a power of ten over 2^53')
+for n in (15, 100, 4503599627370495):
+    refused(4, tape([whole(n + 0.5)]), 'a half')
 
 section('refusal 5: streaming')
 for v in TRUE, list_(), string('a'), sid(1):
@@ -619,7 +637,7 @@ def check_cover():
     due = {'byte of: ' + text: valid for text in ('symbol', 'string', 'name', 'annotation')}
     due.update({
         'byte of: clob': range(256), 'byte of: blob': range(256), 'UTF-8 width': range(1, 5), 'length of a text': (0, 1, 2, 16, 255, 256, 1000), 'null': range(13),
-        'bool': range(2), 'float': [f[1] for f in FLOATS], 'int': (0, 1, -1, 9, 10, 2**31, 2**63 - 1, -2**63), 'id': (0, 1, 10, 2**32 - 1),
+        'bool': range(2), 'float': [f[1] for f in FLOATS] + [whole(s * n)[1] for n in WHOLES for s in (1, -1)], 'int': (0, 1, -1, 9, 10, 2**31, 2**63 - 1, -2**63), 'id': (0, 1, 10, 2**32 - 1),
         'decimal sum': range(-30, 31), 'decimal length': range(1, 21), 'decimal zero': [(s, e) for s in (0, 1) for e in range(-9, 4)],
         'decimal form': [(s, form) for s in (0, 1) for form in ((-1, 'p over 0'), (-1, 'p to -5'), (-1, 'p below -5'), (0, 'p over 0'),
                                                                 (1, 'p over 0'))],

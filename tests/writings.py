@@ -10,7 +10,7 @@ import os
 import struct
 
 import model
-from tapes import UNKNOWN, node, tape
+from tapes import UNKNOWN, node, tape, whole
 
 COMPACT, LINES, PRETTY = LAYOUTS = (0, 1, 2)
 TREE = ord('t')
@@ -176,10 +176,10 @@ gives(COMPACT, [MARKER, int_(1), MARKER], '$ion_1_0 1 $ion_1_0 ')
 gives(LINES, [MARKER, int_(1), MARKER], '$ion_1_0\n1\n$ion_1_0\n')
 gives(PRETTY, [MARKER, int_(1), MARKER], '$ion_1_0\n1\n$ion_1_0\n')
 
-# Every scalar kind. "Nulls print `null` or `null.` and the type. Floats: nan, +inf, -inf, 0e0, -0e0."
+# Every scalar kind. "Nulls print `null` or `null.` and the type. Floats: nan, +inf, -inf, 0e0, -0e0." 02, A8: "15 is `1.5e1`"
 gives_lines((NULL, 'null'), *((('null', i), 'null.' + t) for i, t in enumerate(TYPES) if i))
 gives_lines((TRUE, 'true'), (FALSE, 'false'))
-gives_lines((NAN, 'nan'), (INF, '+inf'), (MINUS_INF, '-inf'), (ZERO, '0e0'), (MINUS_ZERO, '-0e0'))
+gives_lines((NAN, 'nan'), (INF, '+inf'), (MINUS_INF, '-inf'), (ZERO, '0e0'), (MINUS_ZERO, '-0e0'), (whole(15), '1.5e1'))
 gives_lines((int_(0), '0'), (int_(-1), '-1'), (int_(2**63 - 1), '9223372036854775807'), (int_(-2**63), '-9223372036854775808'))
 # "e over 0, digits, `d`, e; e below 0 and p over 0, point after p digits; p from -5 to 0, `0.`, -p zeros, digits"
 gives_lines((dec(12, 3), '12d3'), (minus(12, 2**31 - 1), '-12d2147483647'), (dec(1234, -2), '12.34'), (minus(1234, -4), '-0.1234'),
@@ -254,7 +254,7 @@ for v in (NULL, TRUE, int_(1), NAN, dec(1, 1), at(0), sym('ab'), sid(1), string(
 refuses(2, trailed(sized(8, b'ab', 3), 1), trailed(sized(10, node(TRUE), 3), 1), trailed(sized(10, node(TRUE), 1), 1),
         trailed(sized(9, b'', 2**32 - 1), 1), trailed(sized(12, b'', 2**32 - 5), 1), layouts=(PRETTY,))
 refuses(2, trailed(b'', 1), trailed(node(TRUE), 0), trailed(node(TRUE), 2), trailed(node(TRUE) * 3, 2), trailed(node(TRUE), 2**32 - 1))
-# 4: "nonzero finite float"
+# 4: "nonzero finite float"; 02, A8: "only for other finite floats"
 refuses(4, tape([ONE_AND_A_HALF]), tape([int_(1), LEAST]), tape([list_(struct_(('a', GREATEST)))]), tape([notes(LEAST, sid(1))]))
 # 5: "streaming: a kind 13"
 refuses(5, tape([notes(TRUE, sym('a'))]), tape([int_(1), list_(struct_(('a', notes(TRUE, *[sid(0)] * 16))))]))

@@ -68,7 +68,7 @@ enum { ION_TAPE_MAX = 1048576 };
      then the first node at fault in tape order, and at that node
      ION_BAD_NODE       it is not as the tape's layout has it
      ION_TOO_DEEP       it is a container that opens while 64 are open
-     ION_FINITE_FLOAT   it is a float that is finite and not zero
+     ION_FINITE_FLOAT   it is a float that is finite and no whole number of magnitude up to 2^53
      and with every node in order
      ION_BAD_NODE       the trailer's number of top-level nodes is wrong
      ION_UNSUITED       an annotated value stands somewhere

@@ -49,13 +49,13 @@ static void check(const char *what, int64_t answer, int64_t due, size_t n, const
 /* A call's tape or text: a literal without its closing 0. */
 #define BYTES(s) (const uint8_t *)(s), sizeof(s) - 1
 
-/* Tapes: no value; [true]; a::true; the string of U+0001; two bools where one is counted; 1.0; a broken bool. */
+/* Tapes: no value; [true]; a::true; the string of U+0001; two bools where one is counted; 1.5; a broken bool. */
 #define EMPTY "\0\0\0\0\0\0\0\0"
 #define LIST "\12\2\0\0\0\1\1\7\0\0\0\1\0\0\0"
 #define NOTED "\15\1\6\1\0\0\0a\1\1\12\0\0\0\1\0\0\0"
 #define CONTROL "\10\1\0\0\0\1\6\0\0\0\1\0\0\0"
 #define MISCOUNTED "\1\1\1\1\4\0\0\0\1\0\0\0"
-#define FLOAT "\3\0\0\0\0\0\0\360\77\11\0\0\0\1\0\0\0"
+#define FLOAT "\3\0\0\0\0\0\0\370\77\11\0\0\0\1\0\0\0"
 #define BROKEN "\1\2\2\0\0\0\1\0\0\0"
 
 static void writers(void) {
@@ -74,7 +74,7 @@ static void writers(void) {
     check("the last layout, no tape", ion_write(UINT32_MAX, NULL, 0, out, ROOM), ION_NO_LAYOUT, ROOM, "", 0, KEPT);
     check("broken node", ion_write(ION_LINES, BYTES(BROKEN), out, ROOM), ION_BAD_NODE, ROOM, "", 0, KEPT);
     check("wrong count", ion_write(ION_LINES, BYTES(MISCOUNTED), out, ROOM), ION_BAD_NODE, ROOM, "", 0, KEPT);
-    check("1.0", ion_write(ION_LINES, BYTES(FLOAT), out, ROOM), ION_FINITE_FLOAT, ROOM, "", 0, KEPT);
+    check("1.5", ion_write(ION_LINES, BYTES(FLOAT), out, ROOM), ION_FINITE_FLOAT, ROOM, "", 0, KEPT);
     check("annotated", ion_write(ION_LINES, BYTES(NOTED), out, ROOM), ION_UNSUITED, ROOM, "", 0, KEPT);
 
     check("tree: annotated", ion_write_tree(BYTES(NOTED), out, ROOM), 7, ROOM, "a::true", 7, KEPT);
@@ -96,7 +96,7 @@ static void lengths(void) {
     check("length: layout 3, no tape", ion_length(3, NULL, 0), ION_NO_LAYOUT, 0, "", 0, KEPT);
     check("length: broken node", ion_length(ION_LINES, BYTES(BROKEN)), ION_BAD_NODE, 0, "", 0, KEPT);
     check("length: wrong count", ion_length(ION_LINES, BYTES(MISCOUNTED)), ION_BAD_NODE, 0, "", 0, KEPT);
-    check("length: 1.0", ion_length(ION_LINES, BYTES(FLOAT)), ION_FINITE_FLOAT, 0, "", 0, KEPT);
+    check("length: 1.5", ion_length(ION_LINES, BYTES(FLOAT)), ION_FINITE_FLOAT, 0, "", 0, KEPT);
     check("length: annotated", ion_length(ION_LINES, BYTES(NOTED)), ION_UNSUITED, 0, "", 0, KEPT);
     check("tree length: annotated", ion_tree_length(BYTES(NOTED)), 7, 0, "", 0, KEPT);
     check("tree length: [true]", ion_tree_length(BYTES(LIST)), 6, 0, "", 0, KEPT);
@@ -167,7 +167,7 @@ static void index_calls(void) {
     check_index("index: a tape cut short", ion_index((const uint8_t *)PASS, sizeof PASS - 2, 0, entries, ENTRIES), ION_MISFIT, NULL);
     check_index("index: broken node", ion_index(BYTES(BROKEN), 99, NULL, 0), ION_BAD_NODE, NULL);
     check_index("index: wrong count", ion_index(BYTES(MISCOUNTED), 99, NULL, 0), ION_BAD_NODE, NULL);
-    check_index("index: 1.0", ion_index(BYTES(FLOAT), 99, NULL, 0), ION_FINITE_FLOAT, NULL);
+    check_index("index: 1.5", ion_index(BYTES(FLOAT), 99, NULL, 0), ION_FINITE_FLOAT, NULL);
 }
 
 /* {'': true} */

@@ -15,7 +15,7 @@ pub enum Refusal {
     BadNode,
     /// 3: a container opens while 64 are open.
     TooDeep,
-    /// 4: a float is finite and not zero.
+    /// 4: a float is finite and no whole number of magnitude up to 2^53.
     FiniteFloat,
     /// 5: the tape has no text of this kind. Streaming: it has an annotated value. Tree text: it is not one value (but a marker, none or
     /// several), or a symbol identifier but 0 stands in it.
@@ -74,7 +74,7 @@ impl Refusal {
             Refusal::Misfit => "the tape's length is under 8, over 1048576 or not what its trailer says",
             Refusal::BadNode => "a node of the tape is broken, or the number of top-level nodes is wrong",
             Refusal::TooDeep => "more than 64 containers are open together",
-            Refusal::FiniteFloat => "a float is finite and not zero",
+            Refusal::FiniteFloat => "a float is finite and no whole number of magnitude up to 2^53",
             Refusal::Unsuited => "the tape has no text of this kind",
             Refusal::TextTooLong => "the text is longer than the buffer",
             Refusal::NoLayout => "there is no such layout",

@@ -16,15 +16,16 @@ use Rattle.text_rules.specs.declared.words.Kind.{Kind}
 use Rattle.text_rules.specs.declared.words.Kind.the-variants.{Null, True, False, Nan, Marker, Number, Text, Refused}
 use Rattle.tokens.specs.Quoted.{string, clob}
 use Rattle.tokens.specs.Blob.{blob}
-use Rattle.tokens.specs.Token.{symbol, nullBehind, float}
-use Rattle.tokens.proofs.Shorter.{Left, unread, fewer, left-more, left-all, left-if, left-then, left-after, left-on, left-or, strip-long, word-some, string-left, clob-left, blob-left, symbol-left, null-left, float-left}
+use Rattle.tokens.specs.Token.{symbol, nullBehind}
+use Rattle.floats.specs.Float.{float}
+use Rattle.tokens.proofs.Shorter.{Left, unread, fewer, left-more, left-all, left-if, left-then, left-after, left-on, left-or, strip-long, word-some, string-left, clob-left, blob-left, symbol-left, null-left}
 use Rattle.numbers.specs.Numeral.{numeral}
 use Rattle.numbers.specs.TimestampRead.{timestamp}
 use Rattle.tape.specs.Tree.{Head, Node, Nodes}
 use Rattle.tape.specs.declared.Frame.{Frame}
 use Rattle.tape.specs.declared.Frame.the-variants.{Top, List as ListF, Sexp, Struct}
 use Rattle.reader.specs.Grammar.{taken, skip, opens, closes, comma, gap, note, notes, field, name, head, free, byKind, words, numeralNode, numbers, numeric, braces, scalar, within, headed, body, value, sequence, meaning}
-use Rattle.reader.proofs.Shorter.{timestamp-left, numeral-left}
+use Rattle.reader.proofs.Shorter.{timestamp-left, numeral-left, float-left}
 use Rattle.reader.proofs.Reading.{opens-some, body-nest, body-deep, body-scalar, body-nothing, value-headless, value-head, sequence-end, further, further-none, further-some, sequence-child}
 
 -- ---- how much of a text is left behind a rule: a value takes a byte at least

@@ -1,7 +1,7 @@
--- A written number is taken for no other token. Floats, timestamps, ints and decimals are told apart by the digits that they start with
--- and the byte behind these. Assumes nothing.
+-- A written number is taken for no other token. Timestamps, ints and decimals are told apart by the digits that they start with and the byte
+-- behind these; that none of them is a float stands in `floats` (FloatApart). Assumes nothing.
 use Prim.Native.Nat.{ℕ, zero, suc, _+_, _-_, _*_, _≤_}
-use mathlib.Core.Path.{_≡_, refl, ap, _∙_}
+use mathlib.Core.Path.{_≡_, refl}
 use mathlib.Core.List.{List, [], _∷_, _++_, append-assoc}
 use mathlib.Core.Bool.{Bool, true, false}
 use mathlib.Core.Option.{Option, none, some}
@@ -10,11 +10,9 @@ use lib.Dec.{eqb, leb, ltb}
 use lib.IntN.{ℤ, pos, negsuc}
 use lib.ListN.{length, take, drop, replicate, length-take}
 use borrow.Author.Tests.{ltb-true}
-use Rattle.output.specs.Logic.{if, then, byte, ascii}
+use Rattle.output.specs.Logic.{if, then, byte}
 use Rattle.text_rules.specs.Digits.{isDigit, digits, pad}
-use Rattle.text_rules.specs.Texts.{starts, strip, same, ended, delimiter, blank}
-use Rattle.text_rules.specs.Words.{isPart, word}
-use Rattle.tokens.specs.Token.{nanWord, spelled, float}
+use Rattle.text_rules.specs.Texts.{starts, ended, delimiter, blank}
 use Rattle.numbers.specs.Decimal.{intText, pointed, scientific, above, below, form, sign, decimalText}
 use Rattle.numbers.specs.declared.timestamp.Timestamp.{Timestamp}
 use Rattle.numbers.specs.Timestamp.{timestampText, yearAndMonth, date, dateHourAndMinute}
@@ -27,23 +25,22 @@ use Rattle.claims.proofs.FirstBytes.{First, other}
 
 -- ---- digits, and what stands behind them
 
--- a sign or none, digits, and a byte behind them that is no `e`
+-- a sign or none, and a digit
 pub record Number (t : List ℕ) : Type 0 where
   pub neg : Bool
   pub first : ℕ
   pub rest : List ℕ
   pub is : t ≡ sign neg ++ (first ∷ rest)
   pub digit : isDigit first ≡ true
-  pub no-e : starts (byte "e") rest ≡ false
 
 digits-not : (b : ℕ) (w u : List ℕ) → isDigit b ≡ false → Digits w → starts b u ≡ false → starts b (w ++ u) ≡ false
 unfolding starts
 digits-not b [] u h d e = e
 digits-not b (c ∷ w) u h d e = other isDigit c b (d .0) h
 
-made : (neg : Bool) (w u : List ℕ) → Digits w → 1 ≤ length w → starts (byte "e") u ≡ false → Number (sign neg ++ (w ++ u))
-made neg [] u d l e = absurd (omega arith)
-made neg (c ∷ w) u d l e = record { neg = neg; first = c; rest = w ++ u; is = refl; digit = d .0; no-e = digits-not (byte "e") w u (unfold isDigit in refl) (d .1) e }
+made : (neg : Bool) (w u : List ℕ) → Digits w → 1 ≤ length w → Number (sign neg ++ (w ++ u))
+made neg [] u d l = absurd (omega arith)
+made neg (c ∷ w) u d l = record { neg = neg; first = c; rest = w ++ u; is = refl; digit = d .0 }
 
 pub number-first : {t : List ℕ} → Number t → First numeric t
 number-first {t} n = go (n .neg) (n .is)
@@ -52,76 +49,32 @@ number-first {t} n = go (n .neg) (n .is)
     go true e = record { byte₀ = byte "-"; rest = n .first ∷ n .rest; is = unfold sign in e; tells = unfold numeric isDigit in refl }
     go false e = record { byte₀ = n .first; rest = n .rest; is = unfold sign in e; tells = unfold numeric in rw (n .digit) }
 
--- ---- no float
-
-strip-none : (b : ℕ) (w t : List ℕ) → starts b t ≡ false → strip (b ∷ w) t ≡ none
-unfolding strip starts
-strip-none b w [] h = refl
-strip-none b w (c ∷ t) h = rw h
-
-nan-none : (c : ℕ) (t : List ℕ) → eqb c (byte "n") ≡ false → nanWord (c ∷ t) ≡ none
-unfolding nanWord word
-nan-none c t h = rw (go (isPart c))
-  where
-    go : (b : Bool) → same (ascii "nan") (if b (c ∷ word t) []) ≡ false
-    go true = unfold same strip in rw h
-    go false = unfold same strip in refl
-
-if-none : {A : Type 0} (b : Bool) → _≡_ {A = Option A} (if b none none) none
-if-none true = refl
-if-none false = refl
-
-digit-float : (c : ℕ) (t : List ℕ) → isDigit c ≡ true → starts (byte "e") t ≡ false → float (c ∷ t) ≡ none
-unfolding float spelled strip isDigit
-digit-float c t h e =
-    rw (
-      nan-none c t (other isDigit c 110 h refl),
-      other isDigit c 43 h refl,
-      other isDigit c 45 h refl,
-      strip-none (byte "e") (ascii "0") t e,
-      if-none {A = List ℕ} (eqb c 48),
-    )
-
-minus-float : (c : ℕ) (t : List ℕ) → isDigit c ≡ true → starts (byte "e") t ≡ false → float (byte "-" ∷ c ∷ t) ≡ none
-unfolding float spelled strip isDigit
-minus-float c t h e =
-    rw (
-      nan-none 45 (c ∷ t) refl,
-      other isDigit c 105 h refl,
-      strip-none (byte "e") (ascii "0") t e,
-      if-none {A = List ℕ} (eqb c 48),
-    )
-
-pub number-float : {t : List ℕ} → Number t → float t ≡ none
-number-float {t} n = ap float (n .is) ∙ go (n .neg)
-  where
-    go : (b : Bool) → float (sign b ++ (n .first ∷ n .rest)) ≡ none
-    go true = unfold sign in minus-float (n .first) (n .rest) (n .digit) (n .no-e)
-    go false = unfold sign in digit-float (n .first) (n .rest) (n .digit) (n .no-e)
-
 -- ---- no timestamp
 
 -- what stands behind the digits of an int or a decimal
 pub record Behind (u : List ℕ) : Type 0 where
   pub no-digit : NoDigit u
-  pub no-e : starts (byte "e") u ≡ false
   pub no-t : starts (byte "T") u ≡ false
   pub no-minus : starts (byte "-") u ≡ false
 
 behind-point : (u : List ℕ) → Behind (byte "." ∷ u)
 unfolding isDigit starts
-behind-point u = record { no-digit = refl; no-e = refl; no-t = refl; no-minus = refl }
+behind-point u = record { no-digit = refl; no-t = refl; no-minus = refl }
 
 behind-d : (u : List ℕ) → Behind (byte "d" ∷ u)
 unfolding isDigit starts
-behind-d u = record { no-digit = refl; no-e = refl; no-t = refl; no-minus = refl }
+behind-d u = record { no-digit = refl; no-t = refl; no-minus = refl }
+
+-- what ends a token is none of the bytes that stand in one
+ended-not : (b : ℕ) (r : List ℕ) → ended r ≡ true → delimiter b ≡ false → starts b r ≡ false
+ended-not b [] h e = unfold starts in refl
+ended-not b (c ∷ r) h e = unfold starts in delimiter-not c b (unfold ended in h) e
 
 behind-ended : (r : List ℕ) → ended r ≡ true → Behind r
-behind-ended r h = record { no-digit = ended-no-digit r h; no-e = not-here (byte "e") r h (unfold delimiter blank in refl); no-t = not-here (byte "T") r h (unfold delimiter blank in refl); no-minus = not-here (byte "-") r h (unfold delimiter blank in refl) }
-  where
-    not-here : (b : ℕ) (r : List ℕ) → ended r ≡ true → delimiter b ≡ false → starts b r ≡ false
-    not-here b [] h e = unfold starts in refl
-    not-here b (c ∷ r) h e = unfold starts in delimiter-not c b (unfold ended in h) e
+behind-ended r h = record { no-digit = ended-no-digit r h; no-t = ended-not (byte "T") r h (unfold delimiter blank in refl); no-minus = ended-not (byte "-") r h (unfold delimiter blank in refl) }
+
+pub ended-no-e : (r : List ℕ) → ended r ≡ true → starts (byte "e") r ≡ false
+ended-no-e r h = ended-not (byte "e") r h (unfold delimiter blank in refl)
 
 -- four digits of a timestamp may stand there, but neither `T` nor a minus behind them
 abbrev NoYear : Option (ℕ × List ℕ) → Type 0
@@ -164,7 +117,7 @@ record Unsigned (t : List ℕ) : Type 0 where
   behind : Behind rest
 
 plain : (neg : Bool) (t : List ℕ) → Unsigned t → Plain (sign neg ++ t)
-plain neg t u = rw (u .is) record { number = made neg (u .ds) (u .rest) (u .all) (u .some-digit) (u .behind .no-e); no-timestamp = go neg }
+plain neg t u = rw (u .is) record { number = made neg (u .ds) (u .rest) (u .all) (u .some-digit); no-timestamp = go neg }
   where
     go : (b : Bool) → timestamp (sign b ++ (u .ds ++ u .rest)) ≡ none
     go true = unfold sign in minus-timestamp (u .ds ++ u .rest)
@@ -245,8 +198,8 @@ decimal-plain neg m e r =
 record Dated (r t : List ℕ) : Type 0 where
   number : Number (t ++ r)
 
-year-dated : (y : ℕ) (u r : List ℕ) → starts (byte "e") (u ++ r) ≡ false → Dated r (pad 4 y ++ u)
-year-dated y u r e = record { number = rw (append-assoc (pad 4 y) u r) (unfold sign in made false (pad 4 y) (u ++ r) (digits-pad 4 y) (omega (arith, length-pad 4 y)) e) }
+year-dated : (y : ℕ) (u r : List ℕ) → Dated r (pad 4 y ++ u)
+year-dated y u r = record { number = rw (append-assoc (pad 4 y) u r) (unfold sign in made false (pad 4 y) (u ++ r) (digits-pad 4 y) (omega (arith, length-pad 4 y))) }
 
 pick : {r s t : List ℕ} (b : Bool) → Dated r s → Dated r t → Dated r (if b s t)
 pick true n o = n
@@ -255,11 +208,11 @@ pick false n o = o
 timestamp-dated : (x : Timestamp) (r : List ℕ) → Dated r (timestampText x)
 unfolding timestampText yearAndMonth date dateHourAndMinute starts
 timestamp-dated x r =
-    pick (eqb (x .precision) 0) (year-dated (x .year) _ r refl)
-    (pick (eqb (x .precision) 1) (simp append-assoc (year-dated (x .year) _ r refl))
-    (pick (eqb (x .precision) 2) (simp append-assoc (year-dated (x .year) _ r refl))
-    (pick (eqb (x .precision) 3) (simp append-assoc (year-dated (x .year) _ r refl))
-    (simp append-assoc (year-dated (x .year) _ r refl)))))
+    pick (eqb (x .precision) 0) (year-dated (x .year) _ r)
+    (pick (eqb (x .precision) 1) (simp append-assoc (year-dated (x .year) _ r))
+    (pick (eqb (x .precision) 2) (simp append-assoc (year-dated (x .year) _ r))
+    (pick (eqb (x .precision) 3) (simp append-assoc (year-dated (x .year) _ r))
+    (simp append-assoc (year-dated (x .year) _ r)))))
 
 pub timestamp-number : (x : Timestamp) (r : List ℕ) → Number (timestampText x ++ r)
 timestamp-number x r = timestamp-dated x r .number

@@ -1,14 +1,14 @@
 -- A scalar that is written is read back, whatever stands behind it that ends a token. Assumes nothing.
 use Prim.Native.Nat.{ℕ, zero, suc, _≤_, _<_, _^_}
 use mathlib.Core.Path.{_≡_, refl, sym, ap, _∙_}
-use mathlib.Core.List.{List, [], _∷_, _++_}
+use mathlib.Core.List.{List, [], _∷_, _++_, append-nil}
 use mathlib.Core.Bool.{Bool, true, false}
 use mathlib.Core.Option.{Option, none, some}
 use native.Mathlib.Omega.{arith}
 use lib.Dec.{eqb, T}
 use borrow.Author.Tests.{ne-eqb}
 use lib.IntN.{ℤ}
-use lib.Ieee.{Float, nan, inf, fin, binary64, fits, toBits, isNan}
+use lib.Ieee.{Float, nan, inf, fin, binary64, fits}
 use lib.ListN.{length, drop, length-append}
 use mir.Syntax.{w32, w64}
 use mir.Val.{SFits}
@@ -18,21 +18,21 @@ use Rattle.text_rules.specs.Texts.{starts, strip, same, ended}
 use Rattle.text_rules.specs.Words.{isStart, isPart, word, behindWord, kindOf, isIdentifier, isKeyword, resemblesSymbolId, resemblesVersionMarker, version, allDigits}
 use Rattle.text_rules.specs.WordSteps.{isBare}
 use Rattle.text_rules.specs.Utf8.{valid}
-use Rattle.text_rules.specs.Text.{Sym, marked, symbolText, symbolIdText, stringText, clobText, blobText, typeName, nullText, boolText, bitsText, floatText}
+use Rattle.text_rules.specs.Text.{Sym, marked, symbolText, symbolIdText, stringText, clobText, blobText, typeName, nullText, boolText}
 use Rattle.text_rules.specs.declared.words.Kind.{Kind}
 use Rattle.text_rules.specs.declared.words.Kind.the-variants.{Null, True, False, Nan, Marker, Refused}
 use Rattle.tokens.specs.Quoted.{rawRule, string, clob}
 use Rattle.tokens.specs.Blob.{blob}
-use Rattle.tokens.specs.Token.{wordSymbol, bareSymbol, symbol, nullBehind, null as nullToken, float as floatToken}
-use Rattle.numbers.specs.Decimal.{intText, decimalText}
+use Rattle.tokens.specs.Token.{wordSymbol, bareSymbol, symbol, nullBehind, null as nullToken}
+use Rattle.numbers.specs.Decimal.{intText, sign, decimalText}
 use Rattle.numbers.specs.declared.timestamp.Timestamp.{Timestamp}
 use Rattle.numbers.specs.Timestamp.{timestampText, wellFormed}
-use Rattle.numbers.specs.Numeral.{numeral}
+use Rattle.numbers.specs.Numeral.{Numeral, numeral}
 use Rattle.numbers.specs.TimestampRead.{timestamp as timestampToken}
 use Rattle.tape.specs.Tree.{Scalar, Node}
 use Rattle.tape.specs.Tree.{null, bool, int, float, decimal, timestamp}
 use Rattle.tape.specs.Fine.{FineBytes, FineFloat, FineScalar}
-use Rattle.reader.specs.Grammar.{taken, opener, opens, byKind, words, numeralNode, numbers, numeric, braces, scalar}
+use Rattle.reader.specs.Grammar.{opener, opens, byKind, words, numeralNode, numbers, numeric, braces, scalar}
 use Rattle.writer.specs.Text.{symText, scalarText}
 use Rattle.text_rules.proofs.DigitLaws.{never}
 use Rattle.text_rules.proofs.WordsLaws.{kind-nothing}
@@ -44,11 +44,19 @@ use Rattle.tokens.proofs.WordsOther.{nan-kind}
 use Rattle.tokens.proofs.QuotedBack.{string-back}
 use Rattle.tokens.proofs.ClobBack.{clob-back}
 use Rattle.tokens.proofs.BlobBack.{blob-back, blob-unquoted}
-use Rattle.tokens.proofs.FloatBack.{float-back}
 use Rattle.numbers.proofs.DecimalBack.{decimal-back, int-back}
 use Rattle.numbers.proofs.TimestampBack.{timestamp-back}
-use Rattle.claims.proofs.FirstBytes.{First, first-more, first-long, first-as, other, leads, numeric-leads, numeric-start, start-leads, number-opens, word-opens, scalar-number, scalar-word}
-use Rattle.claims.proofs.NumbersApart.{Plain, number-first, number-float, int-plain, decimal-plain, timestamp-number}
+use Rattle.floats.specs.Whole.{mostWhole, wholeText, wholeNumber}
+use Rattle.floats.specs.Value.{isNegative}
+use Rattle.floats.proofs.WholeBack.{whole-back}
+use Rattle.floats.proofs.WholeOnce.{none-some, if-some}
+use Rattle.floats.specs.Float.{floatText, float as floatToken}
+use Rattle.floats.proofs.ValueLaws.{is-whole}
+use Rattle.floats.proofs.FloatLaws.{whole-text}
+use Rattle.floats.proofs.FloatBack.{float-back}
+use Rattle.floats.proofs.FloatApart.{timestamp-float, numeral-float}
+use Rattle.claims.proofs.FirstBytes.{First, first-more, first-is, first-long, first-as, other, leads, numeric-leads, numeric-start, start-leads, number-opens, word-opens, scalar-number, scalar-word}
+use Rattle.claims.proofs.NumbersApart.{Plain, number-first, ended-no-e, int-plain, decimal-plain, timestamp-number}
 
 -- ---- words
 
@@ -274,19 +282,20 @@ module _ (old : Bool) where
 
   -- ---- numbers
 
-  plain-number : (t : List ℕ) → Plain t → numbers t ≡ taken numeralNode (numeral t)
+  -- an int or a decimal that was read up to a token's end is no float
+  plain-number : (t r : List ℕ) (v : Numeral) → Plain t → numeral t ≡ some (v, r) → ended r ≡ true → numbers t ≡ some (numeralNode v, r)
   unfolding numbers
-  plain-number t p = rw (number-float (p .number), p .no-timestamp)
+  plain-number t r v p h e = rw (numeral-float t v r h (ended-no-e r e), p .no-timestamp, h)
 
   int-told : (m : Bool) (n : ℤ) (r : List ℕ) → SFits w64 n → ended r ≡ true → Told m (int n) (intText n) r
   int-told m n r h e =
       let p = int-plain n r e in
-      number-told m (int n) (intText n) r (number-first (p .number)) (plain-number (intText n ++ r) p ∙ ap (taken numeralNode) (int-back n r h e))
+      number-told m (int n) (intText n) r (number-first (p .number)) (plain-number (intText n ++ r) r (Numeral.int n) p (int-back n r h e) e)
 
   decimal-told : (m neg : Bool) (k : ℕ) (x : ℤ) (r : List ℕ) → k < 2 ^ 64 → SFits w32 x → ended r ≡ true → Told m (decimal neg k x) (decimalText neg k x) r
   decimal-told m neg k x r h f e =
       let p = decimal-plain neg k x r in
-      number-told m (decimal neg k x) (decimalText neg k x) r (number-first (p .number)) (plain-number (decimalText neg k x ++ r) p ∙ ap (taken numeralNode) (decimal-back neg k x r h f e))
+      number-told m (decimal neg k x) (decimalText neg k x) r (number-first (p .number)) (plain-number (decimalText neg k x ++ r) r (Numeral.decimal neg k x) p (decimal-back neg k x r h f e) e)
 
   timestamp-number-back : (x : Timestamp) (t r : List ℕ) → floatToken t ≡ none → timestampToken t ≡ some (x, r) → numbers t ≡ some (Node.scalar (timestamp x), r)
   unfolding numbers
@@ -294,14 +303,14 @@ module _ (old : Bool) where
 
   timestamp-told : (m : Bool) (x : Timestamp) (r : List ℕ) → wellFormed x ≡ true → ended r ≡ true → Told m (timestamp x) (timestampText x) r
   timestamp-told m x r h e =
-      let n = timestamp-number x r in
-      number-told m (timestamp x) (timestampText x) r (number-first n) (timestamp-number-back x (timestampText x ++ r) r (number-float n) (timestamp-back x r h e))
+      let b = timestamp-back x r h e in
+      number-told m (timestamp x) (timestampText x) r (number-first (timestamp-number x r)) (timestamp-number-back x (timestampText x ++ r) r (timestamp-float (timestampText x ++ r) x r b) b)
 
   float-number : (x : Float) (t r : List ℕ) → floatToken t ≡ some (x, r) → numbers t ≡ some (Node.scalar (float x), r)
   unfolding numbers
   float-number x t r h = rw h
 
-  -- the infinities and the zeros, by computation
+  -- a float but nan
   record Spelled (x : Float) : Type 0 where
     fits-here : T (fits binary64 x)
     starts-so : First numeric (floatText x)
@@ -313,22 +322,36 @@ module _ (old : Bool) where
       full : p .starts-so .byte₀ ∷ p .starts-so .rest ≡ [] → ⊥
       full q = let z : _≡_ {A = ℕ} 0 1 = cc in omega arith
 
-  four-spelled : (x : Float) → FineFloat x → isNan x ≡ false → Spelled x
-  unfolding floatText bitsText isNan toBits numeric isDigit fits
-  four-spelled nan h q = never q
-  four-spelled (inf true) h q = record { fits-here = tt; starts-so = record { byte₀ = byte "-"; rest = ascii "inf"; is = refl; tells = refl } }
-  four-spelled (inf false) h q = record { fits-here = tt; starts-so = record { byte₀ = byte "+"; rest = ascii "inf"; is = refl; tells = refl } }
-  four-spelled (fin true k d) h q = rw (h .0, h .1) record { fits-here = tt; starts-so = record { byte₀ = byte "-"; rest = ascii "0e0"; is = refl; tells = refl } }
-  four-spelled (fin false k d) h q = rw (h .0, h .1) record { fits-here = tt; starts-so = record { byte₀ = byte "0"; rest = ascii "e0"; is = refl; tells = refl } }
+  infinity-spelled : (s : Bool) → Spelled (inf s)
+  unfolding floatText numeric isDigit fits
+  infinity-spelled true = record { fits-here = tt; starts-so = record { byte₀ = byte "-"; rest = ascii "inf"; is = refl; tells = refl } }
+  infinity-spelled false = record { fits-here = tt; starts-so = record { byte₀ = byte "+"; rest = ascii "inf"; is = refl; tells = refl } }
+
+  -- a whole number starts with a digit
+  digit-first : (t : List ℕ) (n : ℕ) (r : List ℕ) → wholeNumber t ≡ some (n, r) → First numeric t
+  unfolding wholeNumber numeric
+  digit-first [] n r e = none-some e
+  digit-first (c ∷ t) n r e = record { byte₀ = c; rest = t; is = refl; tells = rw (if-some (isDigit c) _ _ e .0) }
+
+  whole-first : (s : Bool) (n : ℕ) → n ≤ mostWhole → First numeric (sign s ++ wholeText n)
+  unfolding sign numeric isDigit
+  whole-first true n h = record { byte₀ = byte "-"; rest = wholeText n; is = refl; tells = refl }
+  whole-first false n h = rw append-nil at (digit-first (wholeText n ++ []) n [] (whole-back n [] h (unfold ended in refl)))
+
+  whole-spelled : (s : Bool) (k : ℕ) (d : ℤ) → FineFloat (fin s k d) → Spelled (fin s k d)
+  whole-spelled s k d h =
+      let w = is-whole (fin s k d) (h .0) (h .1) in
+      let neg = isNegative (fin s k d) in
+      record { fits-here = h .0; starts-so = first-is (ap floatText (w .3) ∙ whole-text neg (w .0) (w .1)) (whole-first neg (w .0) (w .1)) }
 
   nan-told : (m : Bool) (r : List ℕ) → ended r ≡ true → Told m (float nan) (floatText nan) r
-  unfolding floatText isNan
+  unfolding floatText
   nan-told m r e = keyword-told m (float nan) (ascii "nan") r Nan nan-is e refl (λ w. refl)
 
   float-told : (m : Bool) (x : Float) (r : List ℕ) → FineFloat x → ended r ≡ true → Told m (float x) (floatText x) r
   float-told m nan r h e = nan-told m r e
-  float-told m (inf s) r h e = spelled-told m (inf s) r (four-spelled (inf s) h (unfold isNan in refl)) e
-  float-told m (fin s k d) r h e = spelled-told m (fin s k d) r (four-spelled (fin s k d) h (unfold isNan in refl)) e
+  float-told m (inf s) r h e = spelled-told m (inf s) r (infinity-spelled s) e
+  float-told m (fin s k d) r h e = spelled-told m (fin s k d) r (whole-spelled s k d h) e
 
   -- ---- every scalar
 

@@ -7,13 +7,13 @@ use mathlib.Core.Option.{Option, none, some}
 use native.Mathlib.Omega.{arith}
 use native.Mathlib.Decide.{decLt}
 use lib.Dec.{leb, ltb}
-use lib.Ieee.{binary64, ofBits}
+use lib.Ieee.{Float, nan, inf, fin}
 use lib.ListN.{length, drop, length-append}
 use borrow.Author.Tests.{leb-true, ltb-true, lt-leb, le-leb, ne-eqb, le-ltb}
 use Rattle.output.specs.Logic.{if, then, or, byte, ascii}
 use Rattle.output.specs.Wrote.{leBytes}
 use Rattle.text_rules.specs.Digits.{isDigit, number, whole}
-use Rattle.text_rules.specs.Texts.{starts, strip, same}
+use Rattle.text_rules.specs.Texts.{starts, same}
 use Rattle.text_rules.specs.Words.{isStart, isPart, word, behindWord, isIdentifier, resemblesVersionMarker, resemblesSymbolId, symbolId, kindOf}
 use Rattle.text_rules.specs.Utf8.{leadOf, isCont, ok2, ok3, ok4}
 use Rattle.text_rules.specs.Text.{Sym}
@@ -21,10 +21,12 @@ use Rattle.text_rules.specs.declared.words.Kind.{Kind}
 use Rattle.text_rules.specs.declared.words.Kind.the-variants.{Null, True, False, Nan, Marker, Number, Text, Refused}
 use Rattle.tokens.specs.Quoted.{character, quoted, string, clob}
 use Rattle.tokens.specs.Blob.{blob}
-use Rattle.tokens.specs.Token.{wordSymbol, bareSymbol, quotedSymbol, symbol, typeOf, nullBehind, nanWord, spelled, float}
+use Rattle.tokens.specs.Token.{wordSymbol, bareSymbol, quotedSymbol, symbol, typeOf, nullBehind}
 use Rattle.numbers.specs.Timestamp.{wellFormed}
 use Rattle.numbers.specs.Numeral.{Numeral, numeral}
 use Rattle.numbers.specs.TimestampRead.{timestamp}
+use Rattle.floats.specs.Float.{float}
+use Rattle.floats.proofs.FloatOnce.{float-once, float-whole}
 use Rattle.tape.specs.Tree.{Scalar, sized, encodeSym, encodeScalar}
 use Rattle.tape.specs.Fine.{Bytes, FineText, FineFloat, FineScalar}
 use Rattle.reader.specs.Grammar.{taken}
@@ -285,17 +287,14 @@ null-got t = if-all (Got (λ k. k ≤ 12)) {b = starts (byte ".") t} (λ _. go (
     go none h = got-none
     go (some k) h = got h
 
-spelled-got : (w : List ℕ) (bits : ℕ) (t : List ℕ) → FineFloat (ofBits binary64 bits) → Got FineFloat (spelled w bits t)
-unfolding spelled
-spelled-got w bits t h = got-after FineFloat (strip w t) _ (λ r. got h)
-
+-- what a float's text means is well-formed
 pub float-got : (t : List ℕ) → Got FineFloat (float t)
-unfolding float nanWord ofBits
-float-got t =
-    got-or _ _ (if-all (Got FineFloat) {b = same (ascii "nan") (word t)} (λ _. got tt) (λ _. got-none))
-    (got-or _ _ (spelled-got (ascii "+inf") 0x7FF0_0000_0000_0000 t tt)
-    (got-or _ _ (spelled-got (ascii "-inf") 0xFFF0_0000_0000_0000 t tt)
-    (got-or _ _ (spelled-got (ascii "0e0") 0 t (refl, refl)) (spelled-got (ascii "-0e0") 0x8000_0000_0000_0000 t (refl, refl)))))
+float-got t = got-of FineFloat (float t) go
+  where
+    go : (x : Float) (r : List ℕ) → float t ≡ some (x, r) → FineFloat x
+    go nan r e = tt
+    go (inf s) r e = tt
+    go (fin s m d) r e = (float-once t (fin s m d) r e .1, float-whole t s m d r e)
 
 pub timestamp-got : (t : List ℕ) → Got (λ x. wellFormed x ≡ true) (timestamp t)
 timestamp-got t = got-of (λ x. wellFormed x ≡ true) (timestamp t) (timestamp-well t)

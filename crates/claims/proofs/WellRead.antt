@@ -18,7 +18,8 @@ use Rattle.text_rules.specs.declared.words.Kind.{Kind}
 use Rattle.text_rules.specs.declared.words.Kind.the-variants.{Null, True, False, Nan, Marker, Number, Text, Refused}
 use Rattle.tokens.specs.Quoted.{string, clob}
 use Rattle.tokens.specs.Blob.{blob}
-use Rattle.tokens.specs.Token.{symbol, nullBehind, float}
+use Rattle.tokens.specs.Token.{symbol, nullBehind}
+use Rattle.floats.specs.Float.{float}
 use Rattle.numbers.specs.Numeral.{Numeral, numeral}
 use Rattle.numbers.specs.Timestamp.{wellFormed}
 use Rattle.numbers.specs.TimestampRead.{timestamp}

@@ -14,21 +14,16 @@ use Rattle.tape.specs.declared.Frame.the-variants.{Top, List as ListF, Sexp, St
 use Rattle.reader.specs.Grammar.{skip, opener, closes, comma, gap, opens}
 use Rattle.converter.specs.Convert.{replaced, converted}
 use Rattle.converter.proofs.Bytes.{gone-same, Outside, plainByte, one-plain}
-use Rattle.converter.proofs.Texts.{Seen, found, other, seen, converted-nothing, converted-kept, converted-gone}
+use Rattle.converter.proofs.Texts.{converted-nothing, converted-kept, converted-gone, Seen, found, other, seen, behind-converted}
 use Rattle.converter.proofs.Image.{imageRest, choice, starts-converted, starting, strip-converted}
 
-blanks : Outside blank
+pub blanks : Outside blank
 unfolding blank
 blanks = record { gone = gone-same blank (λ c. false) refl; slash = refl }
 
 pub skip-converted : (t : List ℕ) → skip (converted t) ≡ converted (skip t)
 unfolding skip
-skip-converted [] = rw converted-nothing
-skip-converted (c ∷ t) = go (seen blanks c t) (skip-converted t)
-  where
-    go : Seen blank c t → skip (converted t) ≡ converted (skip t) → skip (converted (c ∷ t)) ≡ converted (if (blank c) (skip t) (c ∷ t))
-    go (found e i) again = rw (i, e) again
-    go (other e d u k i) again = rw (e, i, k)
+skip-converted = behind-converted blanks skip refl (λ c t. refl)
 
 pub closes-converted : (k : Frame) (t : List ℕ) → closes k (converted t) ≡ imageRest (closes k t)
 unfolding closes

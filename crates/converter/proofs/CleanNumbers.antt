@@ -1,34 +1,23 @@
 -- The rules of numbers take clean bytes alone: ints, decimals and timestamps. Assumes nothing.
 use Prim.Native.Nat.{ℕ, zero, suc, _+_, _-_, _*_, _^_}
 use lib.IntN.{ℤ, pos}
-use mathlib.Core.Path.{_≡_, refl}
+use mathlib.Core.Path.{refl}
 use mathlib.Core.Bool.{Bool, true, false, _&&_}
 use mathlib.Core.List.{List, [], _∷_}
 use lib.Dec.{eqb, leb, ltb}
 use lib.ListN.{length, drop}
 use Rattle.output.specs.Logic.{byte}
 use Rattle.text_rules.specs.Digits.{isDigit, run, behindDigits, number, whole}
-use Rattle.tokens.specs.Token.{float}
+use Rattle.floats.specs.Float.{float}
 use Rattle.numbers.specs.Numeral.{numeral, withSign, inI64, rangedInt, shifted, rangedDecimal, powerOf, behindD, behindPoint, behindWhole, unsigned}
 use Rattle.numbers.specs.Timestamp.{wellFormed}
 use Rattle.numbers.specs.TimestampRead.{joined, fixed, startsDigit, clock, checked, minutes, offsetOf, fractionOf, secondOf, timeOf, dayOf, behindMonth, behindYear, timestamp}
 use Rattle.numbers.specs.declared.timestamp.Timestamp.{Timestamp}
 use Rattle.reader.specs.Grammar.{numbers}
-use Rattle.converter.specs.Convert.{replaced, clean}
-use Rattle.converter.proofs.Bytes.{gone-same, kept}
-use Rattle.converter.proofs.CleanRules.{unread, passed, CleanRead, clean-behind, clean-if, clean-or, clean-then, clean-taken, clean-found, clean-class, clean-while, clean-starts}
-use Rattle.converter.proofs.CleanTokens.{float-clean}
-
--- ---- digits
-
-digit-kept : (c : ℕ) → isDigit c ≡ true → replaced c ≡ false
-unfolding isDigit
-digit-kept = kept {p = isDigit} (record { gone = gone-same isDigit (λ c. false) refl; slash = refl })
-
-digits-clean : (t : List ℕ) → clean (behindDigits t) ≡ true → clean t ≡ true
-unfolding behindDigits
-digits-clean [] e = e
-digits-clean (c ∷ t) e = clean-while c t (behindDigits t) (isDigit c) (digit-kept c) (digits-clean t) e
+use Rattle.converter.proofs.Bytes.{kept}
+use Rattle.converter.proofs.Digits.{decimals}
+use Rattle.converter.proofs.CleanRules.{unread, passed, CleanRead, clean-behind, clean-if, clean-or, clean-then, clean-taken, clean-found, clean-class, clean-starts, digits-clean}
+use Rattle.converter.proofs.CleanFloats.{float-clean}
 
 -- ---- ints and decimals
 
@@ -75,7 +64,7 @@ joined-clean : (a w : ℕ) (t : List ℕ) → CleanRead t (joined a w t)
 unfolding joined
 joined-clean a zero t = passed (λ e. e)
 joined-clean a (suc w) [] = unread
-joined-clean a (suc w) (c ∷ t) = clean-class (isDigit c) (digit-kept c) (joined-clean (a * 10 + (c - byte "0")) w t) unread
+joined-clean a (suc w) (c ∷ t) = clean-class (isDigit c) (kept decimals c) (joined-clean (a * 10 + (c - byte "0")) w t) unread
 
 clock-clean : (t : List ℕ) → CleanRead t (clock t)
 unfolding clock

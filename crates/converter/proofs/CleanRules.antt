@@ -10,12 +10,14 @@ use lib.ListN.{drop}
 use borrow.Author.Tests.{leb-true, eqb-true}
 use Rattle.output.specs.Logic.{if, then, on, or}
 use Rattle.output.proofs.Bools.{both}
+use Rattle.text_rules.specs.Digits.{behindDigits}
 use Rattle.text_rules.specs.Texts.{starts, strip}
 use Rattle.tokens.proofs.BlobChars.{clash}
 use Rattle.reader.specs.Grammar.{taken}
 use Rattle.converter.specs.Convert.{replaced, converted, clean}
-use Rattle.converter.proofs.Bytes.{high-kept, kept, plainByte, plain, one-plain}
+use Rattle.converter.proofs.Bytes.{high-kept, Outside, kept, plainByte, plain, one-plain}
 use Rattle.converter.proofs.Texts.{clean-same, converted-clean}
+use Rattle.converter.proofs.Digits.{decimals}
 
 -- what was found in the text t, if anything was: `rest` tells the text behind it, and what stands before that is clean
 pub data TakesClean {A : Type 0} (rest : A → List ℕ) (t : List ℕ) : Option A → Type 0 where
@@ -76,10 +78,14 @@ pub clean-class : {A : Type 0} {rest : A → List ℕ} {c : ℕ} {t : List ℕ} 
 clean-class {c = c} {t = t} true h k i = clean-behind (kept-clean c t (h refl)) k
 clean-class false h k i = i
 
--- the same in passing a class's bytes up to the first other
-pub clean-while : (c : ℕ) (t u : List ℕ) (b : Bool) → (b ≡ true → replaced c ≡ false) → (clean u ≡ true → clean t ≡ true) → clean (if b u (c ∷ t)) ≡ true → clean (c ∷ t) ≡ true
-clean-while c t u true h k e = kept-clean c t (h refl) (k e)
-clean-while c t u false h k e = e
+-- f passes the bytes of a class that a text starts with
+pub behind-clean : {p : ℕ → Bool} → Outside p → (f : List ℕ → List ℕ) → ((c : ℕ) (t : List ℕ) → f (c ∷ t) ≡ if (p c) (f t) (c ∷ t)) → (t : List ℕ) → clean (f t) ≡ true → clean t ≡ true
+behind-clean o f s [] e = unfold clean in refl
+behind-clean {p} o f s (c ∷ t) e = go (p c) refl (ap clean (sym (s c t)) ∙ e) (behind-clean o f s t)
+  where
+    go : (b : Bool) → p c ≡ b → clean (if b (f t) (c ∷ t)) ≡ true → (clean (f t) ≡ true → clean t ≡ true) → clean (c ∷ t) ≡ true
+    go true h i again = kept-clean c t (kept o c h) (again i)
+    go false h i again = i
 
 -- a byte that stands for something, as no replaced byte does
 pub clean-value : {A : Type 0} (g : ℕ → Option A) → ((c : ℕ) → replaced c ≡ true → g c ≡ none) → (c : ℕ) (t : List ℕ) → TakesClean (λ _. t) (c ∷ t) (g c)
@@ -107,3 +113,9 @@ strip-clean (b ∷ w) h (c ∷ t) =
 
 pub own-clean : (t w r : List ℕ) → t ≡ w ++ r → converted t ≡ w ++ converted r → clean r ≡ true → clean t ≡ true
 own-clean t w r e i h = subst (λ u. clean u ≡ true) (i ∙ ap (λ (u : List ℕ). w ++ u) (clean-same r h) ∙ sym e) (converted-clean t)
+
+-- ---- digits
+
+pub digits-clean : (t : List ℕ) → clean (behindDigits t) ≡ true → clean t ≡ true
+unfolding behindDigits
+digits-clean = behind-clean decimals behindDigits (λ c t. refl)

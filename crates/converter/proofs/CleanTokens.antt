@@ -1,4 +1,4 @@
--- The rules of tokens take clean bytes alone: quoted text by Ion's raw rule, clobs, blobs, bare words, nulls and floats. Assumes nothing.
+-- The rules of tokens take clean bytes alone: quoted text by Ion's raw rule, clobs, blobs, bare words and nulls. Assumes nothing.
 use Prim.Native.Nat.{ℕ, zero, suc, _+_, _*_}
 use mathlib.Core.Path.{_≡_, refl, sym, ap, _∙_}
 use mathlib.Core.Bool.{Bool, true, false, _&&_}
@@ -9,9 +9,8 @@ use lib.ListN.{length, take, drop, take-append-drop}
 use borrow.Author.Tests.{leb-true, not-true}
 use Rattle.output.specs.Logic.{if, byte, ascii}
 use Rattle.output.proofs.Bools.{both}
-use Rattle.text_rules.specs.Digits.{isDigit}
 use Rattle.text_rules.specs.Texts.{starts, strip, same}
-use Rattle.text_rules.specs.Words.{isStart, isPart, word, behindWord, kindOf}
+use Rattle.text_rules.specs.Words.{word, behindWord, kindOf}
 use Rattle.text_rules.specs.Text.{blobText}
 use Rattle.text_rules.specs.Utf8.{charAt, isScalar}
 use Rattle.text_rules.specs.Escapes.{letter, hexValue, hex}
@@ -19,17 +18,18 @@ use Rattle.text_rules.specs.declared.words.Kind.{Kind}
 use Rattle.text_rules.specs.declared.words.Kind.the-variants.{Null, True, False, Nan, Marker, Number, Text, Refused}
 use Rattle.tokens.specs.Quoted.{quote, scalarEscape, letterEscape, escape, oldRaw, strictRaw, raw, character, quoted, string, byteEscape, rawByte, clobByte, clobBytes, clob}
 use Rattle.tokens.specs.Blob.{blob}
-use Rattle.tokens.specs.Token.{wordSymbol, bareSymbol, quotedSymbol, symbol, typeOf, nullBehind, nanWord, spelled, float}
+use Rattle.tokens.specs.Token.{wordSymbol, bareSymbol, quotedSymbol, symbol, typeOf, nullBehind}
 use Rattle.tokens.proofs.BlobChars.{clash}
 use Rattle.tokens.proofs.BlobBack.{blob-once}
 use Rattle.tokens.proofs.QuotedMany.{Read, many, characters-many, clob-many}
 use Rattle.reader.specs.Grammar.{byKind, words, braces}
 use Rattle.converter.specs.Convert.{replaced, converted, clean}
-use Rattle.converter.proofs.Bytes.{gone-same, kept, high-kept, plain}
+use Rattle.converter.proofs.Bytes.{gone-same, high-kept}
 use Rattle.converter.proofs.Texts.{converted-kept}
+use Rattle.converter.proofs.Words.{parts}
 use Rattle.converter.proofs.Braces.{blob-carried}
 use Rattle.converter.proofs.Characters.{character-converted, character-same}
-use Rattle.converter.proofs.CleanRules.{unread, passed, CleanRead, CleanRest, clean-behind, clean-if, clean-or, clean-on, clean-then, clean-taken, clean-found, kept-clean, high-byte, clean-class, clean-while, clean-value, clean-starts, strip-clean, own-clean}
+use Rattle.converter.proofs.CleanRules.{unread, passed, CleanRead, CleanRest, clean-behind, clean-if, clean-on, clean-then, clean-taken, clean-found, kept-clean, high-byte, clean-class, behind-clean, clean-value, clean-starts, strip-clean, own-clean}
 
 -- ---- escapes
 
@@ -155,12 +155,11 @@ pub braces-clean : (t : List ℕ) → CleanRead t (braces t)
 unfolding braces
 braces-clean t = clean-if (starts (byte "\"") (drop 2 t)) (clean-taken _ (clob t) (clob-clean t)) (clean-taken _ (blob t) (blob-clean t))
 
--- ---- symbols, nulls and floats
+-- ---- symbols and nulls
 
-behind-word-clean : (t : List ℕ) → clean (behindWord t) ≡ true → clean t ≡ true
-unfolding behindWord isPart isStart isDigit
-behind-word-clean [] e = e
-behind-word-clean (c ∷ t) e = clean-while c t (behindWord t) (isPart c) (kept {p = isPart} (record { gone = gone-same isPart (λ c. false) refl; slash = refl }) c) (behind-word-clean t) e
+pub behind-word-clean : (t : List ℕ) → clean (behindWord t) ≡ true → clean t ≡ true
+unfolding behindWord
+behind-word-clean = behind-clean parts behindWord (λ c t. refl)
 
 pub symbol-clean : (t : List ℕ) → CleanRead t (symbol strictRaw t)
 unfolding symbol quotedSymbol bareSymbol
@@ -171,18 +170,6 @@ symbol-clean t =
 null-clean : (t : List ℕ) → CleanRead t (nullBehind t)
 unfolding nullBehind
 null-clean t = clean-starts (byte ".") refl t (clean-then (typeOf (word (drop 1 t))) _ (clean-found _) (λ k. passed (behind-word-clean (drop 1 t)))) (passed (λ e. e))
-
-spelled-clean : (w : List ℕ) → plain w ≡ true → (bits : ℕ) (t : List ℕ) → CleanRead t (spelled w bits t)
-unfolding spelled
-spelled-clean w h bits t = clean-then (strip w t) _ (strip-clean w h t) (λ r. passed (λ e. e))
-
-pub float-clean : (t : List ℕ) → CleanRead t (float t)
-unfolding float nanWord
-float-clean t =
-    clean-or _ _ (clean-if (same (ascii "nan") (word t)) (passed (behind-word-clean t)) unread)
-    (clean-or _ _ (spelled-clean (ascii "+inf") refl 0x7FF0_0000_0000_0000 t)
-    (clean-or _ _ (spelled-clean (ascii "-inf") refl 0xFFF0_0000_0000_0000 t)
-    (clean-or _ _ (spelled-clean (ascii "0e0") refl 0 t) (spelled-clean (ascii "-0e0") refl 0x8000_0000_0000_0000 t))))
 
 pub words-clean : (m : Bool) (t : List ℕ) → CleanRead t (words m t)
 unfolding words

@@ -4,6 +4,8 @@ pub mod Steps
 pub mod Image
 pub mod Between
 pub mod Words
+pub mod Digits
+pub mod Floats
 pub mod Numbers
 pub mod Carried
 pub mod Escapes
@@ -14,6 +16,7 @@ pub mod Meaning
 pub mod Answers
 pub mod CleanRules
 pub mod CleanTokens
+pub mod CleanFloats
 pub mod CleanNumbers
 pub mod Strict
 pub mod Calls

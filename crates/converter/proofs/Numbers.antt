@@ -9,7 +9,7 @@ use lib.ListN.{length, drop}
 use lib.Dec.{eqb, leb, ltb}
 use Rattle.output.specs.Logic.{if, then, byte}
 use Rattle.text_rules.specs.Digits.{isDigit, run, behindDigits, number, whole}
-use Rattle.tokens.specs.Token.{float}
+use Rattle.floats.specs.Float.{float}
 use Rattle.numbers.specs.Numeral.{Numeral, numeral, withSign, inI64, rangedInt, shifted, rangedDecimal, powerOf, behindD, behindPoint, behindWhole, unsigned}
 use Rattle.numbers.specs.Timestamp.{wellFormed}
 use Rattle.numbers.specs.TimestampRead.{joined, fixed, startsDigit, clock, dated, zoned, west, checked, minutes, offsetOf, fractionOf, secondOf, timeOf, dayOf, behindMonth, behindYear, timestamp}
@@ -19,31 +19,8 @@ use Rattle.converter.specs.Convert.{converted}
 use Rattle.converter.proofs.Bytes.{gone-same, Outside}
 use Rattle.converter.proofs.Texts.{Seen, found, other, seen, converted-nothing}
 use Rattle.converter.proofs.Image.{image, image-then, image-found, image-or, image-taken, choice, starting}
-use Rattle.converter.proofs.Words.{float-converted}
-
--- ---- digits
-
-decimals : Outside isDigit
-unfolding isDigit
-decimals = record { gone = gone-same isDigit (λ c. false) refl; slash = refl }
-
-pub run-converted : (t : List ℕ) → run (converted t) ≡ run t
-unfolding run
-run-converted [] = rw converted-nothing
-run-converted (c ∷ t) = go (seen decimals c t) (run-converted t)
-  where
-    go : Seen isDigit c t → run (converted t) ≡ run t → run (converted (c ∷ t)) ≡ if (isDigit c) (c ∷ run t) []
-    go (found e i) again = rw (i, e, again)
-    go (other e d u k i) again = rw (i, e, k)
-
-pub behind-digits-converted : (t : List ℕ) → behindDigits (converted t) ≡ converted (behindDigits t)
-unfolding behindDigits
-behind-digits-converted [] = rw converted-nothing
-behind-digits-converted (c ∷ t) = go (seen decimals c t) (behind-digits-converted t)
-  where
-    go : Seen isDigit c t → behindDigits (converted t) ≡ converted (behindDigits t) → behindDigits (converted (c ∷ t)) ≡ converted (if (isDigit c) (behindDigits t) (c ∷ t))
-    go (found e i) again = rw (i, e) again
-    go (other e d u k i) again = rw (e, i, k)
+use Rattle.converter.proofs.Floats.{float-converted}
+use Rattle.converter.proofs.Digits.{decimals, run-converted, behind-digits-converted}
 
 -- ---- ints and decimals
 

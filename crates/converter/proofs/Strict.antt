@@ -17,19 +17,19 @@ use Rattle.tape.specs.declared.Frame.{Frame}
 use Rattle.tape.specs.declared.Frame.the-variants.{Top, List as ListF, Sexp, Struct}
 use Rattle.reader.specs.Grammar.{skip, opener, closes, comma, gap, free, numeric, opens, within, note, notes, field, name, head, scalar, headed, body, sequence, meaning}
 use Rattle.converter.specs.Convert.{converted, clean}
-use Rattle.converter.proofs.Bytes.{gone-same, kept}
+use Rattle.converter.proofs.Bytes.{gone-same}
 use Rattle.converter.proofs.Texts.{clean-same}
+use Rattle.converter.proofs.Between.{blanks}
 use Rattle.converter.proofs.Meaning.{clean-agrees}
-use Rattle.converter.proofs.CleanRules.{TakesClean, unread, passed, CleanRead, CleanRest, clean-behind, clean-if, clean-on, clean-then, clean-taken, clean-while, clean-value, clean-starts, strip-clean}
+use Rattle.converter.proofs.CleanRules.{TakesClean, unread, passed, CleanRead, CleanRest, clean-behind, clean-if, clean-on, clean-then, clean-taken, behind-clean, clean-value, clean-starts, strip-clean}
 use Rattle.converter.proofs.CleanTokens.{string-clean, symbol-clean, braces-clean, words-clean}
 use Rattle.converter.proofs.CleanNumbers.{numbers-clean}
 
 -- ---- between tokens
 
 skip-clean : (t : List ℕ) → clean (skip t) ≡ true → clean t ≡ true
-unfolding skip blank
-skip-clean [] e = e
-skip-clean (c ∷ t) e = clean-while c t (skip t) (blank c) (kept {p = blank} (record { gone = gone-same blank (λ c. false) refl; slash = refl }) c) (skip-clean t) e
+unfolding skip
+skip-clean = behind-clean blanks skip (λ c t. refl)
 
 comma-clean : (b : ℕ) (t : List ℕ) → CleanRest t (comma b t)
 unfolding comma

@@ -99,3 +99,23 @@ seen {p} o c t = go (replaced c) refl (p c) refl
     go true h d e = other (o .gone c h) (byte "\\") _ (o .slash) (converted-gone c t h)
     go false h true e = found e (converted-kept c t h)
     go false h false e = other e c (converted t) e (converted-kept c t h)
+
+-- ---- the bytes of a class that a text starts with
+
+-- f gives them
+pub front-converted : {p : ℕ → Bool} → Outside p → (f : List ℕ → List ℕ) → ((c : ℕ) (t : List ℕ) → f (c ∷ t) ≡ if (p c) (c ∷ f t) []) → (t : List ℕ) → f (converted t) ≡ f t
+front-converted o f s [] = ap f converted-nothing
+front-converted {p} o f s (c ∷ t) = go (seen o c t) (front-converted o f s t)
+  where
+    go : Seen p c t → f (converted t) ≡ f t → f (converted (c ∷ t)) ≡ f (c ∷ t)
+    go (found e i) again = rw (i, s c (converted t), s c t, e, again)
+    go (other e d u k i) again = rw (i, s d u, s c t, e, k)
+
+-- f gives the text behind them
+pub behind-converted : {p : ℕ → Bool} → Outside p → (f : List ℕ → List ℕ) → f [] ≡ [] → ((c : ℕ) (t : List ℕ) → f (c ∷ t) ≡ if (p c) (f t) (c ∷ t)) → (t : List ℕ) → f (converted t) ≡ converted (f t)
+behind-converted o f z s [] = rw (converted-nothing, z, converted-nothing)
+behind-converted {p} o f z s (c ∷ t) = go (seen o c t) (behind-converted o f z s t)
+  where
+    go : Seen p c t → f (converted t) ≡ converted (f t) → f (converted (c ∷ t)) ≡ converted (f (c ∷ t))
+    go (found e i) again = rw (i, s c (converted t), s c t, e) again
+    go (other e d u k i) again = rw (s c t, e, i, s d u, k)

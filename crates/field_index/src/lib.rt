@@ -32,7 +32,7 @@ pub enum Indexed {
     BadNode,
     // 3: a container opened while 64 are open
     TooDeep,
-    // 4: nonzero finite float
+    // 4: a finite float that is no whole number of magnitude up to 2^53
     FiniteFloat,
     // 11: no struct node has its kind byte at the offset
     NoStruct,

@@ -3,8 +3,13 @@ pub mod WholeLaws
 pub mod WholeBack
 pub mod WholeOnce
 pub mod WholeBytes
-pub mod WholeOther
 pub mod WholeExamples
 pub mod ValueLaws
 pub mod ValueBits
 pub mod ValueExamples
+pub mod FloatsBits
+pub mod FloatLaws
+pub mod FloatBack
+pub mod FloatOnce
+pub mod FloatApart
+pub mod FloatExamples

@@ -9,12 +9,12 @@ use native.Mathlib.Omega.{arith}
 use lib.Dec.{T, leb, eqb, eqb→eq, not-T, lit<, lit≤}
 use lib.Pow.{pow-add, pow-pos, pow-mono, shl-lt}
 use lib.Count.{leadingZeros, leading-top}
-use lib.Ieee.{Float, nan, inf, fin, binary64, top, odd, isNan, ofFields, ofBits, toBits}
-use lib.Ieee.Bits.{cond-no, ofBits-fits, toBits-ofBits}
+use lib.Ieee.{Float, nan, inf, fin, binary64, top, odd, isNan, ofFields, ofBits, toBits, nanBits}
+use lib.Ieee.Bits.{cond-no, nanBits-is, ofBits-fits, toBits-ofBits}
 use lib.Ieee.Exact.{HasValue, odd-sign}
 use Rattle.floats.specs.Whole.{mostWhole}
 use Rattle.floats.specs.Value.{wholeOf, upTo, magnitude, isNegative, wholeFloat}
-use Rattle.floats.proofs.ValueLaws.{cancel, magnitude-none, magnitude-some, nothing, whole-float}
+use Rattle.floats.proofs.ValueLaws.{cancel, whole-magnitude, magnitude-none, magnitude-some, nothing, whole-float, bits-back}
 
 -- ---- what the bits are read as
 
@@ -200,3 +200,8 @@ pattern b n h e =
     let s : isNegative x ≡ leb 0x8000_0000_0000_0000 b =
     ap isNegative (fields-of b) ∙ neg-fields (leb 0x8000_0000_0000_0000 b) (exponent b) (fraction b) (subst (λ (y : Float). T (not (isNan y))) (fields-of b) t) in
     sym (toBits-ofBits binary64 b h t) ∙ ap (toBits binary64) (whole-float x n (ofBits-fits binary64 b) e ∙ ap (λ (r : Bool). wholeFloat r n) s)
+
+-- and it is no NaN's
+pub whole-pattern : (s : Bool) (n : ℕ) → n ≤ mostWhole → T (not (nanBits binary64 (toBits binary64 (wholeFloat s n))))
+whole-pattern s n h =
+    subst (λ (b : Bool). T (not b)) (sym (nanBits-is binary64 (toBits binary64 (wholeFloat s n)) ∙ ap isNan (bits-back s n h))) (no-nan (wholeFloat s n) n (whole-magnitude s n h))

@@ -186,6 +186,10 @@ up-says (some k) n e = go (leb k mostWhole) refl
         (q, subst (λ (y : ℕ). y ≤ mostWhole) i (leb→le k mostWhole (subst T (sym h) tt)))
     go false h = absurd (nothing n (rw h at e))
 
+pub magnitude-most : (x : Float) (n : ℕ) → magnitude x ≡ some n → n ≤ mostWhole
+unfolding magnitude
+magnitude-most x n e = up-says (wholeOf x) n e .1
+
 value-of : (x : Float) (n : ℕ) → wholeOf x ≡ some n → HasValue x (isNegative x) n 1
 unfolding wholeOf isNegative
 value-of nan n e = absurd (nothing n e)

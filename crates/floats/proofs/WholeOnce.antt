@@ -2,7 +2,7 @@
 use mathlib.Core.Path.{_≡_, refl, sym, ap, _∙_}
 use mathlib.Core.Bool.{Bool, true, false, _&&_}
 use mathlib.Core.List.{List, [], _∷_, _++_, append-assoc}
-use mathlib.Core.Option.{none, some}
+use mathlib.Core.Option.{Option, none, some}
 use Prim.Native.Nat.{ℕ, suc, _+_, _-_, _*_, _%_, _^_, _≤_, _<_}
 use native.Mathlib.Omega.{arith}
 use lib.Dec.{eqb, leb}
@@ -21,8 +21,8 @@ use Rattle.floats.proofs.WholeBack.{text-of}
 abbrev Some : ReadWhole → ℕ → List ℕ → Type 0
 Some o n r = _≡_ {A = ReadWhole} o (some (n, r))
 
-none-some : {P : Type 0} {n : ℕ} {r : List ℕ} → Some none n r → P
-none-some h = never (sym (ap (λ (o : ReadWhole). on o (λ w. true) false) h))
+pub none-some : {A P : Type 0} {v : A} → _≡_ {A = Option A} none (some v) → P
+none-some {A} h = never (sym (ap (λ (o : Option A). on o (λ w. true) false) h))
 
 number-of : {n n′ : ℕ} {r r′ : List ℕ} → Some (some (n, r)) n′ r′ → n ≡ n′
 number-of h = ap (λ (o : ReadWhole). on o (λ v. v .0) 0) h
@@ -30,9 +30,9 @@ number-of h = ap (λ (o : ReadWhole). on o (λ v. v .0) 0) h
 rest-of : {n n′ : ℕ} {r r′ : List ℕ} → Some (some (n, r)) n′ r′ → r ≡ r′
 rest-of h = ap (λ (o : ReadWhole). on o (λ v. v .1) []) h
 
-if-some : (b : Bool) (o : ReadWhole) (n : ℕ) (r : List ℕ) → Some (if b o none) n r → (b ≡ true) × Some o n r
-if-some true o n r h = (refl, h)
-if-some false o n r h = none-some h
+pub if-some : {A : Type 0} (b : Bool) (o : Option A) (v : A) → if b o none ≡ some v → (b ≡ true) × (o ≡ some v)
+if-some true o v h = (refl, h)
+if-some false o v h = none-some h
 
 -- ---- the number
 
@@ -41,7 +41,7 @@ module _ {P : Type 0} (m f e n : ℕ) (r r′ : List ℕ) (zero-told : m ≡ 0 �
   ranged-told : 0 < m % 10 → Some (ranged m f e r) n r′ → P
   unfolding ranged
   ranged-told p h =
-      let g = if-some (leb f e && leb e 15 && leb (m * 10 ^ (e - f)) mostWhole) _ _ _ h in
+      let g = if-some (leb f e && leb e 15 && leb (m * 10 ^ (e - f)) mostWhole) _ _ h in
       let a = both (leb f e && leb e 15) (leb (m * 10 ^ (e - f)) mostWhole) (g .0) in
       let b = both (leb f e) (leb e 15) (a .0) in
       let i : m * 10 ^ (e - f) ≡ n = number-of (g .1) in
@@ -123,9 +123,9 @@ Once t n r = (t ≡ wholeText n ++ r) × (n ≤ mostWhole)
 all-once : (c : ℕ) (s t : List ℕ) (n : ℕ) (r : List ℕ) → Digits (c ∷ s) → Starts c s → Some (behindAll (number 0 (c ∷ s)) (length s) t) n r → Once (point (c ∷ s) ++ t) n r
 unfolding behindAll behindE
 all-once c s t n r d l h =
-    let g = if-some (starts (byte "e") t) _ _ _ h in
+    let g = if-some (starts (byte "e") t) _ _ h in
     let u = drop 1 t in
-    let k = if-some (unpadded (run u)) _ _ _ (g .1) in
+    let k = if-some (unpadded (run u)) _ _ (g .1) in
     let q = spelled c s (number 0 (run u)) n (behindDigits u) r d l (k .1) in
     let e : digits (number 0 (run u)) ≡ run u = digits-plain (run u) (digits-run u) (k .0) (q .small) in
     let i : t ≡ (byte "e" ∷ digits (number 0 (run u))) ++ r = starts-split (byte "e") t (g .0) ∙ ap (λ (v : List ℕ). byte "e" ∷ v) (run-split u) ∙ rw (e, q .rest) in
@@ -145,7 +145,7 @@ first-once c t n r d h = go (starts (byte ".") t) refl h
         → Some (if b (if (leb 1 (c - 48) && leb 1 (length (run (drop 1 t)))) (behindAll (number (c - 48) (run (drop 1 t))) (length (run (drop 1 t))) (behindDigits (drop 1 t))) none) (behindAll (c - 48) 0 t)) n r → Once (c ∷ t) n r
     go false e h = all-once c [] t n r (d, tt) (λ l. omega arith) (ap (λ (k : ℕ). behindAll k 0 t) (sym (first-joined c)) ∙ h)
     go true e h =
-        let g = if-some (leb 1 (c - 48) && leb 1 (length (run (drop 1 t)))) _ _ _ h in
+        let g = if-some (leb 1 (c - 48) && leb 1 (length (run (drop 1 t)))) _ _ h in
         let a = both (leb 1 (c - 48)) (leb 1 (length (run (drop 1 t)))) (g .0) in
         let o = all-once c (run (drop 1 t)) (behindDigits (drop 1 t)) n r (d, digits-run (drop 1 t)) (λ l. leb-true 1 (c - 48) (a .0)) (ap (λ (k : ℕ). behindAll (number k (run (drop 1 t))) (length (run (drop 1 t))) (behindDigits (drop 1 t))) (sym (first-joined c)) ∙ g .1) in
         let i : t ≡ byte "." ∷ (run (drop 1 t) ++ behindDigits (drop 1 t)) = starts-split (byte ".") t e ∙ ap (λ (v : List ℕ). byte "." ∷ v) (run-split (drop 1 t)) in
@@ -155,4 +155,4 @@ first-once c t n r d h = go (starts (byte ".") t) refl h
 pub whole-once : (t : List ℕ) (n : ℕ) (r : List ℕ) → wholeNumber t ≡ some (n, r) → (t ≡ wholeText n ++ r) × (n ≤ mostWhole)
 unfolding wholeNumber
 whole-once [] n r h = none-some h
-whole-once (c ∷ t) n r h = let g = if-some (isDigit c) _ _ _ h in first-once c t n r (g .0) (g .1)
+whole-once (c ∷ t) n r h = let g = if-some (isDigit c) _ _ h in first-once c t n r (g .0) (g .1)

@@ -9,7 +9,8 @@ use lib.Ieee.{Float, nan, inf, fin}
 use Rattle.output.specs.Logic.{if}
 use Rattle.floats.specs.Whole.{mostWhole}
 
--- The magnitude, if it is a whole number. `fin s m e` is m times two to the e, and where e is negative m is odd: that is no whole number.
+-- The magnitude, if it is a whole number. `fin s m e` is m times two to the e; a float of 64 bits is written in one way (`fits`), and so m is odd where e is negative: that is
+-- no whole number.
 unfoldable pub wholeOf : Float → Option ℕ
 wholeOf nan = none
 wholeOf (inf s) = none
@@ -29,6 +30,7 @@ abbrev isSome : Option ℕ → Bool
 isSome none = false
 isSome (some n) = true
 
+-- whether it is a whole number up to the most
 unfoldable pub isWhole : Float → Bool
 isWhole x = isSome (magnitude x)
 

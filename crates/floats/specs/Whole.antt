@@ -55,7 +55,7 @@ behindE m f t = if (unpadded (run t)) (scaled m f (number 0 (run t)) (behindDigi
 unfoldable pub behindAll : ℕ → ℕ → List ℕ → ReadWhole
 behindAll m f t = if (starts (byte "e") t) (behindE m f (drop 1 t)) none
 
--- behind the first digit, which is m and not 0: a point and one digit or more, or nothing
+-- behind the first digit m: where m is not 0, a point and one digit or more; or nothing
 unfoldable pub behindFirst : ℕ → List ℕ → ReadWhole
 behindFirst m t =
     if (starts (byte ".") t)

@@ -35,41 +35,41 @@ pub fn bits_of(neg: bool, n: u64) -> u64
     b
 }
 
-// A whole number, or none.
-pub enum Whole {
+// The magnitude of a whole number, or none.
+pub enum Magnitude {
     Is(u64),
     No,
 }
 
 // The whole number up to the most that the float of these bits is, of either sign.
-pub fn magnitude_of(bits: u64) -> Whole
+pub fn magnitude_of(bits: u64) -> Magnitude
     ensures { λ r. ⌜ wholeIs r ≡ magnitude (ofBits binary64 bits) ⌝ }
 {
     let e = bits % 0x8000000000000000 / 4503599627370496;
     let t = bits % 4503599627370496;
     if e == 0 {
         if t == 0 {
-            return Whole::Is(0);
+            return Magnitude::Is(0);
         }
-        return Whole::No;
+        return Magnitude::No;
     }
     if e < 1023 {
-        return Whole::No;
+        return Magnitude::No;
     }
     if 1076 < e {
-        return Whole::No;
+        return Magnitude::No;
     }
     if e == 1076 {
         if t == 0 {
-            return Whole::Is(9007199254740992);
+            return Magnitude::Is(9007199254740992);
         }
-        return Whole::No;
+        return Magnitude::No;
     }
     let q = 4503599627370496 + t;
     let i = 1075 - e;
     let n = q >> i;
     if n << i == q {
-        return Whole::Is(n);
+        return Magnitude::Is(n);
     }
-    Whole::No
+    Magnitude::No
 }

@@ -49,7 +49,7 @@ fn tape_reason(number: u8) {
             b"a node is outside the layout of tapes, or the number of top-level nodes is wrong",
         ),
         3 => say(b"a container is opened while 64 are open"),
-        4 => say(b"a float is finite and not zero"),
+        4 => say(b"a float is finite and no whole number of magnitude up to 2^53"),
         _ => say(
             b"compact, lines and pretty take no annotations; tree takes one value, no marker and no identifier but $0",
         ),

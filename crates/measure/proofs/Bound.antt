@@ -6,16 +6,16 @@ use mathlib.Core.Bool.{Bool, true, false}
 use mathlib.Core.Option.{Option, none, some}
 use native.Mathlib.Omega.{arith}
 use lib.Dec.{eqb}
-use lib.Ieee.{Float, binary64, toBits, isNan}
 use lib.ListN.{length, length-append}
 use borrow.Author.Tests.{ne-eqb, le-ltb}
 use Rattle.output.specs.Logic.{if, byte, ascii}
 use Rattle.output.specs.Wrote.{leBytes}
 use Rattle.output.proofs.Laws.{length-le}
 use Rattle.text_rules.specs.Escapes.{clobBody}
-use Rattle.text_rules.specs.Text.{Sym, stringText, clobText, typeName, nullText, boolText, bitsText, floatText}
+use Rattle.text_rules.specs.Text.{Sym, stringText, clobText, typeName, nullText, boolText}
 use Rattle.numbers.specs.declared.timestamp.Timestamp.{Timestamp}
 use Rattle.numbers.specs.Timestamp.{wellFormed}
+use Rattle.floats.proofs.FloatLaws.{float-most}
 use Rattle.tape.specs.Bytes.{first}
 use Rattle.tape.specs.Tree.{Scalar, Head, Node, Nodes, null, bool, int, float, decimal, timestamp, symbol, string, clob, blob, scalar, nest, marker, nil, more, size, sized, encodeTimestamp, encodeSym, encodeScalar, encodeSyms, encodeName, encodeNotes, encodeHead, encode, encodes, tape}
 use Rattle.tape.specs.Tape.{scalarFault, nodesOf}
@@ -63,16 +63,6 @@ null-most t = if-most (eqb t 0) _ _ (omega arith) (let a = type-most t in omega 
 bool-most : (b : Bool) → length (boolText b) ≤ 5
 unfolding boolText
 bool-most b = if-most b _ _ (omega arith) (omega arith)
-
-bits-most : (b : ℕ) → length (bitsText b) ≤ 4
-unfolding bitsText
-bits-most b =
-    if-most (eqb b 0x7FF0_0000_0000_0000) _ _ (omega arith) (if-most (eqb b 0xFFF0_0000_0000_0000) _ _ (omega arith)
-    (if-most (eqb b 0) _ _ (omega arith) (if-most (eqb b 0x8000_0000_0000_0000) _ _ (omega arith) (omega arith))))
-
-float-most : (x : Float) → length (floatText x) ≤ 4
-unfolding floatText
-float-most x = if-most (isNan x) _ _ (omega arith) (bits-most (toBits binary64 x))
 
 sized-long : (s : List ℕ) → length (sized s) ≡ 4 + length s
 unfolding sized

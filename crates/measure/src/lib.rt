@@ -8,6 +8,7 @@ pub mod blobs;
 pub mod clobs;
 pub mod decimal;
 pub mod escapes;
+pub mod float;
 pub mod int;
 pub mod marks;
 pub mod parts;

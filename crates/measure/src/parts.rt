@@ -317,7 +317,7 @@ pub fn untold_length(tape: &[u8], at: usize, end: usize) -> usize
         let Scalar::Float(x) = s else {
             return 0;
         };
-        return text_formatter::float_length(x);
+        return crate::float::float_length(x);
     }
     let n = tape::u32_at(tape, at + 1) as usize;
     let from = at + 5;

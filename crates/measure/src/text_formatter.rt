@@ -1,11 +1,11 @@
-// The lengths of what `text_rules::text_formatter` writes: nulls, bools, floats, identifiers, strings, symbols.
+// The lengths of what `text_rules::text_formatter` writes: nulls, bools, identifiers, strings, symbols.
 ghost use Prim.Native.Nat.{_+_, _-_, _<_, _≤_, _^_};
 ghost use mathlib.Core.Path.{_≡_};
 ghost use mathlib.Core.Bool.{true};
 ghost use mathlib.Core.List.{_++_};
 ghost use lib.ListN.{length, getD, take, drop};
 ghost use Rattle.output.specs.Wrote.{leBytes};
-ghost use Rattle.text_rules.specs.Text.{symbolText, symbolIdText, stringText, nullText, boolText, bitsText, floatText};
+ghost use Rattle.text_rules.specs.Text.{symbolText, symbolIdText, stringText, nullText, boolText};
 ghost use Rattle.text_rules.specs.Words.{isStart};
 ghost use Rattle.text_rules.specs.WordSteps.{allPart, isBare};
 
@@ -34,34 +34,6 @@ pub fn bool_length(b: bool) -> usize
     ensures { λ r. ⌜ r ≡ length (boolText b) ⌝ }
 {
     if b { 4 } else { 5 }
-}
-
-// Of a float by its bits, which are no NaN's.
-fn float_bits_length(b: u64) -> usize
-    ensures { λ r. ⌜ r ≡ length (bitsText b) ⌝ }
-{
-    if b == 0x7FF0_0000_0000_0000 {
-        return 4;
-    }
-    if b == 0xFFF0_0000_0000_0000 {
-        return 4;
-    }
-    if b == 0 {
-        return 3;
-    }
-    if b == 0x8000_0000_0000_0000 {
-        return 4;
-    }
-    0
-}
-
-pub fn float_length(x: f64) -> usize
-    ensures { λ r. ⌜ r ≡ length (floatText x) ⌝ }
-{
-    if x != x {
-        return 3;
-    }
-    float_bits_length(f64::to_bits(x))
 }
 
 pub fn symbol_id_length(n: u32) -> usize

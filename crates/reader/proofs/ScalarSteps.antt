@@ -5,14 +5,15 @@ use mathlib.Core.List.{List, _∷_}
 use mathlib.Core.Bool.{Bool, true, false}
 use mathlib.Core.Option.{Option, none, some}
 use native.Mathlib.Omega.{arith}
+use lib.Ieee.{Float}
 use lib.ListN.{length, drop, getD, drop-of-length-le}
 use lib.Seq.{drop-drop}
 use borrow.Author.Tests.{eq-eqb, ne-eqb}
-use Rattle.output.specs.Logic.{byte, ascii}
+use Rattle.output.specs.Logic.{byte}
 use Rattle.output.specs.Wrote.{Wrote, limit, leBytes}
 use Rattle.text_rules.specs.Reading.{Reads}
-use Rattle.text_rules.specs.Texts.{starts, strip, same}
-use Rattle.text_rules.specs.Words.{isPart, word, behindWord, kindOf}
+use Rattle.text_rules.specs.Texts.{starts, same}
+use Rattle.text_rules.specs.Words.{word, behindWord, kindOf}
 use Rattle.text_rules.specs.WordSteps.{WordAt}
 use Rattle.text_rules.specs.declared.words.Kind.{Kind}
 use Rattle.text_rules.specs.declared.words.Kind.the-variants.{Null, True, False, Nan, Marker, Number, Text, Refused}
@@ -22,16 +23,18 @@ use Rattle.text_rules.proofs.DigitLaws.{never}
 use Rattle.tokens.specs.Quoted.{quoted, string, clob}
 use Rattle.tokens.specs.Blob.{blob}
 use Rattle.tokens.specs.Steps.{Copies}
-use Rattle.tokens.specs.Token.{symbol, nullBehind, nanWord, spelled, float}
+use Rattle.tokens.specs.Token.{symbol, nullBehind}
 use Rattle.tokens.specs.declared.quoted.Step.{Step}
 use Rattle.tokens.specs.declared.quoted.Step.the-variants.{Next, Bad}
 use Rattle.tokens.proofs.TokensLaws.{word-ahead}
-use Rattle.numbers.specs.Numeral.{numeral}
+use Rattle.numbers.specs.Numeral.{Numeral, numeral}
 use Rattle.numbers.specs.TimestampRead.{timestamp}
 use Rattle.numbers.specs.declared.timestamp.Timestamp.{Timestamp}
+use Rattle.floats.specs.Float.{float}
+use Rattle.floats.proofs.FloatApart.{timestamp-float, numeral-float}
 use Rattle.tape.specs.Tree.{Scalar, Node, sized, encodeSym, encodeScalar, encode}
 use Rattle.reader.specs.Grammar.{taken, byKind, words, numeralNode, numbers, numeric, braces, scalar}
-use Rattle.reader.specs.Steps.{Laid, Read, stringNode, clobNode, blobNode, nullNode, timedNumber}
+use Rattle.reader.specs.Steps.{Laid, Read, stringNode, clobNode, blobNode, nullNode, floatNode, untimedNumber}
 use Rattle.reader.proofs.Laying.{laid, laid-sized}
 
 -- ---- what was read, as a node
@@ -141,47 +144,29 @@ module _ {text : List ℕ} {at : ℕ} {w : Word} (a : WordAt text at w) (m : Boo
 abbrev pub timestampNode : Timestamp → Node
 timestampNode x = Node.scalar (Scalar.timestamp x)
 
-pub timed-other : (t : List ℕ) → timestamp t ≡ none → timedNumber t ≡ taken numeralNode (numeral t)
-unfolding timedNumber
-timed-other t e = rw e
+pub untimed-float : (t u : List ℕ) {x : Float} → float t ≡ some (x, u) → untimedNumber t ≡ some (floatNode x, u)
+unfolding untimedNumber
+untimed-float t u e = rw e
 
-pub timed-here : (t u : List ℕ) (x : Timestamp) → timestamp t ≡ some (x, u) → timedNumber t ≡ some (timestampNode x, u)
-unfolding timedNumber
-timed-here t u x e = rw e
+pub untimed-other : (t : List ℕ) → float t ≡ none → untimedNumber t ≡ taken numeralNode (numeral t)
+unfolding untimedNumber
+untimed-other t e = rw e
 
-pub number-other : (t : List ℕ) → float t ≡ none → numbers t ≡ timedNumber t
-unfolding numbers timedNumber
-number-other t e = rw e
+-- an int or a decimal without `e` behind it is no float's beginning
+pub untimed-numeral : {text : List ℕ} {at e p q : ℕ} {b b' : List ℕ} (v : Numeral) → Reads text (suc at) (numeral (drop at text)) (some (v, e)) → starts (byte "e") (drop e text) ≡ false → Wrote b b' p q (encode (numeralNode v))
+    → Read encode text (suc at) b b' p (untimedNumber (drop at text)) (Next e q)
+untimed-numeral {text} {at} {e} v r h w =
+    let t = drop at text in
+    (numeralNode v, untimed-other t (numeral-float t v (drop e text) (r .is) h) ∙ rw (r .is), r .place .0, r .place .1, laid w)
 
-pub number-float : (t u : List ℕ) {x : _} → float t ≡ some (x, u) → numbers t ≡ some (Node.scalar (Scalar.float x), u)
+-- a timestamp is no float
+pub number-timed : (t u : List ℕ) (x : Timestamp) → timestamp t ≡ some (x, u) → numbers t ≡ some (timestampNode x, u)
 unfolding numbers
-number-float t u e = rw e
+number-timed t u x e = rw (timestamp-float t x u e, e)
 
-no-nan : (c : ℕ) (t : List ℕ) → (c ≡ byte "n" → ⊥) → nanWord (c ∷ t) ≡ none
-no-nan c t n = go (isPart c) refl
-  where
-    go : (b : Bool) → isPart c ≡ b → nanWord (c ∷ t) ≡ none
-    go true e = unfold nanWord word same strip in rw (e, ne-eqb c (byte "n") n)
-    go false e = unfold nanWord word same strip in rw e
-
-no-spelling : (d : ℕ) (w : List ℕ) (bits c : ℕ) (t : List ℕ) → (c ≡ d → ⊥) → spelled (d ∷ w) bits (c ∷ t) ≡ none
-unfolding spelled strip
-no-spelling d w bits c t n = rw (ne-eqb c d n)
-
--- no float starts with a digit but 0
-pub float-digit : (text : List ℕ) (at : ℕ) → at < length text → byte "0" < getD text at 0 → getD text at 0 ≤ byte "9" → float (drop at text) ≡ none
-unfolding float
-float-digit text at i lo hi =
-    let c = getD text at 0 in
-    let t = drop (at + 1) text in
-    rw (
-      byte-at text at i,
-      no-nan c t (λ e. omega arith),
-      no-spelling 43 (ascii "inf") 0x7FF0_0000_0000_0000 c t (λ e. omega arith),
-      no-spelling 45 (ascii "inf") 0xFFF0_0000_0000_0000 c t (λ e. omega arith),
-      no-spelling 48 (ascii "e0") 0 c t (λ e. omega arith),
-      no-spelling 45 (ascii "0e0") 0x8000_0000_0000_0000 c t (λ e. omega arith),
-    )
+pub number-untimed : (t : List ℕ) → timestamp t ≡ none → numbers t ≡ untimedNumber t
+unfolding numbers untimedNumber
+number-untimed t e = rw e
 
 -- ---- a scalar, by its first byte
 

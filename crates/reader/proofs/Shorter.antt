@@ -1,20 +1,24 @@
 -- How much of a text is left behind a number: each takes a byte at least. Assumes nothing.
-use Prim.Native.Nat.{ℕ, zero, suc, _+_, _-_, _*_, _<_}
+use Prim.Native.Nat.{ℕ, zero, suc, _+_, _-_, _*_, _%_, _^_, _<_}
 use lib.IntN.{ℤ, pos}
-use mathlib.Core.Path.{_≡_, refl}
+use mathlib.Core.Path.{_≡_, refl, ap}
 use mathlib.Core.Bool.{Bool, true, false, _&&_}
 use mathlib.Core.List.{List, [], _∷_}
 use native.Mathlib.Omega.{arith}
 use lib.Dec.{eqb, leb, ltb}
 use lib.ListN.{length, drop, length-drop}
-use Rattle.output.specs.Logic.{if, byte}
+use Rattle.output.specs.Logic.{if, byte, ascii}
 use Rattle.text_rules.specs.Digits.{isDigit, run, behindDigits, number, whole}
-use Rattle.text_rules.specs.Texts.{starts}
-use Rattle.tokens.proofs.Shorter.{Left, unread, fewer, left-more, left-all, left-if, left-then, left-after, behind-byte}
+use Rattle.text_rules.specs.Texts.{starts, strip, same}
+use Rattle.text_rules.specs.Words.{word}
+use Rattle.text_rules.proofs.WordsLaws.{same-is}
+use Rattle.tokens.proofs.Shorter.{Left, unread, fewer, left-more, left-all, left-if, left-then, left-after, left-or, strip-long, word-long, behind-byte}
 use Rattle.numbers.specs.Numeral.{numeral, withSign, inI64, rangedInt, shifted, rangedDecimal, powerOf, behindD, behindPoint, behindWhole, unsigned}
 use Rattle.numbers.specs.Timestamp.{wellFormed}
 use Rattle.numbers.specs.TimestampRead.{joined, fixed, startsDigit, clock, checked, minutes, offsetOf, fractionOf, secondOf, timeOf, dayOf, behindMonth, behindYear, timestamp}
 use Rattle.numbers.specs.declared.timestamp.Timestamp.{Timestamp}
+use Rattle.floats.specs.Whole.{mostWhole, ranged, scaled, behindE, behindAll, behindFirst, wholeNumber}
+use Rattle.floats.specs.Float.{nanWord, spelled, signedWhole, float}
 
 -- ---- timestamps
 
@@ -145,3 +149,55 @@ unsigned-left neg t = left-if (whole (run t)) (λ e. left-more (omega (arith, di
 pub numeral-left : (t : List ℕ) → Left (length t) (numeral t)
 unfolding numeral
 numeral-left t = left-if (starts (byte "-") t) (λ _. left-more (omega (arith, length-drop 1 t)) (unsigned-left true (drop 1 t))) (λ _. unsigned-left false t)
+
+-- ---- floats
+
+ranged-left : (m f e : ℕ) (r : List ℕ) → Left (suc (length r)) (ranged m f e r)
+unfolding ranged
+ranged-left m f e r = left-if (leb f e && leb e 15 && leb (m * 10 ^ (e - f)) mostWhole) (λ _. left-all _ r) (λ _. unread)
+
+scaled-left : (m f e : ℕ) (r : List ℕ) → Left (suc (length r)) (scaled m f e r)
+unfolding scaled
+scaled-left m f e r =
+    left-if (eqb m 0) (λ _. left-if (eqb e 0) (λ _. left-all 0 r) (λ _. unread)) (λ _.
+    left-if (eqb (m % 10) 0) (λ _. unread) (λ _. ranged-left m f e r))
+
+behind-e-left : (m f : ℕ) (t : List ℕ) → Left (suc (length t)) (behindE m f t)
+unfolding behindE
+behind-e-left m f t = left-if (whole (run t)) (λ _. left-more (omega (arith, digits-long t)) (scaled-left m f (number 0 (run t)) (behindDigits t))) (λ _. unread)
+
+behind-all-left : (m f : ℕ) (t : List ℕ) → Left (suc (length t)) (behindAll m f t)
+unfolding behindAll
+behind-all-left m f t = left-if (starts (byte "e") t) (λ _. left-more (omega (arith, length-drop 1 t)) (behind-e-left m f (drop 1 t))) (λ _. unread)
+
+behind-first-left : (m : ℕ) (t : List ℕ) → Left (suc (length t)) (behindFirst m t)
+unfolding behindFirst
+behind-first-left m t =
+    let ds = run (drop 1 t) in
+    left-if (starts (byte ".") t) (λ _. left-if (leb 1 m && leb 1 (length ds)) (λ _. left-more (omega (arith, length-drop 1 t, digits-long (drop 1 t))) (behind-all-left (number m ds) (length ds) (behindDigits (drop 1 t)))) (λ _. unread))
+    (λ _. behind-all-left m 0 t)
+
+number-left : (t : List ℕ) → Left (length t) (wholeNumber t)
+unfolding wholeNumber
+number-left [] = unread
+number-left (c ∷ t) = left-if (isDigit c) (λ _. behind-first-left (c - byte "0") t) (λ _. unread)
+
+signed-left : (s : Bool) (t : List ℕ) → Left (length t) (signedWhole s t)
+unfolding signedWhole
+signed-left s t = left-then (wholeNumber t) _ (number-left t) (λ v l. fewer l)
+
+spelled-left : (w : List ℕ) (s : Bool) (t : List ℕ) → 0 < length w → Left (length t) (spelled w s t)
+unfolding spelled
+spelled-left w s t l = left-after (strip w t) _ (λ r e. fewer (omega (arith, strip-long w t r e)))
+
+nan-left : (t : List ℕ) → Left (length t) (nanWord t)
+unfolding nanWord
+nan-left t = left-if (same (ascii "nan") (word t)) (λ e. fewer (let k : length (word t) ≡ 3 = ap length (same-is (ascii "nan") (word t) e) in omega (arith, word-long t))) (λ _. unread)
+
+pub float-left : (t : List ℕ) → Left (length t) (float t)
+unfolding float
+float-left t =
+    left-or (nanWord t) _ (nan-left t)
+    (left-or (spelled (ascii "+inf") false t) _ (spelled-left (ascii "+inf") false t (omega arith))
+    (left-or (spelled (ascii "-inf") true t) _ (spelled-left (ascii "-inf") true t (omega arith))
+    (left-or (signedWhole false t) _ (signed-left false t) (left-after (strip (ascii "-") t) _ (λ r e. left-more (omega (arith, strip-long (ascii "-") t r e)) (signed-left true r))))))

@@ -15,11 +15,12 @@ use Rattle.text_rules.specs.Words.{word, behindWord, kindOf}
 use Rattle.text_rules.specs.Text.{Sym}
 use Rattle.tokens.specs.Quoted.{string, clob}
 use Rattle.tokens.specs.Blob.{blob}
-use Rattle.tokens.specs.Token.{symbol, nullBehind, float}
+use Rattle.tokens.specs.Token.{symbol, nullBehind}
 use Rattle.text_rules.specs.declared.words.Kind.{Kind}
 use Rattle.text_rules.specs.declared.words.Kind.the-variants.{Null, True, False, Nan, Marker, Number, Text, Refused}
 use Rattle.numbers.specs.Numeral.{Numeral, numeral}
 use Rattle.numbers.specs.TimestampRead.{timestamp}
+use Rattle.floats.specs.Float.{float}
 use Rattle.tape.specs.Tree.{Scalar, Head, Node, Nodes}
 use Rattle.tape.specs.declared.Frame.{Frame}
 use Rattle.tape.specs.declared.Frame.the-variants.{Top, List as ListF, Sexp, Struct}

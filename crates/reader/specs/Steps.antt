@@ -5,6 +5,7 @@ use mathlib.Core.List.{List, _++_}
 use mathlib.Core.Option.{Option, none, some}
 use mathlib.Core.Bool.{Bool, false}
 use lib.Dec.{eqb}
+use lib.Ieee.{Float}
 use lib.ListN.{length, drop}
 use lib.Seq.{sets}
 use Rattle.output.specs.Logic.{or}
@@ -13,7 +14,7 @@ use Rattle.tokens.specs.Steps.{Kept}
 use Rattle.tokens.specs.declared.quoted.Step.{Step}
 use Rattle.tokens.specs.declared.quoted.Step.the-variants.{Next, Bad}
 use Rattle.numbers.specs.Numeral.{numeral}
-use Rattle.numbers.specs.TimestampRead.{timestamp}
+use Rattle.floats.specs.Float.{float}
 use Rattle.tape.specs.Tree.{Scalar, Head, Node, Nodes, encodeSyms, encodeHead, encode, encodes, size, tape}
 use Rattle.tape.specs.declared.Frame.{Frame}
 use Rattle.tape.specs.declared.Frame.the-variants.{Top, List as ListF, Sexp, Struct}
@@ -104,9 +105,12 @@ blobNode s = Node.scalar (Scalar.blob s)
 abbrev pub nullNode : ℕ → Node
 nullNode t = Node.scalar (Scalar.null t)
 
--- `numbers` without floats
-unfoldable pub timedNumber : List ℕ → Option (Node × List ℕ)
-timedNumber t = or (taken (λ x. Node.scalar (Scalar.timestamp x)) (timestamp t)) (taken numeralNode (numeral t))
+abbrev pub floatNode : Float → Node
+floatNode x = Node.scalar (Scalar.float x)
+
+-- `numbers` without timestamps
+unfoldable pub untimedNumber : List ℕ → Option (Node × List ℕ)
+untimedNumber t = or (taken floatNode (float t)) (taken numeralNode (numeral t))
 
 -- What is said of the rules that quoted text is part of, by what a raw character may be.
 module _ (isRaw : ℕ → Bool) where

@@ -1,23 +1,27 @@
 // Values that are no containers, told by their first byte.
 use crate::heads;
 use crate::nodes;
+use floats::float::FloatRead;
 use numbers::numeral::NumeralRead;
 use numbers::timestamp::TimestampRead;
+use text_rules::texts::stands;
 use text_rules::words::Kind;
 use tokens::quoted::Step;
-use tokens::values::FloatRead;
 use tokens::values::NullRead;
 ghost use mathlib.Core.Path.{_≡_};
-ghost use Prim.Native.Nat.{suc, _≤_, _<_};
+ghost use Prim.Native.Nat.{ℕ, suc, _≤_, _<_};
+ghost use mathlib.Core.List.{List};
 ghost use lib.ListN.{length, drop, getD};
 ghost use Rattle.output.specs.Wrote.{limit};
 ghost use Rattle.tokens.specs.Quoted.{rawRule, string, clob};
 ghost use Rattle.tokens.specs.Blob.{blob};
 ghost use Rattle.tokens.specs.Token.{nullBehind};
-ghost use Rattle.numbers.specs.Numeral.{numeral};
+ghost use Rattle.text_rules.specs.Reading.{Reads};
+ghost use Rattle.numbers.specs.Numeral.{ReadNumeral, numeral};
+ghost use Rattle.numbers.specs.NumeralSteps.{numeralRead};
 ghost use Rattle.tape.specs.Tree.{encode};
 ghost use Rattle.reader.specs.Grammar.{taken, words, numeralNode, numbers, numeric, braces, scalar};
-ghost use Rattle.reader.specs.Steps.{Read, stringNode, clobNode, blobNode, nullNode, timedNumber};
+ghost use Rattle.reader.specs.Steps.{Read, stringNode, clobNode, blobNode, nullNode, untimedNumber};
 
 // A string; `old`: by 01's raw rule. Its text is written first, its length before it then.
 fn string_at(text: &[u8], at: usize, old: bool, buf: &mut [u8], pos: usize) -> Step
@@ -132,12 +136,11 @@ fn word_at(text: &[u8], at: usize, m: bool, buf: &mut [u8], pos: usize) -> Step
     }
 }
 
-// An int or a decimal.
-fn numeral_at(text: &[u8], at: usize, buf: &mut [u8], pos: usize) -> Step
-    requires { ⌜ (at ≤ length (now text)) × (pos ≤ limit) ⌝ }
-    ensures { λ r. ⌜ Read encode (now (text .entry)) (suc at) (now (buf .entry)) (now (buf .exit)) pos (taken numeralNode (numeral (drop at (now (text .entry))))) r ⌝ }
+// The node of an int or a decimal that was read.
+fn put_numeral(n: NumeralRead, buf: &mut [u8], pos: usize) -> Step
+    requires { ⌜ pos ≤ limit ⌝ }
+    ensures { λ r. ⌜ ((text : List ℕ) (lo : ℕ) (o : ReadNumeral) → Reads text lo o (numeralRead n) → Read encode text lo (now (buf .entry)) (now (buf .exit)) pos (taken numeralNode o) r) ⌝ }
 {
-    let n = numbers::numeral::numeral_at(text, at);
     match n {
         NumeralRead::Int(z, e) => {
             let p = nodes::put_int(buf, pos, z);
@@ -151,33 +154,55 @@ fn numeral_at(text: &[u8], at: usize, buf: &mut [u8], pos: usize) -> Step
     }
 }
 
-// A timestamp, or else an int or a decimal.
-fn timed_at(text: &[u8], at: usize, buf: &mut [u8], pos: usize) -> Step
-    requires { ⌜ (at ≤ length (now text)) × (pos ≤ limit) ⌝ }
-    ensures { λ r. ⌜ Read encode (now (text .entry)) (suc at) (now (buf .entry)) (now (buf .exit)) pos (timedNumber (drop at (now (text .entry)))) r ⌝ }
+// A float as printed, or else the int or decimal n, which was read at the same place.
+fn float_or(text: &[u8], at: usize, n: NumeralRead, buf: &mut [u8], pos: usize) -> Step
+    requires { ⌜ (at ≤ length (now text)) × (pos ≤ limit) × Reads (now text) (suc at) (numeral (drop at (now text))) (numeralRead n) ⌝ }
+    ensures { λ r. ⌜ Read encode (now (text .entry)) (suc at) (now (buf .entry)) (now (buf .exit)) pos (untimedNumber (drop at (now (text .entry)))) r ⌝ }
 {
-    let TimestampRead::Is(x, e) = numbers::timestamp::timestamp_at(text, at) else {
-        return numeral_at(text, at, buf, pos);
+    let FloatRead::Is(x, e) = floats::float::float_at(text, at) else {
+        return put_numeral(n, buf, pos);
     };
-    let p = nodes::put_timestamp(buf, pos, x);
+    let p = nodes::put_float(buf, pos, x);
     Step::Next { at: e, pos: p }
 }
 
-// A float as printed, a timestamp, an int or a decimal. No float starts with a digit but 0.
+// A float as printed, an int or a decimal. An int or a decimal without `e` behind it is no float's beginning.
+fn untimed_at(text: &[u8], at: usize, buf: &mut [u8], pos: usize) -> Step
+    requires { ⌜ (at ≤ length (now text)) × (pos ≤ limit) ⌝ }
+    ensures { λ r. ⌜ Read encode (now (text .entry)) (suc at) (now (buf .entry)) (now (buf .exit)) pos (untimedNumber (drop at (now (text .entry)))) r ⌝ }
+{
+    let n = numbers::numeral::numeral_at(text, at);
+    match n {
+        NumeralRead::Int(z, e) => {
+            if !stands(text, e, b'e') {
+                let p = nodes::put_int(buf, pos, z);
+                return Step::Next { at: e, pos: p };
+            }
+        }
+        NumeralRead::Decimal(neg, m, x, e) => {
+            if !stands(text, e, b'e') {
+                let p = nodes::put_decimal(buf, pos, neg, m, x);
+                return Step::Next { at: e, pos: p };
+            }
+        }
+        NumeralRead::Bad => {}
+    }
+    // taken apart and made anew: the answer copied whole would wait for its own stores
+    let Step::Next { at: a, pos: p } = float_or(text, at, n, buf, pos) else {
+        return Step::Bad;
+    };
+    Step::Next { at: a, pos: p }
+}
+
+// A float as printed, a timestamp, an int or a decimal. A timestamp is no float, so that it is tried first.
 fn number_at(text: &[u8], at: usize, buf: &mut [u8], pos: usize) -> Step
     requires { ⌜ (at < length (now text)) × (pos ≤ limit) ⌝ }
     ensures { λ r. ⌜ Read encode (now (text .entry)) (suc at) (now (buf .entry)) (now (buf .exit)) pos (numbers (drop at (now (text .entry)))) r ⌝ }
 {
-    let b = text[at];
-    if b'0' < b {
-        if b <= b'9' {
-            return timed_at(text, at, buf, pos);
-        }
-    }
-    let FloatRead::Is(x, e) = tokens::values::float_at(text, at) else {
-        return timed_at(text, at, buf, pos);
+    let TimestampRead::Is(x, e) = numbers::timestamp::timestamp_at(text, at) else {
+        return untimed_at(text, at, buf, pos);
     };
-    let p = nodes::put_float(buf, pos, x);
+    let p = nodes::put_timestamp(buf, pos, x);
     Step::Next { at: e, pos: p }
 }
 

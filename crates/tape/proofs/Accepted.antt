@@ -1,13 +1,15 @@
 -- A well-formed tree is read back from its encoding, and its tape is accepted. Assumes nothing.
-use Prim.Native.Nat.{ℕ, zero, suc, _+_, _-_, _^_, _<_, _≤_}
+use Prim.Native.Nat.{ℕ, zero, suc, _+_, _-_, _%_, _^_, _<_, _≤_}
 use mathlib.Core.Path.{_≡_, refl, sym, ap, _∙_}
 use mathlib.Core.List.{List, [], _∷_, _++_, append-assoc, append-nil}
 use mathlib.Core.Bool.{Bool, true, false}
 use mathlib.Core.Option.{Option, none, some}
 use native.Mathlib.Omega.{arith}
-use lib.Dec.{lit<}
+use lib.Dec.{T, lit<}
 use lib.IntN.{ℤ}
-use lib.Ieee.{Float, nan, inf, fin, ofBits, toBits, isNan}
+use lib.Ieee.{Float, nan, inf, fin, binary64, fits, ofBits, toBits, isNan}
+use lib.Ieee.Bits.{ofBits-toBits, toBits-lt}
+use lib.Ieee.Fits.{inf-fits}
 use lib.ListN.{length, take, drop, length-append}
 use lib.Seq.{take-append-seam, drop-append-seam, take-at, drop-at}
 use mir.Syntax.{w16, w32, w64}
@@ -20,12 +22,12 @@ use Rattle.numbers.specs.Timestamp.{wellFormed}
 use Rattle.numbers.specs.declared.timestamp.Timestamp.{Timestamp}
 use Rattle.tape.specs.Bytes.{leNumber, signed, bits, first}
 use Rattle.tape.specs.Tree.{Scalar, Head, Node, Nodes, null, bool, int, float, decimal, timestamp, symbol, string, clob, blob, scalar, nest, marker, nil, more, size, bit, tag, floatBits, sized, encodeTimestamp, encodeSym, encodeScalar, encodeSyms, encodeName, encodeNotes, encodeHead, encode, encodes, tape}
-use Rattle.tape.specs.Tape.{reading, kind, lengthOf, textOf, symOf, symsOf, nameOf, notesOf, headOf, byteOf, intOf, floatAs, floatOf, decimalOf, timestampAs, timestampOf, symbolOf, sizedOf, scalarOf, Value, absent, leaf, body, openOf, valueOf, bad, freeAt, headedChild, childOf, textFault, symFault, symsFault, nameFault, headFault, finiteFault, floatFault, scalarFault, Walked, fault, join, walk, bodyOf, nodesOf}
+use Rattle.tape.specs.Tape.{reading, kind, lengthOf, textOf, symOf, symsOf, nameOf, notesOf, headOf, byteOf, intOf, floatAs, floatOf, decimalOf, timestampAs, timestampOf, symbolOf, sizedOf, scalarOf, Value, absent, leaf, body, openOf, valueOf, bad, freeAt, headedChild, childOf, textFault, symFault, symsFault, nameFault, headFault, floatFault, scalarFault, Walked, fault, join, walk, bodyOf, nodesOf}
 use Rattle.tape.specs.Fine.{FineText, FineSym, FineSyms, FineFloat, FineScalar, FineName, FineHead, FineMarker, Inner, Fine, Fines}
 use Rattle.tape.specs.Verdict.{misfit, countFault, verdict}
 use Rattle.tape.specs.declared.Frame.{Frame}
 use Rattle.tape.specs.declared.Frame.the-variants.{Top, List as ListF, Sexp, Struct}
-use Rattle.tape.proofs.Numbers.{le-number, bits-bound, signed-bits}
+use Rattle.tape.proofs.Numbers.{le-number, bits-bound, signed-bits, not-nan-low}
 use Rattle.numbers.proofs.Calendar.{same-fields}
 use Rattle.tape.proofs.Ranges.{well-ranges}
 use Rattle.tape.proofs.Walking.{walk-end, walk-leaf, walk-tree}
@@ -109,14 +111,20 @@ int-as n r h =
     let fits : 9 ≤ length (2 ∷ (a ++ r)) = omega arith in
     rw (le-leb 9 (length (2 ∷ (a ++ r))) fits, le-number 8 (bits 64 n) r (bits-bound w64 n h), signed-bits w64 n h, eight)
 
--- nan, the infinities and the zeros, by computation
+-- what fits 64 bits and is no NaN is read back from its bits
+float-back : (x : Float) → T (fits binary64 x) → isNan x ≡ false → floatAs (toBits binary64 x) ≡ some (float x, 9)
+unfolding floatAs
+float-back x f n =
+    let b = toBits binary64 x in
+    let back : ofBits binary64 b ≡ x = ofBits-toBits binary64 x f in
+    let low : b % 0x8000_0000_0000_0000 ≤ 0x7FF0_0000_0000_0000 = not-nan-low b (ap isNan back ∙ n) in
+    rw (ne-eqb b 0x7FF8_0000_0000_0000 (λ e. omega arith), le-ltb _ _ low, back)
+
 float-bits-as : (x : Float) → FineFloat x → (floatBits x < 256 ^ 8) × (floatAs (floatBits x) ≡ some (float x, 9)) × (floatFault x ≡ 0)
-unfolding floatBits floatAs floatFault finiteFault isNan toBits ofBits
+unfolding floatBits floatAs floatFault isNan
 float-bits-as nan h = (lit< tt, refl, refl)
-float-bits-as (inf true) h = (lit< tt, refl, refl)
-float-bits-as (inf false) h = (lit< tt, refl, refl)
-float-bits-as (fin true m e) h = rw (h .0, h .1) (lit< tt, refl, refl)
-float-bits-as (fin false m e) h = rw (h .0, h .1) (lit< tt, refl, refl)
+float-bits-as (inf s) h = let f = inf-fits binary64 s in (toBits-lt binary64 (inf s) f, float-back (inf s) f refl, refl)
+float-bits-as (fin s m e) h = (toBits-lt binary64 (fin s m e) (h .0), float-back (fin s m e) (h .0) refl, rw (h .1))
 
 float-as : (x : Float) (r : List ℕ) → FineFloat x → scalarOf (encodeScalar (float x) ++ r) ≡ some (float x, length (encodeScalar (float x)))
 unfolding scalarOf encodeScalar floatOf

@@ -8,7 +8,7 @@ use native.Mathlib.Nat.{not-suc-le-zero}
 use native.Mathlib.Omega.{arith}
 use native.Mathlib.Decide.{decLe}
 use lib.Dec.{leb, ltb, eqb}
-use lib.Ieee.{binary64, toBits, isNan}
+use lib.Ieee.{nan, inf, fin}
 use lib.ListN.{length, getD, take, drop}
 use lib.Seq.{take-take}
 use borrow.Author.Tests.{le-leb, lt-leb, leb-true, eq-eqb, eqb-true, eqb-false}
@@ -16,9 +16,10 @@ use Rattle.output.specs.Logic.{if}
 use Rattle.text_rules.specs.Text.{Sym}
 use Rattle.text_rules.specs.Utf8.{valid}
 use Rattle.numbers.specs.Timestamp.{wellFormed}
+use Rattle.floats.specs.Value.{isWhole}
 use Rattle.tape.specs.Bytes.{leNumber, part, first}
 use Rattle.tape.specs.Tree.{Scalar, Head, null, bool, int, float, decimal, timestamp, symbol, string, clob, blob}
-use Rattle.tape.specs.Tape.{reading, kind, lengthOf, textOf, symOf, symsOf, nameOf, notesOf, headOf, byteOf, intOf, floatAs, floatOf, decimalOf, timestampAs, timestampOf, symbolOf, sizedOf, scalarOf, absent, body, openOf, valueOf, textFault, symFault, symsFault, nameFault, headFault, finiteFault, floatFault, scalarFault}
+use Rattle.tape.specs.Tape.{reading, kind, lengthOf, textOf, symOf, symsOf, nameOf, notesOf, headOf, byteOf, intOf, floatAs, floatOf, decimalOf, timestampAs, timestampOf, symbolOf, sizedOf, scalarOf, absent, body, openOf, valueOf, textFault, symFault, symsFault, nameFault, headFault, floatFault, scalarFault}
 use Rattle.tape.specs.Refusal.{annotated, symNumbered, symsNumbered, nameNumbered, headNumbered, scalarNumbered}
 use Rattle.tape.specs.CheckSteps.{coded, codeOf, scalarCode, spanOf, numberIn, nameNumberIn, ends, endOf, frameOf, frontOf, symsFront, notesFront}
 use Rattle.tape.specs.declared.Frame.{Frame}
@@ -312,16 +313,14 @@ text-problem : (s : List ℕ) → Problem (textFault s)
 unfolding textFault
 text-problem s = if-all Problem {b = valid s} (λ _. no-problem) (λ _. problem-2)
 
-finite-problem : (b : ℕ) → Problem (finiteFault b)
-unfolding finiteFault
-finite-problem b = if-all Problem {b = eqb b 0} (λ _. no-problem) (λ _. if-all Problem {b = eqb b 0x7FF0_0000_0000_0000} (λ _. no-problem) (λ _. problem-4))
-
 pub scalar-problem : (x : Scalar) → Problem (scalarFault x)
 unfolding scalarFault floatFault
 scalar-problem (null t) = no-problem
 scalar-problem (bool b) = no-problem
 scalar-problem (int n) = no-problem
-scalar-problem (float x) = if-all Problem {b = isNan x} (λ _. no-problem) (λ _. finite-problem (toBits binary64 x % 0x8000_0000_0000_0000))
+scalar-problem (float nan) = no-problem
+scalar-problem (float (inf s)) = no-problem
+scalar-problem (float (fin s m e)) = if-all Problem {b = isWhole (fin s m e)} (λ _. no-problem) (λ _. problem-4)
 scalar-problem (decimal neg m e) = no-problem
 scalar-problem (timestamp x) = if-all Problem {b = wellFormed x} (λ _. no-problem) (λ _. problem-2)
 scalar-problem (symbol (Sym.text s)) = text-problem s

@@ -5,25 +5,26 @@ use mathlib.Core.List.{List, [], _∷_}
 use mathlib.Core.Bool.{Bool, true, false}
 use mathlib.Core.Option.{Option, none, some}
 use native.Mathlib.Omega.{arith}
-use native.Mathlib.Decide.{decLt}
-use lib.Dec.{leb, ltb, eqb}
-use lib.Ieee.{binary64, ofBits}
+use lib.Dec.{T, leb, ltb, eqb}
+use lib.Ieee.{Float, nan, inf, fin, binary64, fits, ofBits}
+use lib.Ieee.Bits.{ofBits-fits}
 use lib.ListN.{length, getD, take, drop, length-take}
 use mir.Syntax.{w32, w64}
-use borrow.Author.Tests.{leb-true, ltb-false, eqb-true, eqb-false}
+use borrow.Author.Tests.{leb-true}
 use Rattle.output.specs.Logic.{if}
 use Rattle.text_rules.specs.Text.{Sym}
 use Rattle.text_rules.specs.Utf8.{valid}
 use Rattle.numbers.specs.Timestamp.{wellFormed}
+use Rattle.floats.specs.Value.{isWhole}
 use Rattle.tape.specs.Bytes.{leNumber}
 use Rattle.tape.specs.Tree.{Scalar, Head, Node, symbol, string, clob, blob, scalar, nest, marker}
-use Rattle.tape.specs.Tape.{reading, kind, lengthOf, textOf, symOf, symsOf, nameOf, notesOf, headOf, byteOf, intOf, floatAs, floatOf, decimalOf, timestampAs, timestampOf, symbolOf, sizedOf, scalarOf, Value, absent, leaf, body, valueOf, Child, bad, single, tree, freeAt, headedChild, childOf, textFault, symFault, symsFault, nameFault, headFault, finiteFault, floatFault, scalarFault, Walked, fault, turn, level, walk, bodyOf, nodesOf}
+use Rattle.tape.specs.Tape.{reading, kind, lengthOf, textOf, symOf, symsOf, nameOf, notesOf, headOf, byteOf, intOf, floatAs, floatOf, decimalOf, timestampAs, timestampOf, symbolOf, sizedOf, scalarOf, Value, absent, leaf, body, valueOf, Child, bad, single, tree, freeAt, headedChild, childOf, textFault, symFault, symsFault, nameFault, headFault, floatFault, scalarFault, Walked, fault, turn, level, walk, bodyOf, nodesOf}
 use Rattle.tape.specs.Fine.{Bytes, FineBytes, FineText, FineSym, FineSyms, FineFloat, FineScalar, FineName, FineHead, FineMarker, Inner, Fine, Fines}
 use Rattle.tape.specs.Verdict.{verdict}
 use Rattle.tape.specs.declared.Frame.{Frame}
 use Rattle.tape.specs.declared.Frame.the-variants.{Top, List as ListF, Sexp, Struct}
 use Rattle.text_rules.proofs.DigitLaws.{never}
-use Rattle.tape.proofs.Numbers.{bytes-drop, bytes-take, le-bound, signed-fits, not-nan, of-bits-not-nan, to-bits-of}
+use Rattle.tape.proofs.Numbers.{bytes-drop, bytes-take, le-bound, signed-fits}
 use Rattle.tape.proofs.Reading.{if-all, Counted, counted, syms-count, value-all}
 use Rattle.tape.proofs.Walking.{first-zero, join-zero, if-zero-else, walk-back, verdict-told}
 
@@ -144,49 +145,17 @@ free-head Struct l e = never (sym e)
 abbrev ScalarP : Scalar → Type 0
 ScalarP s = scalarFault s ≡ 0 → FineScalar s
 
--- bits without the sign that are no fault are those of zero or of infinity
-finite-told : (m : ℕ) → finiteFault m ≡ 0 → (m ≡ 0 → ⊥) → m ≡ 0x7FF0_0000_0000_0000
-unfolding finiteFault
-finite-told m e nz = go (eqb m 0) refl (eqb m 0x7FF0_0000_0000_0000) refl e
-  where
-    go : (a : Bool) → eqb m 0 ≡ a → (b : Bool) → eqb m 0x7FF0_0000_0000_0000 ≡ b → if {A = ℕ} a 0 (if b 0 4) ≡ 0 → m ≡ 0x7FF0_0000_0000_0000
-    go true p b q e = absurd (nz (eqb-true _ _ p))
-    go false p true q e = eqb-true _ _ q
-    go false p false q e = absurd (omega arith)
-
--- the zeros and the infinities, by computation
-zero-fine : (b : ℕ) → b < 2 ^ 64 → b % 0x8000_0000_0000_0000 ≡ 0 → FineFloat (ofBits binary64 b)
-unfolding ofBits
-zero-fine b h e = go (decLt b 0x8000_0000_0000_0000)
-  where
-    go : Dec (b < 0x8000_0000_0000_0000) → FineFloat (ofBits binary64 b)
-    go (yes l) = let z : b ≡ 0 = omega arith in rw z (refl, refl)
-    go (no l) = let z : b ≡ 0x8000_0000_0000_0000 = omega arith in rw z (refl, refl)
-
-inf-fine : (b : ℕ) → b < 2 ^ 64 → b % 0x8000_0000_0000_0000 ≡ 0x7FF0_0000_0000_0000 → FineFloat (ofBits binary64 b)
-unfolding ofBits
-inf-fine b h e = go (decLt b 0x8000_0000_0000_0000)
-  where
-    go : Dec (b < 0x8000_0000_0000_0000) → FineFloat (ofBits binary64 b)
-    go (yes l) = let z : b ≡ 0x7FF0_0000_0000_0000 = omega arith in rw z tt
-    go (no l) = let z : b ≡ 0xFFF0_0000_0000_0000 = omega arith in rw z tt
-
-float-fine : (b : ℕ) → b < 2 ^ 64 → b % 0x8000_0000_0000_0000 ≤ 0x7FF0_0000_0000_0000 → floatFault (ofBits binary64 b) ≡ 0 → FineFloat (ofBits binary64 b)
+float-fine : (x : Float) → T (fits binary64 x) → floatFault x ≡ 0 → FineFloat x
 unfolding floatFault
-float-fine b h k e = go (eqb (b % 0x8000_0000_0000_0000) 0) refl
-  where
-    plain : finiteFault (b % 0x8000_0000_0000_0000) ≡ 0
-    plain = rw (not-nan (ofBits binary64 b) (of-bits-not-nan b k), to-bits-of b h k) at e
+float-fine nan f e = tt
+float-fine (inf s) f e = tt
+float-fine (fin s m d) f e = (f, if-zero-else (isWhole (fin s m d)) 3 e)
 
-    go : (t : Bool) → eqb (b % 0x8000_0000_0000_0000) 0 ≡ t → FineFloat (ofBits binary64 b)
-    go true z = zero-fine b h (eqb-true _ _ z)
-    go false z = inf-fine b h (finite-told (b % 0x8000_0000_0000_0000) plain (eqb-false _ _ z))
-
-float-good : (b : ℕ) → b < 2 ^ 64 → Good ScalarP (floatAs b)
+float-good : (b : ℕ) → Good ScalarP (floatAs b)
 unfolding floatAs scalarFault
-float-good b h =
+float-good b =
     if-all (Good ScalarP) {b = eqb b 0x7FF8_0000_0000_0000} (λ _. good (λ _. tt)) (λ _.
-    if-all (Good ScalarP) {b = ltb 0x7FF0_0000_0000_0000 (b % 0x8000_0000_0000_0000)} (λ _. good-none) (λ i. good (float-fine b h (ltb-false _ _ i))))
+    if-all (Good ScalarP) {b = ltb 0x7FF0_0000_0000_0000 (b % 0x8000_0000_0000_0000)} (λ _. good-none) (λ _. good (float-fine (ofBits binary64 b) (ofBits-fits binary64 b))))
 
 decimal-good : (l : List ℕ) → Bytes l → Good ScalarP (decimalOf l)
 unfolding decimalOf
@@ -204,7 +173,7 @@ scalar-good l b =
     if-all (Good ScalarP) {b = eqb (kind l) 0} (λ _. if-all (Good ScalarP) {b = leb 2 (length l)} (λ _. if-all (Good ScalarP) {b = leb (getD l 1 0) 12} (λ e. good (λ _. leb-true _ _ e)) (λ _. good-none)) (λ _. good-none)) (λ _.
     if-all (Good ScalarP) {b = eqb (kind l) 1} (λ _. if-all (Good ScalarP) {b = leb 2 (length l)} (λ _. if-all (Good ScalarP) {b = leb (getD l 1 0) 1} (λ _. good (λ _. tt)) (λ _. good-none)) (λ _. good-none)) (λ _.
     if-all (Good ScalarP) {b = eqb (kind l) 2} (λ _. if-all (Good ScalarP) {b = leb 9 (length l)} (λ _. good (λ _. signed-fits w64 (leNumber 8 (drop 1 l)) (le-bound 8 (drop 1 l) (bytes-drop 1 l b)))) (λ _. good-none)) (λ _.
-    if-all (Good ScalarP) {b = eqb (kind l) 3} (λ _. if-all (Good ScalarP) {b = leb 9 (length l)} (λ _. float-good (leNumber 8 (drop 1 l)) (le-bound 8 (drop 1 l) (bytes-drop 1 l b))) (λ _. good-none)) (λ _.
+    if-all (Good ScalarP) {b = eqb (kind l) 3} (λ _. if-all (Good ScalarP) {b = leb 9 (length l)} (λ _. float-good (leNumber 8 (drop 1 l))) (λ _. good-none)) (λ _.
     if-all (Good ScalarP) {b = eqb (kind l) 4} (λ _. decimal-good l b) (λ _.
     if-all (Good ScalarP) {b = eqb (kind l) 5} (λ _. timestamp-good l) (λ _.
     if-all (Good ScalarP) {b = eqb (kind l) 6} (λ _. map-good SymP ScalarP symbol (λ s p. p) (symOf l) (sym-good l b)) (λ _.

@@ -7,7 +7,7 @@ use native.Mathlib.Nat.{pow-suc}
 use native.Mathlib.Decide.{decLt}
 use native.Mathlib.Omega.{arith}
 use lib.Dec.{T, ltb, lit<}
-use lib.Ieee.{Float, nan, inf, fin, binary64, ofBits, toBits, isNan}
+use lib.Ieee.{nan, binary64, ofBits, toBits, isNan}
 use lib.Ieee.Bits.{nanBits-above, nanBits-is, toBits-ofBits}
 use lib.IntN.{ℤ, pos, negsuc}
 use lib.ListN.{length, getD, take, drop, length-take, List·getD-eq-default}
@@ -16,9 +16,10 @@ use mir.Syntax.{Width, w8, w16, w32, w64, w128}
 use mir.Val.{SFits, sel, toZ, ofZ}
 use mir.Val.{bits as widthOf}
 use mir.ValLaws.{toZ-ofZ, ofZ-toZ, toZ-fits, ofZ-fits}
-use borrow.Author.Tests.{le-ltb}
+use borrow.Author.Tests.{le-ltb, ltb-false}
 use Rattle.output.specs.Logic.{if}
 use Rattle.output.specs.Wrote.{leBytes}
+use Rattle.floats.proofs.FloatsBits.{not-nan}
 use Rattle.tape.specs.Bytes.{leNumber, signed, bits}
 use Rattle.tape.specs.Tree.{floatBits}
 use Rattle.tape.specs.Fine.{Bytes}
@@ -105,17 +106,15 @@ bits-bound w z h = rw (bits-is w z) (ofZ-fits w z h .fits)
 
 -- ---- floats: what is made of bits has those bits, if they are no NaN's; the one NaN has its one pattern
 
-pub not-nan : (x : Float) → T (not (isNan x)) → isNan x ≡ false
-unfolding isNan
-not-nan nan t = absurd t
-not-nan (inf s) t = refl
-not-nan (fin s m d) t = refl
-
 -- a pattern whose magnitude is at most that of an infinity is no NaN's
 pub of-bits-not-nan : (b : ℕ) → b % 0x8000_0000_0000_0000 ≤ 0x7FF0_0000_0000_0000 → T (not (isNan (ofBits binary64 b)))
 of-bits-not-nan b h =
     let e : isNan (ofBits binary64 b) ≡ false = sym (nanBits-is binary64 b) ∙ nanBits-above binary64 b ∙ le-ltb 0x7FF0_0000_0000_0000 (b % 0x8000_0000_0000_0000) h in
     subst (λ (t : Bool). T (not t)) (sym e) tt
+
+-- and the other way round
+pub not-nan-low : (b : ℕ) → isNan (ofBits binary64 b) ≡ false → b % 0x8000_0000_0000_0000 ≤ 0x7FF0_0000_0000_0000
+not-nan-low b e = ltb-false _ _ (sym (nanBits-above binary64 b) ∙ nanBits-is binary64 b ∙ e)
 
 pub to-bits-of : (b : ℕ) → b < 2 ^ 64 → b % 0x8000_0000_0000_0000 ≤ 0x7FF0_0000_0000_0000 → toBits binary64 (ofBits binary64 b) ≡ b
 to-bits-of b h k = toBits-ofBits binary64 b h (of-bits-not-nan b k)

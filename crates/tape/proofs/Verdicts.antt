@@ -1,20 +1,21 @@
 -- A tape's own refusal: it is at most 4, and where there is none the nodes of the whole tape have no problem. Assumes nothing.
-use Prim.Native.Nat.{ℕ, zero, suc, _+_, _-_, _%_, _≤_}
+use Prim.Native.Nat.{ℕ, zero, suc, _+_, _-_, _≤_}
 use mathlib.Core.Path.{_≡_, ap, _∙_}
 use mathlib.Core.List.{List, [], _∷_}
 use mathlib.Core.Bool.{Bool, true, false}
 use mathlib.Core.Option.{Option, none, some}
 use native.Mathlib.Omega.{arith}
 use lib.Dec.{eqb}
-use lib.Ieee.{Float, binary64, toBits, isNan}
+use lib.Ieee.{Float, nan, inf, fin}
 use lib.ListN.{length, take, drop}
 use Rattle.output.specs.Logic.{if}
 use Rattle.text_rules.specs.Text.{Sym}
 use Rattle.text_rules.specs.Utf8.{valid}
 use Rattle.numbers.specs.Timestamp.{wellFormed}
+use Rattle.floats.specs.Value.{isWhole}
 use Rattle.tape.specs.Bytes.{leNumber, part, first}
 use Rattle.tape.specs.Tree.{Scalar, Head, Node, null, bool, int, float, decimal, timestamp, symbol, string, clob, blob, scalar, nest, marker, size}
-use Rattle.tape.specs.Tape.{Child, bad, single, tree, childOf, textFault, symFault, symsFault, nameFault, headFault, finiteFault, floatFault, scalarFault, fault, Walked, turn, level, walk, bodyOf, nodesOf}
+use Rattle.tape.specs.Tape.{Child, bad, single, tree, childOf, textFault, symFault, symsFault, nameFault, headFault, floatFault, scalarFault, fault, Walked, turn, level, walk, bodyOf, nodesOf}
 use Rattle.tape.specs.Verdict.{misfit, countFault, verdict}
 use Rattle.tape.specs.declared.Frame.{Frame}
 use Rattle.tape.specs.declared.Frame.the-variants.{Top}
@@ -51,13 +52,11 @@ head-most : (h : Head) → headFault h ≤ 4
 unfolding headFault
 head-most h = first-most (nameFault (h .0)) (symsFault (h .1)) (name-most (h .0)) (syms-most (h .1))
 
-finite-most : (b : ℕ) → finiteFault b ≤ 4
-unfolding finiteFault
-finite-most b = if-most (eqb b 0) 0 (if (eqb b 0x7FF0_0000_0000_0000) 0 4) (omega arith) (if-most (eqb b 0x7FF0_0000_0000_0000) 0 4 (omega arith) (omega arith))
-
 float-most : (x : Float) → floatFault x ≤ 4
 unfolding floatFault
-float-most x = if-most (isNan x) 0 (finiteFault (toBits binary64 x % 0x8000_0000_0000_0000)) (omega arith) (finite-most (toBits binary64 x % 0x8000_0000_0000_0000))
+float-most nan = omega arith
+float-most (inf s) = omega arith
+float-most (fin s m e) = if-most (isWhole (fin s m e)) 0 4 (omega arith) (omega arith)
 
 scalar-most : (s : Scalar) → scalarFault s ≤ 4
 unfolding scalarFault

@@ -5,14 +5,15 @@ use mathlib.Core.Path.{_≡_}
 use mathlib.Core.List.{List, [], _∷_}
 use mathlib.Core.Bool.{true}
 use mathlib.Core.Option.{Option, none, some}
-use lib.IntN.{pos}
-use lib.Ieee.{Float, nan, inf, fin}
+use lib.Dec.{T}
+use lib.Ieee.{Float, nan, inf, fin, binary64, fits}
 use lib.ListN.{length, getD}
 use mir.Syntax.{w32, w64}
 use mir.Val.{SFits}
 use Rattle.text_rules.specs.Text.{Sym}
 use Rattle.text_rules.specs.Utf8.{valid}
 use Rattle.numbers.specs.Timestamp.{wellFormed}
+use Rattle.floats.specs.Value.{isWhole}
 use Rattle.tape.specs.Tree.{Scalar, Head, Node, Nodes, null, bool, int, float, decimal, timestamp, symbol, string, clob, blob, scalar, nest, marker, nil, more, encodes}
 use Rattle.tape.specs.declared.Frame.{Frame}
 use Rattle.tape.specs.declared.Frame.the-variants.{Top, List as ListF, Sexp, Struct}
@@ -41,11 +42,11 @@ abbrev pub FineSyms : List Sym → Type 0
 FineSyms [] = Unit
 FineSyms (s ∷ ss) = FineSym s × FineSyms ss
 
--- nan, an infinity or a zero
+-- nan, an infinity, or one of 64 bits that is a whole number up to the most
 abbrev pub FineFloat : Float → Type 0
 FineFloat nan = Unit
 FineFloat (inf s) = Unit
-FineFloat (fin s m e) = (m ≡ 0) × (e ≡ pos 0)
+FineFloat (fin s m e) = T (fits binary64 (fin s m e)) × (isWhole (fin s m e) ≡ true)
 
 -- null's type byte is 0..12; an int is an i64, a decimal's magnitude a u64 and its exponent an i32
 abbrev pub FineScalar : Scalar → Type 0

@@ -6,12 +6,13 @@ use mathlib.Core.Bool.{Bool, true, false}
 use mathlib.Core.Option.{Option, none, some}
 use lib.ListN.{length, getD, take, drop}
 use lib.Dec.{leb, ltb, eqb}
-use lib.Ieee.{Float, nan, binary64, ofBits, toBits, isNan}
+use lib.Ieee.{Float, nan, inf, fin, binary64, ofBits}
 use Rattle.output.specs.Logic.{if}
 use Rattle.text_rules.specs.Text.{Sym}
 use Rattle.text_rules.specs.Utf8.{valid}
 use Rattle.numbers.specs.declared.timestamp.Timestamp.{Timestamp}
 use Rattle.numbers.specs.Timestamp.{wellFormed}
+use Rattle.floats.specs.Value.{isWhole}
 use Rattle.tape.specs.Bytes.{leNumber, signed, first}
 use Rattle.tape.specs.Tree.{Scalar, Head, Node, Nodes, null, bool, int, float, decimal, timestamp, symbol, string, clob, blob, scalar, nest, marker, nil, more}
 use Rattle.tape.specs.declared.Frame.{Frame}
@@ -195,12 +196,11 @@ nameFault (some s) = symFault s
 unfoldable pub headFault : Head → ℕ
 headFault h = first (nameFault (h .0)) (symsFault (h .1))
 
--- a nonzero finite float, by its bits without the sign
-unfoldable pub finiteFault : ℕ → ℕ
-finiteFault b = if (eqb b 0) 0 (if (eqb b 0x7FF0_0000_0000_0000) 0 4)
-
+-- a finite float that is no whole number up to the most
 unfoldable pub floatFault : Float → ℕ
-floatFault x = if (isNan x) 0 (finiteFault (toBits binary64 x % 0x8000_0000_0000_0000))
+floatFault nan = 0
+floatFault (inf s) = 0
+floatFault (fin s m e) = if (isWhole (fin s m e)) 0 4
 
 unfoldable pub scalarFault : Scalar → ℕ
 scalarFault (null t) = 0

@@ -13,7 +13,7 @@ pub enum Answer {
     BadNode,
     // 3: a container opened while 64 are open
     TooDeep,
-    // 4: nonzero finite float
+    // 4: a finite float that is no whole number of magnitude up to 2^53
     FiniteFloat,
     // 5: streaming: a kind 13; tree: not one top-level node, a marker, or an identifier but 0
     Unsuited,

@@ -12,6 +12,7 @@ ghost use Rattle.tape.specs.Tape.{kind, textOf, symOf, symsOf, nameOf, n
 ghost use Rattle.tape.specs.CheckSteps.{codeOf, scalarCode, spanOf, numberIn, nameNumberIn, endOf, frameOf, symsFront, notesFront, Checks};
 ghost use Rattle.tape.specs.Checked.{Refuses, TapeChecks};
 use crate::Frame;
+use floats::bits::Magnitude;
 
 // Annotations: refused, always by 2; or where they end, and, of them and of the nodes before them, whether there are annotations and whether
 // there is an identifier but 0.
@@ -88,24 +89,26 @@ pub fn bool_size(tape: &[u8], at: usize, end: usize) -> usize
     2
 }
 
-// Only zeros, infinities and the one NaN have a text.
+// Only whole numbers up to the most, infinities and the one NaN have a text.
 fn bits_size(b: u64) -> usize
     ensures { λ r. ⌜ r ≡ scalarCode (floatAs b) ⌝ }
 {
-    if b == 0x7FF8_0000_0000_0000 {
-        return 9;
+    match floats::bits::magnitude_of(b) {
+        Magnitude::Is(_) => 9,
+        Magnitude::No => {
+            if b == 0x7FF8_0000_0000_0000 {
+                return 9;
+            }
+            let m = b % 0x8000_0000_0000_0000;
+            if m == 0x7FF0_0000_0000_0000 {
+                return 9;
+            }
+            if 0x7FF0_0000_0000_0000 < m {
+                return 0;
+            }
+            1
+        }
     }
-    let m = b % 0x8000_0000_0000_0000;
-    if 0x7FF0_0000_0000_0000 < m {
-        return 0;
-    }
-    if m == 0 {
-        return 9;
-    }
-    if m == 0x7FF0_0000_0000_0000 {
-        return 9;
-    }
-    1
 }
 
 pub fn float_size(tape: &[u8], at: usize, end: usize) -> usize

@@ -13,7 +13,6 @@ pub mod Utf8Scalar
 pub mod Utf8View
 pub mod WordsLaws
 pub mod SymbolsText
-pub mod FloatsBits
 pub mod NullsText
 pub mod LaneTests
 pub mod WordsBack

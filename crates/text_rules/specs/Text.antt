@@ -1,9 +1,8 @@
--- What `text_formatter` writes: symbols, strings, clobs, blobs, nulls, bools, floats. Assumes nothing: these are definitions.
+-- What `text_formatter` writes: symbols, strings, clobs, blobs, nulls, bools. Assumes nothing: these are definitions.
 use Prim.Native.Nat.{ℕ}
 use mathlib.Core.Bool.{Bool, true, false, _||_}
 use mathlib.Core.List.{List, [], _∷_, _++_}
 use lib.Dec.{eqb}
-use lib.Ieee.{Float, binary64, toBits, isNan}
 use Rattle.output.specs.Logic.{if, byte, ascii}
 use Rattle.text_rules.specs.Digits.{digits}
 use Rattle.text_rules.specs.Words.{isKeyword, resemblesSymbolId, resemblesVersionMarker, isIdentifier}
@@ -63,14 +62,3 @@ nullText t = if (eqb t 0) (ascii "null") (ascii "null." ++ typeName t)
 
 unfoldable pub boolText : Bool → List ℕ
 boolText b = if b (ascii "true") (ascii "false")
-
--- +inf, -inf, 0e0, -0e0, by the bits of a float that is no NaN; any other float has no text
-unfoldable pub bitsText : ℕ → List ℕ
-bitsText b =
-    if (eqb b 0x7FF0_0000_0000_0000) (ascii "+inf")
-    (if (eqb b 0xFFF0_0000_0000_0000) (ascii "-inf")
-    (if (eqb b 0) (ascii "0e0")
-    (if (eqb b 0x8000_0000_0000_0000) (ascii "-0e0") [])))
-
-unfoldable pub floatText : Float → List ℕ
-floatText x = if (isNan x) (ascii "nan") (bitsText (toBits binary64 x))

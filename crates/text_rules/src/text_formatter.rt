@@ -1,11 +1,11 @@
-// What the Rust's `text_formatter` writes of scalars: symbols, strings, nulls, bools and floats.
+// What the Rust's `text_formatter` writes of scalars: symbols, strings, nulls and bools.
 ghost use Prim.Native.Nat.{_+_, _≤_};
 ghost use mathlib.Core.Path.{_≡_};
 ghost use mathlib.Core.List.{[], _∷_, _++_};
 ghost use lib.ListN.{length, take, drop};
 ghost use Rattle.output.specs.Logic.{byte};
 ghost use Rattle.output.specs.Wrote.{Wrote, limit, leBytes};
-ghost use Rattle.text_rules.specs.Text.{marked, symbolText, symbolIdText, stringText, nullText, boolText, bitsText, floatText};
+ghost use Rattle.text_rules.specs.Text.{marked, symbolText, symbolIdText, stringText, nullText, boolText};
 ghost use Rattle.text_rules.specs.TextSteps.{twoWordText};
 ghost use Rattle.text_rules.specs.WordSteps.{special, isBare};
 
@@ -62,37 +62,6 @@ pub fn format_bool(buf: &mut [u8], pos: usize, b: bool) -> usize
         return output::put_le(buf, pos, 0x65757274, 4);
     }
     output::put_le(buf, pos, 0x65736C6166, 5)
-}
-
-// A float by its bits, which are no NaN's: `+inf`, `-inf`, `0e0`, `-0e0`, the first byte lowest. Only infinities and zeros have a text.
-fn put_float_bits(buf: &mut [u8], pos: usize, b: u64) -> usize
-    requires { ⌜ pos ≤ limit ⌝ }
-    ensures { λ r. ⌜ Wrote (now (buf .entry)) (now (buf .exit)) pos r (bitsText b) ⌝ }
-{
-    if b == 0x7FF0_0000_0000_0000 {
-        return output::put_le(buf, pos, 0x666E692B, 4);
-    }
-    if b == 0xFFF0_0000_0000_0000 {
-        return output::put_le(buf, pos, 0x666E692D, 4);
-    }
-    if b == 0 {
-        return output::put_le(buf, pos, 0x306530, 3);
-    }
-    if b == 0x8000_0000_0000_0000 {
-        return output::put_le(buf, pos, 0x3065302D, 4);
-    }
-    pos
-}
-
-// The same, or `nan`.
-pub fn format_float(buf: &mut [u8], pos: usize, x: f64) -> usize
-    requires { ⌜ pos ≤ limit ⌝ }
-    ensures { λ r. ⌜ Wrote (now (buf .entry)) (now (buf .exit)) pos r (floatText x) ⌝ }
-{
-    if x != x {
-        return output::put_le(buf, pos, 0x6E616E, 3);
-    }
-    put_float_bits(buf, pos, f64::to_bits(x))
 }
 
 // `$` and the number.

@@ -1,12 +1,12 @@
 // Writes the texts of worked values, a line for each, reads each back, and writes what was read behind a tab. A text that is not read to
 // its end has `!` there. What it must print was asked of the Rust (tests/texts.py).
 ghost use Prim.Native.Nat.{_<_};
+use floats::float::FloatRead;
 use numbers::numeral::NumeralRead;
 use numbers::timestamp::Timestamp;
 use numbers::timestamp::TimestampRead;
 use tokens::quoted::Step;
 use tokens::values::BoolRead;
-use tokens::values::FloatRead;
 use tokens::values::NullRead;
 use tokens::values::SymbolRead;
 
@@ -299,14 +299,14 @@ fn boolean(b: bool) {
 
 fn float(x: f64) {
     let mut buf = [0u8; 32];
-    let n = text_rules::text_formatter::format_float(&mut buf, 0, x);
+    let n = floats::float::format_float(&mut buf, 0, x);
     put(&buf, n, b'\t');
     if n <= 32 {
-        let r = tokens::values::float_at(&buf[0..n], 0);
+        let r = floats::float::float_at(&buf[0..n], 0);
         let mut again = [0u8; 32];
         match r {
             FloatRead::Is(y, end) => {
-                let m = text_rules::text_formatter::format_float(&mut again, 0, y);
+                let m = floats::float::format_float(&mut again, 0, y);
                 back(&again, m, end, &buf[0..n]);
             }
             FloatRead::Bad => bad(),
@@ -327,6 +327,15 @@ fn words() {
     float(-1.0 / 0.0);
     float(0.0);
     float(-0.0);
+    float(1.0);
+    float(15.0);
+    float(100.0);
+    float(-250.0);
+    float(12345678.0);
+    float(123456789.0);
+    float(1000000000000000.0);
+    float(-9007199254740991.0);
+    float(9007199254740992.0);
 }
 
 // The symbol that a text starts with, written again.

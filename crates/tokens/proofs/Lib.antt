@@ -17,6 +17,5 @@ pub mod TokensLaws
 pub mod SymbolSteps
 pub mod SymbolBack
 pub mod NullBack
-pub mod FloatBack
 pub mod WordsOther
 pub mod TokenExamples

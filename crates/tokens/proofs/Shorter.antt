@@ -9,17 +9,17 @@ use lib.Dec.{eqb, leb}
 use lib.ListN.{length, drop, length-drop}
 use borrow.Author.Tests.{leb-true}
 use Rattle.output.specs.Logic.{if, then, on, or, byte, ascii}
-use Rattle.text_rules.specs.Texts.{starts, strip, same}
+use Rattle.text_rules.specs.Texts.{starts, strip}
 use Rattle.text_rules.specs.Words.{isPart, word, behindWord, kindOf}
 use Rattle.text_rules.specs.Utf8.{charAt, isScalar}
 use Rattle.text_rules.specs.Escapes.{letter, hexValue, hex}
 use Rattle.text_rules.specs.Base64.{base64Bytes}
 use Rattle.text_rules.specs.declared.words.Kind.{Kind}
 use Rattle.text_rules.specs.declared.words.Kind.the-variants.{Refused}
-use Rattle.text_rules.proofs.WordsLaws.{same-is, kind-nothing}
+use Rattle.text_rules.proofs.WordsLaws.{kind-nothing}
 use Rattle.tokens.specs.Quoted.{quote, scalarEscape, letterEscape, escape, raw, character, quoted, string, byteEscape, rawByte, clobByte, clobBytes, clob}
 use Rattle.tokens.specs.Blob.{untilBrace, blobRest, blob}
-use Rattle.tokens.specs.Token.{wordSymbol, bareSymbol, quotedSymbol, symbol, typeOf, nullBehind, nanWord, spelled, float}
+use Rattle.tokens.specs.Token.{wordSymbol, bareSymbol, quotedSymbol, symbol, typeOf, nullBehind}
 use Rattle.tokens.proofs.QuotedMany.{Read, many, characters-many, clob-many}
 
 -- ---- what is left behind something that was read, if anything was: fewer than n bytes
@@ -209,25 +209,9 @@ unfolding symbol quotedSymbol
 symbol-left isRaw t =
     left-if (starts (byte "'") t) (λ e. left-then (quoted isRaw (byte "'") (drop 1 t)) _ (quoted-left isRaw (byte "'") (drop 1 t)) (λ v h. fewer (let l = behind-byte (byte "'") t e in omega arith))) (λ _. bare-left t)
 
--- ---- nulls and floats
+-- ---- nulls
 
 pub null-left : (t : List ℕ) → Left (suc (length t)) (nullBehind t)
 unfolding nullBehind
 null-left t =
     left-if (starts (byte ".") t) (λ e. left-after (typeOf (word (drop 1 t))) _ (λ k _. fewer (let l = behind-byte (byte ".") t e in omega (arith, word-long (drop 1 t))))) (λ _. left-all 0 t)
-
-nan-left : (t : List ℕ) → Left (length t) (nanWord t)
-unfolding nanWord
-nan-left t = left-if (same (ascii "nan") (word t)) (λ e. fewer (let k : length (word t) ≡ 3 = ap length (same-is (ascii "nan") (word t) e) in omega (arith, word-long t))) (λ _. unread)
-
-spelled-left : (w : List ℕ) (bits : ℕ) (t : List ℕ) → 0 < length w → Left (length t) (spelled w bits t)
-unfolding spelled
-spelled-left w bits t l = left-after (strip w t) _ (λ r e. fewer (omega (arith, strip-long w t r e)))
-
-pub float-left : (t : List ℕ) → Left (length t) (float t)
-unfolding float
-float-left t =
-    left-or (nanWord t) _ (nan-left t)
-    (left-or (spelled (ascii "+inf") 0x7FF0_0000_0000_0000 t) _ (spelled-left (ascii "+inf") 0x7FF0_0000_0000_0000 t (omega arith))
-    (left-or (spelled (ascii "-inf") 0xFFF0_0000_0000_0000 t) _ (spelled-left (ascii "-inf") 0xFFF0_0000_0000_0000 t (omega arith))
-    (left-or (spelled (ascii "0e0") 0 t) _ (spelled-left (ascii "0e0") 0 t (omega arith)) (spelled-left (ascii "-0e0") 0x8000_0000_0000_0000 t (omega arith)))))

@@ -1,4 +1,4 @@
--- The steps of reading nulls, bools and floats, as laws of what the contracts say. Assumes nothing.
+-- The steps of reading nulls and bools, as laws of what the contracts say. Assumes nothing.
 use Prim.Native.Nat.{ℕ, suc, _+_, _-_, _≤_, _<_}
 use mathlib.Core.Path.{_≡_, refl, sym, ap, _∙_}
 use mathlib.Core.List.{List, []}
@@ -6,17 +6,15 @@ use mathlib.Core.Bool.{Bool, true, false}
 use mathlib.Core.Option.{Option, none, some}
 use native.Mathlib.Omega.{arith}
 use lib.Dec.{eqb}
-use lib.Ieee.{Float, nan, binary64, ofBits}
 use lib.ListN.{length, take, drop, getD}
 use borrow.Author.Tests.{eq-eqb, ne-eqb}
 use Rattle.output.specs.Logic.{if, then, or, byte, ascii}
 use Rattle.text_rules.specs.Texts.{starts, same}
 use Rattle.text_rules.specs.Words.{word, behindWord, kindOf}
-use Rattle.text_rules.specs.WordSteps.{Spanned, WordStands}
-use Rattle.text_rules.specs.WordSteps.{WordAt}
+use Rattle.text_rules.specs.WordSteps.{Spanned, WordAt}
 use Rattle.text_rules.specs.Reading.{Reads}
-use Rattle.tokens.specs.Token.{typeOf, nullBehind, null, boolOf, bool, nanWord, spelled, float}
-use Rattle.tokens.specs.TokenSteps.{typeRead, numberType, textType, containerType, spelledFloat}
+use Rattle.tokens.specs.Token.{typeOf, nullBehind, null, boolOf, bool}
+use Rattle.tokens.specs.TokenSteps.{typeRead, numberType, textType, containerType}
 use Rattle.text_rules.specs.declared.words.Kind.{Kind}
 use Rattle.text_rules.specs.declared.words.Kind.the-variants.{Refused}
 use Rattle.text_rules.specs.declared.words.Word.{Word}
@@ -99,17 +97,6 @@ module _ {text : List ℕ} {at e : ℕ} (s : Spanned text at e) where
       let i : null (drop at text) ≡ nullBehind (drop e text) = unfold null in rw (word-is (ascii "null") b h, f, ← s .rest) in
       reads-before i l g
 
-  -- ---- nan, or another float
-  pub nan-here : (b : Bool) → b ≡ same (ascii "nan") (take (e - at) (drop at text)) → b ≡ true → Reads text (suc at) (float (drop at text)) (some (nan, e))
-  nan-here b h f =
-      let l : at < e = word-long (ascii "nan") (sym f ∙ h) (omega arith) in
-      reads-some nan e (unfold float nanWord in rw (word-is (ascii "nan") b h, f, ← s .rest)) l (s .inside)
-
-  pub float-other : (b : Bool) → b ≡ same (ascii "nan") (take (e - at) (drop at text)) → b ≡ false → (r : Option (Float × ℕ)) → Reads text (suc at) (spelledFloat (drop at text)) r → Reads text (suc at) (float (drop at text)) r
-  float-other b h f r g =
-      let i : float (drop at text) ≡ spelledFloat (drop at text) = unfold float nanWord spelledFloat in rw (word-is (ascii "nan") b h, f) in
-      reads-before i (omega arith) g
-
 -- ---- bools
 
 bool-some : (t : List ℕ) (b : Bool) → boolOf (kindOf (word t)) ≡ some b → bool t ≡ some (b, behindWord t)
@@ -138,13 +125,3 @@ module _ {text : List ℕ} {at : ℕ} {w : Word} (a : WordAt text at w) where
 
   pub bool-none : (k : Kind) → w .kind ≡ k → boolOf k ≡ none → Reads text (suc at) (bool (drop at text)) none
   bool-none k e h = refused (unfold bool in rw (ap boolOf (sym (a .kind) ∙ e) ∙ h))
-
--- ---- spelled floats
-
-pub spelled-other : {text : List ℕ} {at : ℕ} {w : List ℕ} (bits : ℕ) → WordStands text at w false → spelled w bits (drop at text) ≡ none
-unfolding spelled
-spelled-other bits s = rw (s .is)
-
-pub spelled-here : {text : List ℕ} {at : ℕ} {w : List ℕ} (bits : ℕ) → WordStands text at w true → spelled w bits (drop at text) ≡ some (ofBits binary64 bits, drop (at + length w) text)
-unfolding spelled
-spelled-here bits s = rw (s .is)

@@ -1,13 +1,12 @@
--- Symbols, nulls, bools and floats, read from the start of a text: what was read, and the text behind it.
+-- Symbols, nulls and bools, read from the start of a text: what was read, and the text behind it.
 -- Assumes nothing: these are definitions.
 use Prim.Native.Nat.{ℕ}
 use mathlib.Core.Bool.{Bool, true, false}
 use mathlib.Core.List.{List}
 use mathlib.Core.Option.{Option, none, some}
 use lib.ListN.{drop}
-use lib.Ieee.{Float, nan, binary64, ofBits}
-use Rattle.output.specs.Logic.{if, then, or, byte, ascii}
-use Rattle.text_rules.specs.Texts.{starts, strip, same}
+use Rattle.output.specs.Logic.{if, then, byte, ascii}
+use Rattle.text_rules.specs.Texts.{starts, same}
 use Rattle.text_rules.specs.Words.{word, behindWord, kindOf}
 use Rattle.text_rules.specs.Text.{Sym}
 use Rattle.tokens.specs.Quoted.{quoted}
@@ -77,19 +76,3 @@ boolOf Refused = none
 
 unfoldable pub bool : List ℕ → Option (Bool × List ℕ)
 bool t = then (boolOf (kindOf (word t))) (λ b. some (b, behindWord t))
-
--- ---- the five floats as printed
-
-unfoldable pub nanWord : List ℕ → Option (Float × List ℕ)
-nanWord t = if (same (ascii "nan") (word t)) (some (nan, behindWord t)) none
-
--- a spelling, and the bits of the float that it prints
-unfoldable pub spelled : List ℕ → ℕ → List ℕ → Option (Float × List ℕ)
-spelled w bits t = then (strip w t) (λ r. some (ofBits binary64 bits, r))
-
-unfoldable pub float : List ℕ → Option (Float × List ℕ)
-float t =
-    or (nanWord t)
-    (or (spelled (ascii "+inf") 0x7FF0_0000_0000_0000 t)
-    (or (spelled (ascii "-inf") 0xFFF0_0000_0000_0000 t)
-    (or (spelled (ascii "0e0") 0 t) (spelled (ascii "-0e0") 0x8000_0000_0000_0000 t))))

@@ -1,24 +1,20 @@
--- What the readers of nulls, bools, floats and symbols say of their answers. Assumes nothing: these are definitions.
+-- What the readers of nulls, bools and symbols say of their answers. Assumes nothing: these are definitions.
 use Prim.Native.Nat.{ℕ, _≤_}
 use mathlib.Core.Path.{_≡_}
 use mathlib.Core.Bool.{Bool}
 use mathlib.Core.List.{List}
 use mathlib.Core.Option.{Option, none, some}
 use lib.Dec.{eqb}
-use lib.Ieee.{Float}
 use lib.ListN.{length, drop}
-use Rattle.output.specs.Logic.{if, or, ascii}
+use Rattle.output.specs.Logic.{if, ascii}
 use Rattle.output.specs.Wrote.{Wrote}
 use Rattle.text_rules.specs.Texts.{same}
 use Rattle.text_rules.specs.Text.{Sym}
-use Rattle.tokens.specs.Token.{spelled}
 use Rattle.tokens.specs.Steps.{Kept}
 use Rattle.tokens.specs.declared.values.NullRead.{NullRead}
 use Rattle.tokens.specs.declared.values.NullRead.the-variants as N
 use Rattle.tokens.specs.declared.values.BoolRead.{BoolRead}
 use Rattle.tokens.specs.declared.values.BoolRead.the-variants as B
-use Rattle.tokens.specs.declared.values.FloatRead.{FloatRead}
-use Rattle.tokens.specs.declared.values.FloatRead.the-variants as F
 use Rattle.tokens.specs.declared.values.SymbolRead.{SymbolRead}
 use Rattle.tokens.specs.declared.values.SymbolRead.the-variants as S
 
@@ -30,10 +26,6 @@ nullRead N.Bad = none
 abbrev pub boolRead : BoolRead → Option (Bool × ℕ)
 boolRead (B.Is b end) = some (b, end)
 boolRead B.Bad = none
-
-abbrev pub floatRead : FloatRead → Option (Float × ℕ)
-floatRead (F.Is x end) = some (x, end)
-floatRead F.Bad = none
 
 -- the type that a name names; 0, which no name behind `null.` has, stands for none
 abbrev pub typeRead : ℕ → Option ℕ
@@ -48,13 +40,6 @@ textType w = if (same (ascii "timestamp") w) (some 5) (if (same (ascii "symbol")
 
 unfoldable pub containerType : List ℕ → Option ℕ
 containerType w = if (same (ascii "blob") w) (some 9) (if (same (ascii "list") w) (some 10) (if (same (ascii "sexp") w) (some 11) (if (same (ascii "struct") w) (some 12) none)))
-
--- the floats that start with no letter
-unfoldable pub spelledFloat : List ℕ → Option (Float × List ℕ)
-spelledFloat t =
-    or (spelled (ascii "+inf") 0x7FF0_0000_0000_0000 t)
-    (or (spelled (ascii "-inf") 0xFFF0_0000_0000_0000 t)
-    (or (spelled (ascii "0e0") 0 t) (spelled (ascii "-0e0") 0x8000_0000_0000_0000 t)))
 
 -- A symbol was read up to a place that is lo at least and its text written at p; or it is a number, and the buffer is as it was; or there is none,
 -- and the buffer is kept before p.

@@ -1,12 +1,12 @@
-// Symbols, nulls, bools and floats, read from a place of a text.
+// Symbols, nulls and bools, read from a place of a text.
 ghost use mathlib.Core.Path.{_≡_};
 ghost use Prim.Native.Nat.{suc, _≤_};
 ghost use lib.ListN.{length, drop};
 ghost use Rattle.output.specs.Wrote.{limit};
 ghost use Rattle.tokens.specs.Quoted.{rawRule};
-ghost use Rattle.tokens.specs.Token.{typeOf, nullBehind, null, bool, float, bareSymbol, symbol};
+ghost use Rattle.tokens.specs.Token.{typeOf, nullBehind, null, bool, bareSymbol, symbol};
 ghost use Rattle.text_rules.specs.Reading.{Reads};
-ghost use Rattle.tokens.specs.TokenSteps.{nullRead, boolRead, floatRead, typeRead, numberType, textType, containerType, spelledFloat, SymbolAt};
+ghost use Rattle.tokens.specs.TokenSteps.{nullRead, boolRead, typeRead, numberType, textType, containerType, SymbolAt};
 
 // A null of a type, and the place behind it; or none.
 pub enum NullRead {
@@ -16,11 +16,6 @@ pub enum NullRead {
 
 pub enum BoolRead {
     Is(bool, usize),
-    Bad,
-}
-
-pub enum FloatRead {
-    Is(f64, usize),
     Bad,
 }
 
@@ -151,38 +146,6 @@ pub fn bool_at(text: &[u8], at: usize) -> BoolRead
         text_rules::words::Kind::Text => BoolRead::Bad,
         text_rules::words::Kind::Refused => BoolRead::Bad,
     }
-}
-
-// The floats that start with no letter: their bits are known by their spelling.
-fn spelled_float(text: &[u8], at: usize) -> FloatRead
-    requires { ⌜ at ≤ length (now text) ⌝ }
-    ensures { λ r. ⌜ Reads (now (text .entry)) (suc at) (spelledFloat (drop at (now (text .entry)))) (floatRead r) ⌝ }
-{
-    if text_rules::words::word_stands(text, at, b"+inf") {
-        return FloatRead::Is(f64::from_bits(0x7FF0_0000_0000_0000), at + 4);
-    }
-    if text_rules::words::word_stands(text, at, b"-inf") {
-        return FloatRead::Is(f64::from_bits(0xFFF0_0000_0000_0000), at + 4);
-    }
-    if text_rules::words::word_stands(text, at, b"0e0") {
-        return FloatRead::Is(f64::from_bits(0), at + 3);
-    }
-    if text_rules::words::word_stands(text, at, b"-0e0") {
-        return FloatRead::Is(f64::from_bits(0x8000_0000_0000_0000), at + 4);
-    }
-    FloatRead::Bad
-}
-
-// nan, +inf, -inf, 0e0 or -0e0.
-pub fn float_at(text: &[u8], at: usize) -> FloatRead
-    requires { ⌜ at ≤ length (now text) ⌝ }
-    ensures { λ r. ⌜ Reads (now (text .entry)) (suc at) (float (drop at (now (text .entry)))) (floatRead r) ⌝ }
-{
-    let e = text_rules::words::word_end(text, at);
-    if text_rules::words::same_word(&text[at..e], b"nan") {
-        return FloatRead::Is(0.0 / 0.0, e);
-    }
-    spelled_float(text, at)
 }
 
 // A bare symbol: its text or its number.

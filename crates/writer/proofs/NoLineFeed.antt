@@ -7,7 +7,7 @@ use mathlib.Core.Option.{Option, none, some}
 use native.Mathlib.Omega.{arith}
 use lib.Dec.{eqb, leb, ltb}
 use lib.IntN.{ℤ, pos, negsuc}
-use lib.Ieee.{Float, binary64, toBits, isNan}
+use lib.Ieee.{Float, nan, inf, fin}
 use lib.ListN.{length, getD, take, drop, replicate}
 use borrow.Author.Tests.{eqb-true, ne-eqb}
 use Rattle.output.specs.Logic.{if, byte, ascii}
@@ -16,10 +16,12 @@ use Rattle.text_rules.specs.Words.{isStart, isPart, behindWord}
 use Rattle.text_rules.specs.WordSteps.{isBare}
 use Rattle.text_rules.specs.Escapes.{hasLetter, letterOf, hexDigit, hexEscape, hasHex, textEscape, textBody, clobEscape, clobBody}
 use Rattle.text_rules.specs.Base64.{alphabet, base64Character, characters24, base64}
-use Rattle.text_rules.specs.Text.{Sym, marked, symbolText, symbolIdText, stringText, clobText, blobText, typeName, nullText, boolText, bitsText, floatText}
+use Rattle.text_rules.specs.Text.{Sym, marked, symbolText, symbolIdText, stringText, clobText, blobText, typeName, nullText, boolText}
 use Rattle.numbers.specs.Decimal.{intText, pointed, scientific, above, below, form, sign, decimalText}
 use Rattle.numbers.specs.declared.timestamp.Timestamp.{Timestamp}
 use Rattle.numbers.specs.Timestamp.{unknown, timestampText, yearAndMonth, date, hourAndMinute, dateHourAndMinute, fractionalSeconds, offsetText}
+use Rattle.floats.specs.Value.{magnitude}
+use Rattle.floats.specs.Float.{signedText, floatText}
 use Rattle.tape.specs.Tree.{Scalar, null, bool, int, float, decimal, timestamp, symbol, string, clob, blob}
 use Rattle.tape.specs.declared.Frame.{Frame}
 use Rattle.tape.specs.declared.Frame.the-variants.{Top, List as ListF, Sexp, Struct}
@@ -27,6 +29,7 @@ use Rattle.writer.specs.Text.{symText, scalarText, nameText, opening, cl
 use Rattle.text_rules.proofs.DigitLaws.{never, Digits, digit-range, digits-take, digits-drop, digits-zeros, digits-pad, digits-digits}
 use Rattle.text_rules.proofs.WordsBack.{word-all, identifier-word, unlike}
 use Rattle.text_rules.proofs.SymbolsText.{bare-is, symbol-bare, symbol-marked}
+use Rattle.floats.proofs.WholeBytes.{whole-all}
 
 -- ---- texts without LF
 
@@ -195,7 +198,7 @@ unbroken-blob : (s : List ℕ) → Unbroken (blobText s)
 unfolding blobText unbroken
 unbroken-blob s = unbroken-both (unbroken-both (spelled (ascii "{{") refl) (unbroken-base64 s)) (spelled (ascii "}}") refl)
 
--- ---- nulls and floats, literal spellings
+-- ---- nulls and bools, literal spellings
 
 unbroken-type : (t : ℕ) → Unbroken (typeName t)
 unfolding typeName unbroken
@@ -222,16 +225,23 @@ unbroken-bool : (b : Bool) → Unbroken (boolText b)
 unfolding boolText unbroken
 unbroken-bool b = unbroken-if b record { told = refl } record { told = refl }
 
-unbroken-bits : (b : ℕ) → Unbroken (bitsText b)
-unfolding bitsText unbroken
-unbroken-bits b =
-    unbroken-if (eqb b 0x7FF0_0000_0000_0000) record { told = refl }
-    (unbroken-if (eqb b 0xFFF0_0000_0000_0000) record { told = refl }
-    (unbroken-if (eqb b 0) record { told = refl } (unbroken-if (eqb b 0x8000_0000_0000_0000) record { told = refl } unbroken-nil)))
+-- ---- floats
+
+unbroken-sign : (b : Bool) → Unbroken (sign b)
+unfolding sign
+unbroken-sign true = unbroken-byte (byte "-") refl unbroken-nil
+unbroken-sign false = unbroken-nil
+
+unbroken-signed : (s : Bool) (o : Option ℕ) → Unbroken (signedText s o)
+unfolding signedText
+unbroken-signed s none = unbroken-nil
+unbroken-signed s (some n) = unbroken-both (unbroken-sign s) (whole-all Unbroken unbroken-nil (λ c t h k u. unbroken-byte c (ne-eqb c 10 (λ q. omega arith)) u) n)
 
 unbroken-float : (x : Float) → Unbroken (floatText x)
 unfolding floatText unbroken
-unbroken-float x = unbroken-if (isNan x) record { told = refl } (unbroken-bits (toBits binary64 x))
+unbroken-float nan = record { told = refl }
+unbroken-float (inf s) = unbroken-if s record { told = refl } record { told = refl }
+unbroken-float (fin s m e) = unbroken-signed s (magnitude (fin s m e))
 
 -- ---- ints, decimals, timestamps
 
@@ -262,12 +272,8 @@ unbroken-below m L k =
 
 unbroken-decimal : (neg : Bool) (m : ℕ) (e : ℤ) → Unbroken (decimalText neg m e)
 unfolding decimalText
-unbroken-decimal neg m e = unbroken-both (signs neg) (forms e)
+unbroken-decimal neg m e = unbroken-both (unbroken-sign neg) (forms e)
   where
-    signs : (b : Bool) → Unbroken (sign b)
-    signs true = unfold sign in unbroken-byte (byte "-") refl unbroken-nil
-    signs false = unfold sign in unbroken-nil
-
     forms : (e : ℤ) → Unbroken (form (digits m) (length (digits m)) e)
     forms (pos k) = unfold form in unbroken-above m (length (digits m)) k
     forms (negsuc k) = unfold form in unbroken-below m (length (digits m)) (suc k)

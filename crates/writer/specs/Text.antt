@@ -8,9 +8,10 @@ use lib.Dec.{eqb}
 use lib.ListN.{replicate}
 use Rattle.output.specs.Logic.{if, byte, ascii}
 use Rattle.text_rules.specs.Text.{Sym}
-use Rattle.text_rules.specs.Text.{symbolText, symbolIdText, stringText, clobText, blobText, nullText, boolText, floatText}
+use Rattle.text_rules.specs.Text.{symbolText, symbolIdText, stringText, clobText, blobText, nullText, boolText}
 use Rattle.numbers.specs.Decimal.{intText, decimalText}
 use Rattle.numbers.specs.Timestamp.{timestampText}
+use Rattle.floats.specs.Float.{floatText}
 use Rattle.tape.specs.Tree.{Scalar, Node, Nodes, null, bool, int, float, decimal, timestamp, symbol, string, clob, blob, scalar, nest, marker, nil, more}
 use Rattle.tape.specs.declared.Frame.{Frame}
 use Rattle.tape.specs.declared.Frame.the-variants.{Top, List as ListF, Sexp, Struct}

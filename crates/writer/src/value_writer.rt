@@ -19,6 +19,7 @@ ghost use Rattle.tape.specs.declared.Frame.the-variants.{Struct};
 ghost use Rattle.writer.specs.Steps.{Rare, nameIn, notesIn, front, separating, Plain, item, items};
 use crate::whitespace_config;
 use crate::whitespace_config::Separator;
+use floats::float;
 use tape::Frame;
 use tape::Place;
 use tape::Scalar;
@@ -103,7 +104,7 @@ fn write_scalar(buf: &mut [u8], pos: usize, tape: &[u8], at: usize, end: usize, 
             at: at + 2,
         },
         Scalar::Float(x) => Step {
-            pos: text_formatter::format_float(buf, pos, x),
+            pos: float::format_float(buf, pos, x),
             at: at + 9,
         },
         Scalar::Id(i) => Step {

@@ -108,7 +108,7 @@ fn r3_too_deep() {
 
 #[test]
 fn r4_finite_float() {
-    for f in [1.0, -1.0, f64::MIN_POSITIVE, 5e-324, f64::MAX] {
+    for f in [1.5, -0.5, f64::MIN_POSITIVE, 5e-324, f64::MAX, 9_007_199_254_740_994.0, 1e16] {
         refused_by_all(&tape(&[float(f)]), Refusal::FiniteFloat);
         refused_by_all(&tape(&[list(&[int(1), structure(&[(symbol("a"), float(f))])])]), Refusal::FiniteFloat);
     }
@@ -117,12 +117,12 @@ fn r4_finite_float() {
 #[test]
 fn the_first_node_at_fault_decides() {
     let bad: Node = vec![1, 2];
-    refused_by_all(&tape(&[float(1.0), bad.clone()]), Refusal::FiniteFloat);
-    refused_by_all(&tape(&[bad.clone(), float(1.0)]), Refusal::BadNode);
-    refused_by_all(&tape(&[nested(65), float(1.0), bad.clone()]), Refusal::TooDeep);
-    refused_by_all(&tape(&[float(1.0), nested(65)]), Refusal::FiniteFloat);
+    refused_by_all(&tape(&[float(1.5), bad.clone()]), Refusal::FiniteFloat);
+    refused_by_all(&tape(&[bad.clone(), float(1.5)]), Refusal::BadNode);
+    refused_by_all(&tape(&[nested(65), float(1.5), bad.clone()]), Refusal::TooDeep);
+    refused_by_all(&tape(&[float(1.5), nested(65)]), Refusal::FiniteFloat);
     // Nodes before the count, the count before 5.
-    refused_by_all(&trailed(&float(1.0), 9, 7), Refusal::FiniteFloat);
+    refused_by_all(&trailed(&float(1.5), 9, 7), Refusal::FiniteFloat);
     let noted = annotated(&[id(7)], int(1));
     refused_by_all(&trailed(&noted, noted.len() as u32, 7), Refusal::BadNode);
 }
@@ -171,7 +171,7 @@ fn r7_no_layout() {
         fn ion_length(layout: u32, tape: *const u8, tape_length: usize) -> i64;
     }
     for layout in [3, 4, 256, u32::MAX] {
-        for tape in [vec![], tape(&[int(1)]), tape(&[float(1.0)])] {
+        for tape in [vec![], tape(&[int(1)]), tape(&[float(1.5)])] {
             // SAFETY: both slices are whole and apart.
             let call = |t: &[u8], out: &mut [u8]| unsafe { ion_write(layout, t.as_ptr(), t.len(), out.as_mut_ptr(), out.len()) };
             check(&tape, 40, call, -i64::from(Refusal::NoLayout.number()), Left::Untouched);

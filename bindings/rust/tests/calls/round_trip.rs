@@ -36,6 +36,7 @@ fn every_kind() {
         (0..13).map(null).collect(),
         vec![boolean(false), boolean(true), int(0), int(-1), int(i64::MAX), int(i64::MIN)],
         vec![nan(), float(f64::INFINITY), float(f64::NEG_INFINITY), float(0.0), float(-0.0)],
+        [1.0, 15.0, 100.0, 123_456_789.0, 1e15, 9_007_199_254_740_992.0].iter().flat_map(|&f| [float(f), float(-f)]).collect(),
         vec![decimal(false, u64::MAX, i32::MAX), decimal(true, u64::MAX, i32::MIN), decimal(true, 0, -1), decimal(false, 9, i32::MIN)],
         vec![timestamp(0, [1, 0, 0, 0, 0, 0], UNKNOWN, 0, 0), timestamp(1, [9999, 12, 0, 0, 0, 0], UNKNOWN, 0, 0)],
         vec![timestamp(2, [2000, 2, 29, 0, 0, 0], UNKNOWN, 0, 0), timestamp(3, [2026, 1, 1, 0, 0, 0], 1439, 0, 0)],

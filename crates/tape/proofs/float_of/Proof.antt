@@ -4,7 +4,7 @@ use native.Mathlib.Omega.{arith}
 use lib.Ieee.{div, ofBits}
 use borrow.Author.Tests.{eq-eqb, ne-eqb, lt-ltb, le-ltb}
 use Rattle.tape.specs.Tape.{floatAs}
-use Rattle.tape.proofs.CodeFloats.{no-nan}
+use Rattle.floats.proofs.FloatsBits.{no-nan}
 use Rattle.tape.proofs.float_of.Statement.{statement}
 use Rattle.tape.proofs.float_of.Tie as tie
 

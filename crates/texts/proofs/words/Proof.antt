@@ -46,6 +46,33 @@ float-requires-4 c κs = search needs
 float-requires-5 : tie.Need-float-requires-5 Inv-loop μ-loop
 float-requires-5 c κs = search needs
 
+float-requires-6 : tie.Need-float-requires-6 Inv-loop μ-loop
+float-requires-6 c κs = search needs
+
+float-requires-7 : tie.Need-float-requires-7 Inv-loop μ-loop
+float-requires-7 c κs = search needs
+
+float-requires-8 : tie.Need-float-requires-8 Inv-loop μ-loop
+float-requires-8 c κs = search needs
+
+float-requires-9 : tie.Need-float-requires-9 Inv-loop μ-loop
+float-requires-9 c κs = search needs
+
+float-requires-10 : tie.Need-float-requires-10 Inv-loop μ-loop
+float-requires-10 c κs = search needs
+
+float-requires-11 : tie.Need-float-requires-11 Inv-loop μ-loop
+float-requires-11 c κs = search needs
+
+float-requires-12 : tie.Need-float-requires-12 Inv-loop μ-loop
+float-requires-12 c κs = search needs
+
+float-requires-13 : tie.Need-float-requires-13 Inv-loop μ-loop
+float-requires-13 c κs = search needs
+
+float-requires-14 : tie.Need-float-requires-14 Inv-loop μ-loop
+float-requires-14 c κs = search needs
+
 returns : tie.Need-returns Inv-loop μ-loop
 returns c = search needs
 
@@ -67,4 +94,13 @@ words-spec =
     float-requires-3
     float-requires-4
     float-requires-5
+    float-requires-6
+    float-requires-7
+    float-requires-8
+    float-requires-9
+    float-requires-10
+    float-requires-11
+    float-requires-12
+    float-requires-13
+    float-requires-14
     returns)

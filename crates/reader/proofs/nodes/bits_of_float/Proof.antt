@@ -1,6 +1,6 @@
 -- `nodes::bits_of_float` meets its contract: a NaN alone differs from itself. Assumes nothing.
 use mathlib.Core.Path.{sym, ap, _∙_}
-use Rattle.text_rules.proofs.FloatsBits.{self, other, not-nan}
+use Rattle.floats.proofs.FloatsBits.{self, other, not-nan}
 use Rattle.tape.specs.Tree.{floatBits}
 use Rattle.tape.proofs.Numbers.{float-bits-nan}
 use Rattle.reader.proofs.nodes.bits_of_float.Statement.{statement}

@@ -1,9 +1,10 @@
--- `values::float_at` meets its contract. A NaN is made by 0.0 / 0.0, since no float is made of a NaN's pattern. Assumes nothing.
+-- `floats::float::nan_at` meets its contract. A NaN is made by 0.0 / 0.0, since no float is made of a NaN's pattern. Assumes nothing.
 use lib.Ieee.{div, ofBits}
-use Rattle.tokens.proofs.TokensLaws.{nan-here, float-other}
+use Rattle.text_rules.proofs.ReadingLaws.{refused}
+use Rattle.floats.proofs.FloatLaws.{nan-here, nan-other}
 use borrow.Author.Needs.{needs}
-use Rattle.tokens.proofs.values.float_at.Statement.{statement}
-use Rattle.tokens.proofs.values.float_at.Tie as tie
+use Rattle.floats.proofs.float.nan_at.Statement.{statement}
+use Rattle.floats.proofs.float.nan_at.Tie as tie
 
 word-end-requires : tie.Need-word-end-requires
 word-end-requires c κs = search needs
@@ -27,14 +28,11 @@ returns : tie.Need-returns
 unfolding div ofBits
 returns c = nan-here (c .before .before .before .before .word-end .ensures) (c .before .same-word .result) (c .before .same-word .ensures) (c .if1 .taken)
 
-spelled-float-requires : tie.Need-spelled-float-requires
-spelled-float-requires c κs = search needs
-
 returns-2 : tie.Need-returns-2
-returns-2 c = float-other (c .before .before .before .before .before .word-end .ensures) (c .before .before .same-word .result) (c .before .before .same-word .ensures) (c .before .if1 .left) _ (c .spelled-float .ensures)
+returns-2 c = refused (nan-other (c .before .before .before .before .word-end .ensures) (c .before .same-word .result) (c .before .same-word .ensures) (c .if1 .left))
 
-pub float-at-spec : {M : Type 1} → statement M
-float-at-spec =
+pub nan-at-spec : {M : Type 1} → statement M
+nan-at-spec =
     tie.close
     (tie.spec
     word-end-requires
@@ -44,5 +42,4 @@ float-at-spec =
     slice-aggregate-same-word
     same-word-requires
     returns
-    spelled-float-requires
     returns-2)

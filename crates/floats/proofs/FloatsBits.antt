@@ -4,8 +4,8 @@ use mathlib.Core.Bool.{Bool, true, false, not}
 use Prim.Native.Nat.{ℕ, _%_, _≤_}
 use native.Mathlib.Omega.{arith}
 use lib.Dec.{T}
-use lib.Ieee.{Float, nan, inf, fin, binary64, isNan, nanBits, ne, eq}
-use lib.Ieee.Bits.{nanBits-above}
+use lib.Ieee.{Float, nan, inf, fin, binary64, fits, ofBits, toBits, isNan, nanBits, ne, eq}
+use lib.Ieee.Bits.{nanBits-above, ofBits-toBits}
 use lib.Ieee.Compare.{differs-from-itself}
 use borrow.Author.Tests.{le-ltb}
 
@@ -28,3 +28,7 @@ unfolding isNan
 not-nan nan t = absurd t
 not-nan (inf s) t = refl
 not-nan (fin s m d) t = refl
+
+-- a float that fits is the one of its bits
+pub bits-of-it : (x : Float) → fits binary64 x ≡ true → ofBits binary64 (toBits binary64 x) ≡ x
+bits-of-it x e = ofBits-toBits binary64 x (subst T (sym e) tt)
