@@ -8,6 +8,7 @@ pub mod DecimalExamples
 pub mod TimestampSigned
 pub mod TimestampStores
 pub mod TimestampPlaces
+pub mod TimestampUsual
 pub mod Calendar
 pub mod Padded
 pub mod TimestampBack

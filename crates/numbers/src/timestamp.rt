@@ -6,6 +6,7 @@ ghost use mathlib.Core.Path.{_≡_};
 ghost use Prim.Native.Nat.{ℕ, suc, _+_, _*_, _/_, _%_, _≤_, _<_};
 ghost use mathlib.Core.Bool.{true};
 ghost use mathlib.Core.List.{List, _∷_, _++_};
+ghost use mathlib.Core.Option.{some};
 ghost use lib.IntN.{pos, natAbs};
 ghost use lib.ListN.{length, drop};
 ghost use lib.Seq.{sets};
@@ -15,7 +16,7 @@ ghost use Rattle.text_rules.specs.Digits.{run, behindDigits};
 ghost use Rattle.text_rules.specs.Reading.{Reads};
 ghost use Rattle.numbers.specs.Timestamp.{isLeap, daysIn, fieldWell, dateWell, timeWell, fractionWell, offsetWell, wellFormed, yearAndMonth, date, hourAndMinute, dateHourAndMinute, fractionalSeconds, offsetText, timestampText};
 ghost use Rattle.numbers.specs.TimestampRead.{fixed, startsDigit, clock, dated, timed, zoned, checked, minutes, west, offsetOf, fractionOf, secondOf, timeOf, behindMonth, behindYear, timestamp};
-ghost use Rattle.numbers.specs.TimestampSteps.{negative, timestampRead, numberRead, clockRead, toSecond};
+ghost use Rattle.numbers.specs.TimestampSteps.{negative, timestampRead, numberRead, clockRead, Marked, Usual, toSecond};
 
 // A point in time to a precision: 0 year, 1 month, 2 day, 3 minute, 4 second. Fields finer than the precision are 0. The offset
 // is in minutes, 32767 where it is unknown. The fraction of a second has so many digits.
@@ -631,8 +632,8 @@ fn behind_month(text: &[u8], at: usize, year: u16, month: u8) -> TimestampRead
     TimestampRead::Bad
 }
 
-// Behind `YYYY-`.
-fn behind_year(text: &[u8], at: usize, year: u16) -> TimestampRead
+// Behind `YYYY-`, whatever stands there.
+fn month_at(text: &[u8], at: usize, year: u16) -> TimestampRead
     requires { ⌜ at ≤ length (now text) ⌝ }
     ensures { λ r. ⌜ Reads (now (text .entry)) at (behindYear year (drop at (now (text .entry)))) (timestampRead r) ⌝ }
 {
@@ -646,6 +647,109 @@ fn behind_year(text: &[u8], at: usize, year: u16) -> TimestampRead
         return behind_month(text, a + 1, year, m as u8);
     }
     TimestampRead::Bad
+}
+
+// The number of two digits, 100 where there are none.
+fn pair_at(text: &[u8], at: usize) -> u8
+    requires { ⌜ at + 2 ≤ length (now text) ⌝ }
+    ensures { λ r. ⌜ (r < 100 → fixed 2 (drop at (now (text .entry))) ≡ some (r, drop (at + 2) (now (text .entry)))) ⌝ }
+{
+    let a = text[at];
+    let b = text[at + 1];
+    if a < 48 {
+        return 100;
+    }
+    if 57 < a {
+        return 100;
+    }
+    if b < 48 {
+        return 100;
+    }
+    if 57 < b {
+        return 100;
+    }
+    (a - 48) * 10 + (b - 48)
+}
+
+// True only where all marks of `MM-DDThh:mm:ssZ` stand at their places.
+fn is_marked(text: &[u8], at: usize) -> bool
+    requires { ⌜ at + 15 ≤ length (now text) ⌝ }
+    ensures { λ r. ⌜ (r ≡ true → Marked (now (text .entry)) at) ⌝ }
+{
+    if text[at + 14] != b'Z' {
+        return false;
+    }
+    if text[at + 2] != b'-' {
+        return false;
+    }
+    if text[at + 5] != b'T' {
+        return false;
+    }
+    if text[at + 8] != b':' {
+        return false;
+    }
+    text[at + 11] == b':'
+}
+
+// True only where the fields lie within their bounds. It says no of the days that not every month has.
+fn is_usual(year: u16, month: u8, day: u8, hour: u8, minute: u8, second: u8) -> bool
+    ensures { λ r. ⌜ (r ≡ true → Usual year month day hour minute second) ⌝ }
+{
+    if year == 0 {
+        return false;
+    }
+    if 9999 < year {
+        return false;
+    }
+    if month == 0 {
+        return false;
+    }
+    if 12 < month {
+        return false;
+    }
+    if day == 0 {
+        return false;
+    }
+    if 28 < day {
+        return false;
+    }
+    if 23 < hour {
+        return false;
+    }
+    if 59 < minute {
+        return false;
+    }
+    second <= 59
+}
+
+// Behind `YYYY-`. `MM-DDThh:mm:ssZ`, the most frequent, is read by itself.
+fn behind_year(text: &[u8], at: usize, year: u16) -> TimestampRead
+    requires { ⌜ at ≤ length (now text) ⌝ }
+    ensures { λ r. ⌜ Reads (now (text .entry)) at (behindYear year (drop at (now (text .entry)))) (timestampRead r) ⌝ }
+{
+    if 14 < text.len() - at {
+        if is_marked(text, at) {
+            let month = pair_at(text, at);
+            let day = pair_at(text, at + 3);
+            let hour = pair_at(text, at + 6);
+            let minute = pair_at(text, at + 9);
+            let second = pair_at(text, at + 12);
+            let end = at + 15;
+            if is_usual(year, month, day, hour, minute, second) {
+                let t = with_time(
+                    4,
+                    with_date(2, year, month, day),
+                    hour,
+                    minute,
+                    second,
+                    0,
+                    0,
+                );
+                return TimestampRead::Is(with_offset(t, 0), end);
+            }
+        }
+    }
+    month_at(text, at, year)
 }
 
 // The timestamp that the text from a place on starts with.

@@ -1,5 +1,6 @@
 pub mod Laying
 pub mod Signs
+pub mod NodeWords
 pub mod Between
 pub mod HeadSteps
 pub mod ScalarSteps

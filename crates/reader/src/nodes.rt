@@ -142,29 +142,29 @@ pub fn put_decimal(buf: &mut [u8], pos: usize, neg: bool, m: u64, e: i32) -> usi
     output::put_le(buf, q, bits_of_exponent(e), 4)
 }
 
-// The fields of a timestamp up to the minute.
-fn put_date(buf: &mut [u8], pos: usize, x: Timestamp) -> usize
-    requires { ⌜ pos ≤ limit ⌝ }
-    ensures { λ r. ⌜ Wrote (now (buf .entry)) (now (buf .exit)) pos r (leBytes 2 (x .year) ++ (x .month ∷ x .day ∷ x .hour ∷ x .minute ∷ [])) ⌝ }
+// The eight bytes of a timestamp from the precision to the second, as one number.
+fn date_word(x: Timestamp) -> u64
+    ensures { λ r. ⌜ leBytes 8 r ≡ x .precision ∷ (leBytes 2 (x .year) ++ (x .month ∷ x .day ∷ x .hour ∷ x .minute ∷ x .second ∷ [])) ⌝ }
 {
-    let p = output::put_le(buf, pos, x.year as u64, 2);
-    let q = put2(buf, p, x.month, x.day);
-    put2(buf, q, x.hour, x.minute)
+    x.precision as u64
+        + 256 * x.year as u64
+        + 16777216 * x.month as u64
+        + 4294967296 * x.day as u64
+        + 1099511627776 * x.hour as u64
+        + 281474976710656 * x.minute as u64
+        + 72057594037927936 * x.second as u64
 }
 
-// The fields of a timestamp from the second on.
-fn put_second(buf: &mut [u8], pos: usize, x: Timestamp) -> usize
-    ensures { λ r. ⌜ Wrote (now (buf .entry)) (now (buf .exit)) pos r (x .second ∷ (leBytes 2 (bits 16 (x .offset)) ++ (x .digits ∷ leBytes 4 (x .fraction)))) ⌝ }
+// The seven bytes behind the second, in the same way.
+fn offset_word(x: Timestamp) -> u64
+    ensures { λ r. ⌜ leBytes 7 r ≡ leBytes 2 (bits 16 (x .offset)) ++ (x .digits ∷ leBytes 4 (x .fraction)) ⌝ }
 {
-    let p = output::put(buf, pos, x.second);
-    let q = output::put_le(buf, p, bits_of_offset(x.offset), 2);
-    put_header(buf, q, x.digits, x.fraction as usize)
+    bits_of_offset(x.offset) + 65536 * x.digits as u64 + 16777216 * x.fraction as u64
 }
 
 pub fn put_timestamp(buf: &mut [u8], pos: usize, x: Timestamp) -> usize
     ensures { λ r. ⌜ Wrote (now (buf .entry)) (now (buf .exit)) pos r (encodeScalar (Scalar.timestamp x)) ⌝ }
 {
-    let p = put2(buf, pos, 5, x.precision);
-    let q = put_date(buf, p, x);
-    put_second(buf, q, x)
+    let p = put_wide(buf, pos, 5, date_word(x));
+    output::put_le(buf, p, offset_word(x), 7)
 }

@@ -435,6 +435,19 @@ word-identifier c t h = go (isPart c) refl
     go true e = rw e (and-true (isStart c) ∙ sym (unfold isIdentifier in rw (behind-word t)))
     go false e = absurd (let z : 0 < 0 = rw e at h in omega arith)
 
+-- from `A` on a part of an identifier may be its first
+part-start : (b : ℕ) → 65 ≤ b → isPart b ≡ true → isStart b ≡ true
+unfolding isPart isDigit
+part-start b l h = or-last (isStart b) ∙ simp (le-leb 48 b (omega arith), lt-leb b 57 (omega arith)) at h
+
+word-name : (c : ℕ) (t : List ℕ) → 0 < length (word (c ∷ t)) → 65 ≤ c → isKeyword (word (c ∷ t)) ≡ false → kindOf (word (c ∷ t)) ≡ Text
+unfolding word
+word-name c t h l k = go (isPart c) refl
+  where
+    go : (b : Bool) → isPart c ≡ b → kindOf (word (c ∷ t)) ≡ Text
+    go true e = kind-plain (word (c ∷ t)) h (λ q. let z : c ≡ 36 = rw e at q in omega arith) k true (sym (word-identifier c t h) ∙ part-start c l e)
+    go false e = absurd (let z : 0 < 0 = rw e at h in omega arith)
+
 module _ {text : List ℕ} {at e : ℕ} (s : Spanned text at e) where
   pub spanned-long : length (take (e - at) (drop at text)) ≡ e - at
   spanned-long = let d = length-drop at text in let i = s .inside in length-take (e - at) (drop at text) ∙ omega arith
@@ -449,6 +462,16 @@ module _ {text : List ℕ} {at e : ℕ} (s : Spanned text at e) where
       word-identifier (getD text at 0) (drop (at + 1) text) m
       ∙ ap (λ (l : List ℕ). isIdentifier (word l)) (sym b)
       ∙ ap isIdentifier (sym (s .bytes))
+
+  pub spanned-name : at < e → 65 ≤ getD text at 0 → isKeyword (take (e - at) (drop at text)) ≡ false → kindOf (word (drop at text)) ≡ Text
+  spanned-name h c k =
+      let i = s .inside in
+      let l = spanned-long in
+      let b : drop at text ≡ getD text at 0 ∷ drop (at + 1) text = byte-at text at (omega arith) in
+      let n : length (word (drop at text)) ≡ e - at = ap length (sym (s .bytes)) ∙ l in
+      let m : 0 < length (word (getD text at 0 ∷ drop (at + 1) text)) = rw b at (let z : 0 < length (word (drop at text)) = omega arith in z) in
+      let q : isKeyword (word (drop at text)) ≡ false = ap isKeyword (sym (s .bytes)) ∙ k in
+      ap (λ (l : List ℕ). kindOf (word l)) b ∙ word-name (getD text at 0) (drop (at + 1) text) m c (ap (λ (l : List ℕ). isKeyword (word l)) (sym b) ∙ q)
 
   pub spanned-none : e ≡ at → word (drop at text) ≡ []
   spanned-none h = sym (s .bytes) ∙ ap (λ (n : ℕ). take n (drop at text)) (let z : e - at ≡ 0 = omega arith in z)

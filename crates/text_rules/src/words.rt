@@ -7,6 +7,7 @@ ghost use Rattle.output.specs.Logic.{byte};
 ghost use Rattle.text_rules.specs.Digits.{number};
 ghost use Rattle.text_rules.specs.Texts.{starts, same};
 ghost use Rattle.text_rules.specs.Words.{isStart, isPart, allDigits, isKeyword, resemblesSymbolId, version, resemblesVersionMarker, isIdentifier, symbolId, kindOf};
+ghost use Rattle.text_rules.specs.declared.words.Kind.the-variants.{Text};
 ghost use Rattle.text_rules.specs.WordSteps.{Spanned, Passed, WordStands, WordAt, bounded};
 
 // What a word of identifier bytes is where it stands bare.
@@ -349,4 +350,25 @@ pub fn word_at(text: &[u8], at: usize) -> Word
     }
     let kind = known_kind(&text[at..end], is_start(text[at]));
     Word { kind, end }
+}
+
+// The place behind a word that is a symbol's text, where it starts with a letter or `_`; else the place itself, which says nothing.
+pub fn name_end(text: &[u8], at: usize) -> usize
+    requires { ⌜ at ≤ length (now text) ⌝ }
+    ensures { λ r. ⌜ (at < r → WordAt (now (text .entry)) at (record { kind = Text; end = r })) ⌝ }
+{
+    if at == text.len() {
+        return at;
+    }
+    if text[at] < b'A' {
+        return at;
+    }
+    let end = word_end(text, at);
+    if end == at {
+        return at;
+    }
+    if is_keyword(&text[at..end]) {
+        return at;
+    }
+    end
 }

@@ -153,6 +153,11 @@ fn bare_symbol_at(text: &[u8], at: usize, buf: &mut [u8], pos: usize) -> SymbolR
     requires { ⌜ (at ≤ length (now text)) × (pos ≤ limit) ⌝ }
     ensures { λ r. ⌜ SymbolAt (now (text .entry)) (suc at) (now (buf .entry)) (now (buf .exit)) pos (bareSymbol (drop at (now (text .entry)))) r ⌝ }
 {
+    let n = text_rules::words::name_end(text, at);
+    if at < n {
+        let q = output::put_bytes(buf, pos, &text[at..n]);
+        return SymbolRead::Text { at: n, pos: q };
+    }
     let w = text_rules::words::word_at(text, at);
     let k = w.kind;
     let e = w.end;

@@ -1,108 +1,100 @@
 -- `timestamp::behind_year` meets its contract. Assumes nothing.
-use mathlib.Core.Path.{sym, _∙_}
+use Prim.Native.Nat.{_+_, _≤_}
 use native.Mathlib.Omega.{arith}
-use Rattle.text_rules.proofs.Places.{next}
-use Rattle.numbers.specs.TimestampRead.{behindYear}
-use Rattle.numbers.proofs.TimestampPlaces.{joined-bound}
-use Rattle.text_rules.proofs.ReadingLaws.{reads-from, refused}
+use lib.ListN.{length}
+use Rattle.numbers.proofs.TimestampUsual.{usual-read}
 use borrow.Author.Needs.{needs}
 use Rattle.numbers.proofs.timestamp.behind_year.Statement.{statement}
 use Rattle.numbers.proofs.timestamp.behind_year.Tie as tie
 
-fixed-at-requires : tie.Need-fixed-at-requires
-fixed-at-requires c κs = search needs
+sub-if1 : tie.Need-sub-if1
+sub-if1 c = search needs
 
-enum-known-m : tie.Need-enum-known-m
-enum-known-m c = search needs
+is-marked-requires : tie.Need-is-marked-requires
+is-marked-requires c κs = search needs
 
-enum-told : tie.Need-enum-told
-enum-told c = search needs
+pair-at-requires : tie.Need-pair-at-requires
+pair-at-requires c κs = search needs
 
-returns : tie.Need-returns
-unfolding behindYear
-returns c =
-    let v = rw (c .enum-told .given .1) at (c .before .before .fixed-at .ensures) in
-    refused (rw (v .is))
+add-pair-at : tie.Need-add-pair-at
+add-pair-at c = search needs
 
-stands-requires : tie.Need-stands-requires
-stands-requires c κs =
-    let v = rw (c .before .m .given .1) at (c .before .before .before .fixed-at .ensures) in
-    v .place .1
+pair-at-requires-2 : tie.Need-pair-at-requires-2
+pair-at-requires-2 c κs = search needs
 
-cast-with-date : tie.Need-cast-with-date
-cast-with-date c =
-    let v = rw (c .before .before .before .m .given .1) at (c .before .before .before .before .before .fixed-at .ensures) in
-    record { fits = omega (arith, joined-bound 0 2 _ _ _ (v .is)) }
+add-pair-at-2 : tie.Need-add-pair-at-2
+add-pair-at-2 c = search needs
+
+pair-at-requires-3 : tie.Need-pair-at-requires-3
+pair-at-requires-3 c κs = search needs
+
+add-pair-at-3 : tie.Need-add-pair-at-3
+add-pair-at-3 c = search needs
+
+pair-at-requires-4 : tie.Need-pair-at-requires-4
+pair-at-requires-4 c κs = search needs
+
+add-pair-at-4 : tie.Need-add-pair-at-4
+add-pair-at-4 c = search needs
+
+pair-at-requires-5 : tie.Need-pair-at-requires-5
+pair-at-requires-5 c κs = search needs
+
+add-end : tie.Need-add-end
+add-end c = search needs
+
+is-usual-requires : tie.Need-is-usual-requires
+is-usual-requires c κs = search needs
 
 with-date-requires : tie.Need-with-date-requires
 with-date-requires c κs = search needs
 
-add-checked-at : tie.Need-add-checked-at
-add-checked-at c =
-    let i = c .before .before .stands .ensures .inside (c .before .if1 .taken) in
-    search needs
+with-time-requires : tie.Need-with-time-requires
+with-time-requires c κs = search needs
 
-checked-at-requires : tie.Need-checked-at-requires
-checked-at-requires c κs = search needs
+with-offset-requires : tie.Need-with-offset-requires
+with-offset-requires c κs = search needs
+
+returns : tie.Need-returns
+returns c =
+    let x = c .before .before .before .before .before .before .before .before .before .before .before .before .before .before .args in
+    let t = x .text .now in
+    let u = c .before .before .before .before .is-usual .ensures (c .before .before .before .if3 .taken) in
+    let k = c .before .before .before .before .before .before .before .before .before .before .before .is-marked .ensures (c .before .before .before .before .before .before .before .before .before .before .if2 .taken) in
+    let l : x .at + 15 ≤ length t = omega (arith, c .before .before .before .before .before .before .before .before .before .before .before .before .if1 .taken) in
+    let m = c .before .before .before .before .before .before .before .before .before .pair-at .ensures (omega (arith, u .month .1)) in
+    let d = c .before .before .before .before .before .before .before .before .pair-at2 .ensures (omega (arith, u .day .1)) in
+    let h = c .before .before .before .before .before .before .before .pair-at3 .ensures (omega (arith, u .hour)) in
+    let i = c .before .before .before .before .before .before .pair-at4 .ensures (omega (arith, u .minute)) in
+    let s = c .before .before .before .before .before .pair-at5 .ensures (omega (arith, u .second)) in
+    record { is = rw (c .with-offset .ensures, c .before .with-time .ensures, c .before .before .with-date .ensures) (usual-read t (x .at) (x .year) _ _ _ _ _ l k u m d h i s); place = (omega arith, l) }
+
+month-at-requires : tie.Need-month-at-requires
+month-at-requires c κs = search needs
 
 returns-2 : tie.Need-returns-2
-unfolding behindYear
-returns-2 c =
-    let x = c .before .before .before .before .before .before .before .before .before .args in
-    let v = rw (c .before .before .before .before .before .m .given .1) at (c .before .before .before .before .before .before .before .fixed-at .ensures) in
-    let i = c .before .before .before .stands .ensures .inside (c .before .before .if1 .taken) in
-    let w = rw (c .before .with-date .ensures) at (c .checked-at .ensures (x .text .now) (omega arith)) in
-    rw (v .is, sym (c .before .before .before .stands .ensures .is) ∙ c .before .before .if1 .taken, next) (reads-from w (omega (arith, v .place .0)))
-
-stands-requires-2 : tie.Need-stands-requires-2
-stands-requires-2 c κs =
-    let v = rw (c .before .before .before .m .given .1) at (c .before .before .before .before .before .fixed-at .ensures) in
-    v .place .1
-
-add-behind-month : tie.Need-add-behind-month
-add-behind-month c =
-    let i = c .before .stands2 .ensures .inside (c .if2 .taken) in
-    search needs
-
-cast-behind-month : tie.Need-cast-behind-month
-cast-behind-month c =
-    let v = rw (c .before .before .before .before .before .m .given .1) at (c .before .before .before .before .before .before .before .fixed-at .ensures) in
-    record { fits = omega (arith, joined-bound 0 2 _ _ _ (v .is)) }
-
-behind-month-requires : tie.Need-behind-month-requires
-behind-month-requires c κs =
-    let i = c .before .stands2 .ensures .inside (c .if2 .taken) in
-    omega arith
-
-returns-3 : tie.Need-returns-3
-unfolding behindYear
-returns-3 c =
-    let v = rw (c .before .before .before .before .before .before .m .given .1) at (c .before .before .before .before .before .before .before .before .fixed-at .ensures) in
-    rw (v .is, sym (c .before .before .before .before .stands .ensures .is) ∙ c .before .before .before .if1 .left, sym (c .before .before .stands2 .ensures .is) ∙ c .before .if2 .taken, next) (reads-from (c .behind-month .ensures) (omega (arith, v .place .0)))
-
-returns-4 : tie.Need-returns-4
-unfolding behindYear
-returns-4 c =
-    let v = rw (c .before .before .before .before .before .m .given .1) at (c .before .before .before .before .before .before .before .fixed-at .ensures) in
-    refused (rw (v .is, sym (c .before .before .before .stands .ensures .is) ∙ c .before .before .if1 .left, sym (c .before .stands2 .ensures .is) ∙ c .if2 .left))
+returns-2 c = search needs
 
 pub behind-year-spec : {M : Type 1} → statement M
 behind-year-spec =
     tie.close
     (tie.spec
-    fixed-at-requires
-    enum-known-m
-    enum-told
-    returns
-    stands-requires
-    cast-with-date
+    sub-if1
+    is-marked-requires
+    pair-at-requires
+    add-pair-at
+    pair-at-requires-2
+    add-pair-at-2
+    pair-at-requires-3
+    add-pair-at-3
+    pair-at-requires-4
+    add-pair-at-4
+    pair-at-requires-5
+    add-end
+    is-usual-requires
     with-date-requires
-    add-checked-at
-    checked-at-requires
-    returns-2
-    stands-requires-2
-    add-behind-month
-    cast-behind-month
-    behind-month-requires
-    returns-3
-    returns-4)
+    with-time-requires
+    with-offset-requires
+    returns
+    month-at-requires
+    returns-2)
