@@ -1,5 +1,5 @@
-"""Two archives beside each other, in one run: the second's writing time over the first's, on the sample tapes (tests/samples.py), and so of reading a
-pass list and of converting it, clean and with control characters raw, where both archives have the call.
+"""Two archives beside each other, in one run: the second's writing time over the first's, on the sample tapes (tests/samples.py), and so of writing with
+always-quoted symbols, of reading a pass list and of converting it, clean and with control characters raw, where both archives have the call.
 
     python3 tests/bench_both.py BEFORE.a NOW.a [ROUNDS]
 
@@ -38,7 +38,8 @@ def main():
         print('%-16s %6s %12s %12s %7s' % ('sample', 'layout', 'before ns', 'now ns', 'ratio'))
         tapes = os.path.join(folder, 'tapes')
         os.mkdir(tapes)
-        for name, path, layouts in sorted(samples.write(tapes)) + list(samples.write_texts(tapes)):
+        quoted = [(name, path, layouts) for name, path, _, layouts in samples.write_quoted(tapes)]
+        for name, path, layouts in sorted(samples.write(tapes)) + quoted + list(samples.write_texts(tapes)):
             for layout in layouts:
                 best = [[1e18] * len(PLACES), [1e18] * len(PLACES)]
                 for _ in range(rounds):

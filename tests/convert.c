@@ -3,28 +3,10 @@
      C  u32 m            ion_convert in a buffer of m bytes; the answer, i64, and the m bytes
      R  u32 m            ion_read, the same
      L  u32 m, u32 k     k calls of ion_read_line from offset 0 on in one buffer of m bytes; of each the answer, the offset, u64, and the m bytes
-   The slices are those of slices.h; the buffer alone may be written. Before the first call its byte at place i is OLD + 7 i, and so are those before it.
-   The driver ends with 2 if a frame is broken, with 3 if a call wrote before the buffer. */
-enum { ROOM = 1 << 25, BEFORE = 64, OLD = 0xA5 };
-#include "slices.h"
-
-static uint8_t old(ptrdiff_t i) { return (uint8_t)(OLD + 7 * i); }
-
-/* A buffer of so many bytes, with more before it. */
-static void lay(struct slice *out, size_t m) {
-    if (m > ROOM - BEFORE) exit(2);
-    out->length = m;
-    uint8_t *first = out->end - m;
-    for (ptrdiff_t i = -BEFORE; i < (ptrdiff_t)m; i++) first[i] = old(i);
-}
-
-/* What a call left of the buffer. */
-static void show(struct slice out) {
-    const uint8_t *first = out.end - out.length;
-    for (ptrdiff_t i = -BEFORE; i < 0; i++)
-        if (first[i] != old(i)) exit(3);
-    fwrite(first, 1, out.length, stdout);
-}
+   The slices are those of slices.h, the buffer that of buffers.h, which alone may be written. The driver ends with 2 if a frame is broken, with 3 if a
+   call wrote before the buffer. */
+enum { ROOM = 1 << 25 };
+#include "buffers.h"
 
 int main(void) {
     struct slice text = region(), out = region();

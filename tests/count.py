@@ -1,5 +1,6 @@
 """Instructions and taken branches of one call that writes a sample tape (tests/samples.py), and instructions of one that tells its text's
-length; and the first two of one that reads or converts a sample text; by valgrind's callgrind on our archive.
+length; the same of the calls with always-quoted symbols; and the first two of one that reads or converts a sample text; by valgrind's callgrind on
+our archive.
 
     python3 tests/count.py
 
@@ -17,6 +18,8 @@ import samples
 
 COLUMNS = [('0', name) for name in ('record', 'passlist', 'ints', 'symbols', 'decimals', 'strings', 'escapes', 'deep')]
 COLUMNS += [('tree', name) for name in ('record', 'passlist', 'annotated')]
+# The calls with always-quoted symbols.
+QUOTED = [('q0', name) for name in ('identifiers', 'symbols', 'record', 'passlist')] + [('qtree', name) for name in ('passlist', 'annotated')]
 
 
 def counted(bench, how, call, layout, path):
@@ -35,17 +38,18 @@ def counted(bench, how, call, layout, path):
 
 def main():
     bench = builds.c_program('bench')
-    print('%-18s %14s %16s %14s' % ('sample', 'instructions', 'taken branches', 'of the length'))
+    print('%-26s %14s %16s %14s' % ('sample', 'instructions', 'taken branches', 'of the length'))
     with tempfile.TemporaryDirectory() as folder:
-        paths = {name: path for name, path, _ in samples.write(folder)}
-        for layout, name in COLUMNS:
-            write, tell = ('ion_write_tree', 'ion_tree_length') if layout == 'tree' else ('ion_write', 'ion_length')
+        paths = {name: path for name, path, *_ in (*samples.write_quoted(folder), *samples.write(folder))}
+        for layout, name in COLUMNS + QUOTED:
+            tree, quoted = 'tree' in layout, layout[0] == 'q'
+            write, tell = (call + '_quoted' * quoted for call in (('ion_write_tree', 'ion_tree_length') if tree else ('ion_write', 'ion_length')))
             counts = [*counted(bench, 'once', write, layout, paths[name]), counted(bench, 'both', tell, layout, paths[name])[0]]
-            print('%-18s %14s %16s %14s' % (name + ', tree' * (layout == 'tree'), *map('{:,}'.format, counts)), flush=True)
+            print('%-26s %14s %16s %14s' % (name + ', tree' * tree + ', quoted' * quoted, *map('{:,}'.format, counts)), flush=True)
         for name, path, calls in samples.write_texts(folder):
             for call in calls:
                 counts = counted(bench, 'once', 'ion_' + call, call, path)
-                print('%-18s %14s %16s' % ('%s, %s' % (name, call), *map('{:,}'.format, counts)), flush=True)
+                print('%-26s %14s %16s' % ('%s, %s' % (name, call), *map('{:,}'.format, counts)), flush=True)
 
 
 if __name__ == '__main__':

@@ -1,5 +1,5 @@
 """The writers of docs/FORMAT.md, modelled in Python: `stream` and `tree` give a tape's text or refusal, `answer` the answer and the whole
-buffer, `expect` both for a layout.
+buffer, `expect` both for a layout. With `always` the texts are those of always-quoted symbols; the refusals are the same.
 
 No code is shared with our crates or with the Rust: Python's own UTF-8 decoder, calendar and regular expressions judge the tape. The lone
 digit of a decimal (`7.d-29`) is as the Rust writes it. Values are the tuples of tapes.py.
@@ -189,10 +189,11 @@ def quoted(text, mark):
     return mark + b''.join(map(one, text)) + mark
 
 
-def symbol_text(v):
+def symbol_text(v, always=False):
+    """With always-quoted symbols no text stands bare (document 02, A9)."""
     if v[0] == 'id':
         return b'$%d' % v[1]
-    if IDENTIFIER.fullmatch(v[1]) and not QUOTED_ONLY.fullmatch(v[1]):
+    if IDENTIFIER.fullmatch(v[1]) and not QUOTED_ONLY.fullmatch(v[1]) and not always:
         return v[1]
     return quoted(v[1], b"'")
 
@@ -245,7 +246,7 @@ def time_text(p, year, month, day, hour, minute, second, offset, digits, fractio
     return (text + ('-' if offset < 0 else '+') + '%02d:%02d' % divmod(abs(offset), 60)).encode()
 
 
-def container_text(layout, v, level):
+def container_text(layout, v, level, always):
     """Pretty puts LF after the opening bracket and in the separators, and indents two blanks a level."""
     kind, pretty = v[0], layout == 2
     opening, closing = {'list': (b'[', b']'), 'sexp': (b'(', b')'), 'struct': (b'{', b'}')}[kind]
@@ -255,13 +256,13 @@ def container_text(layout, v, level):
         if pretty:
             text += b'  ' * (level + 1)
         if kind == 'struct':
-            text += symbol_text(child[0]) + b': '
+            text += symbol_text(child[0], always) + b': '
             child = child[1]
-        text += value_text(layout, child, level + 1) + separator
+        text += value_text(layout, child, level + 1, always) + separator
     return text + (b'  ' * level if pretty else b'') + closing
 
 
-def value_text(layout, v, level):
+def value_text(layout, v, level, always=False):
     kind = v[0]
     if kind == 'null':
         return b'null.' + TYPES[v[1]] if v[1] else b'null'
@@ -276,7 +277,7 @@ def value_text(layout, v, level):
     if kind == 'ts':
         return time_text(*v[1:])
     if kind in ('sym', 'id'):
-        return symbol_text(v)
+        return symbol_text(v, always)
     if kind == 'str':
         return quoted(v[1], b'"')
     if kind == 'clob':
@@ -285,10 +286,10 @@ def value_text(layout, v, level):
         return b'{{' + base64.b64encode(v[1]) + b'}}'
     if kind == 'marker':
         return b'$ion_1_0'
-    return container_text(layout, v, level)
+    return container_text(layout, v, level, always)
 
 
-def stream(layout, tape):
+def stream(layout, tape, always=False):
     """The text, or the number of the refusal."""
     if layout > 2:
         return 7
@@ -298,23 +299,23 @@ def stream(layout, tape):
         return why.args[0]
     if met.noted:
         return 5
-    return b''.join(value_text(layout, v, 0) + (b'\n' if layout else b' ') for v in found)
+    return b''.join(value_text(layout, v, 0, always) + (b'\n' if layout else b' ') for v in found)
 
 
-def tree_text(v):
+def tree_text(v, always=False):
     """No trailing separators; annotations end in `::`."""
     if v[0] == 'notes':
-        return b''.join(symbol_text(s) + b'::' for s in v[1]) + tree_text(v[2])
+        return b''.join(symbol_text(s, always) + b'::' for s in v[1]) + tree_text(v[2], always)
     if v[0] == 'list':
-        return b'[' + b', '.join(map(tree_text, v[1])) + b']'
+        return b'[' + b', '.join(tree_text(x, always) for x in v[1]) + b']'
     if v[0] == 'sexp':
-        return b'(' + b' '.join(map(tree_text, v[1])) + b')'
+        return b'(' + b' '.join(tree_text(x, always) for x in v[1]) + b')'
     if v[0] == 'struct':
-        return b'{' + b', '.join(symbol_text(name) + b': ' + tree_text(x) for name, x in v[1]) + b'}'
-    return value_text(0, v, 0)
+        return b'{' + b', '.join(symbol_text(name, always) + b': ' + tree_text(x, always) for name, x in v[1]) + b'}'
+    return value_text(0, v, 0, always)
 
 
-def tree(tape):
+def tree(tape, always=False):
     """The tree text, or the number of the refusal."""
     try:
         found, met = values(tape)
@@ -322,7 +323,7 @@ def tree(tape):
         return why.args[0]
     if len(found) != 1 or found[0] == ('marker',) or met.numbered:
         return 5
-    return tree_text(found[0])
+    return tree_text(found[0], always)
 
 
 def answer(text, buffer):
@@ -334,6 +335,6 @@ def answer(text, buffer):
     return len(text), text + buffer[len(text):]
 
 
-def expect(layout, tape, buffer):
+def expect(layout, tape, buffer, always=False):
     """The same for a layout."""
-    return answer(stream(layout, tape), buffer)
+    return answer(stream(layout, tape, always), buffer)

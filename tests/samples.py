@@ -1,4 +1,5 @@
-"""The sample tapes that bench.py and count.py measure, always the same bytes, and the texts for the reader and the converter.
+"""The sample tapes that bench.py and count.py measure, always the same bytes, those for always-quoted symbols, and the texts for the reader and the
+converter.
 
     python3 tests/samples.py FOLDER
 
@@ -104,26 +105,56 @@ def samples():
     yield 'floats', [('list', [whole(r.choice([-1, 1]) * r.randrange(10**r.randrange(1, 16))) for _ in range(1000)])]
 
 
+def put(folder, name, content):
+    path = os.path.join(folder, name)
+    with open(path, 'wb') as f:
+        f.write(content)
+    return path
+
+
 def write(folder):
     """Each as NAME.tape in the folder; gives the names with their files and the layouts that the tape has a text in."""
     for name, values in samples():
-        path = os.path.join(folder, name + '.tape')
-        with open(path, 'wb') as f:
-            f.write(tape(values))
+        path = put(folder, name + '.tape', tape(values))
         yield name, path, ['0', '1', '2'] * (name != 'annotated') + ['tree'] * (len(values) == 1)
+
+
+def digit_first(v):
+    """The value with a digit for the first character of each symbol text that is ASCII: texts of the same lengths, that every writer quotes by the
+    rule, and finds so at the first character."""
+    if v[0] == 'sym':
+        return ('sym', b'7' + v[1][1:]) if v[1][:1] < b'\x80' and v[1] else v
+    if v[0] == 'notes':
+        return ('notes', [digit_first(s) for s in v[1]], digit_first(v[2]))
+    if v[0] == 'struct':
+        return ('struct', [(digit_first(name), digit_first(x)) for name, x in v[1]])
+    return (v[0], [digit_first(x) for x in v[1]]) if v[0] in ('list', 'sexp') else v
+
+
+def write_quoted(folder):
+    """For always-quoted symbols: tapes with symbols as files, and each with a digit first in its symbol texts, whose text has as many bytes under the
+    setting, and the same without it. Gives the names with the files of both and the layouts."""
+    r = random.Random(2)
+    letters = 'abcdefghijklmnopqrstuvwxyz'
+    of_all = dict(samples())
+    of_all['identifiers'] = [('list', [sym(''.join(r.choice(letters) for _ in range(r.randrange(1, 21)))) for _ in range(1000)])]
+    of_all['long identifiers'] = [('list', [sym(''.join(r.choice(letters) for _ in range(r.randrange(30, 61)))) for _ in range(1000)])]
+    for name in 'identifiers', 'long identifiers', 'symbols', 'record', 'passlist', 'annotated':
+        paths = [put(folder, '%s-%s.tape' % (name.replace(' ', '-'), way), tape(values))
+                 for way, values in (('quoted', of_all[name]), ('digits', [digit_first(v) for v in of_all[name]]))]
+        yield (name, *paths, ['q0', 'q2'] * (name != 'annotated') + ['qtree'])
 
 
 def write_texts(folder):
     """A clean pass list in Lines, and the same with a control character raw in each pass, as files; gives the names with these and the calls on them."""
     clean = model.stream(1, tape(dict(samples())['lines']))
     for name, text, calls in ('clean list', clean, ['read', 'convert']), ('raw list', clean.replace(b'name: "', b'name: "\x02'), ['convert']):
-        path = os.path.join(folder, name.replace(' ', '-') + '.ion')
-        with open(path, 'wb') as f:
-            f.write(text)
-        yield name, path, calls
+        yield name, put(folder, name.replace(' ', '-') + '.ion', text), calls
 
 
 if __name__ == '__main__':
     os.makedirs(sys.argv[1], exist_ok=True)
     for written in *write(sys.argv[1]), *write_texts(sys.argv[1]):
         print(written[1])
+    for _, *paths, _ in write_quoted(sys.argv[1]):
+        print(*paths, sep='\n')

@@ -1,6 +1,6 @@
-/* What the drivers of tests/index and tests/convert share: frames from standard input, and slices of which each ends where a page starts that may not
-   be touched, and may not be written but by `fill`; an empty one is null. So a call that reads past a slice or writes an input ends the driver by a
-   signal. ROOM is the longest, in bytes. */
+/* What the drivers of tests/index, tests/convert and tests/quoted share: frames from standard input, and slices of which each ends where a page starts
+   that may not be touched, and may not be written but by `fill`; an empty one is null. So a call that reads past a slice or writes an input ends the
+   driver by a signal. ROOM is the longest, in bytes. */
 #define _GNU_SOURCE
 #include "../bindings/c/ion.h"
 

@@ -1,5 +1,5 @@
-/* An example in C: a pass list written in every text and read back, fields of a pass found by name, a damaged list read line by line, then a stored list
-   converted.
+/* An example in C: a pass list written in every text and read back, one of them with always-quoted symbols, fields of a pass found by name, a damaged
+   list read line by line, then a stored list converted.
 
    From the repository's root:
        rt staticlib ion_c
@@ -157,6 +157,10 @@ int main(void) {
     end_tape(&one, 1);
     printf("-- tree text of one annotated list\n");
     size_t length = counted("ion_write_tree", ion_write_tree(one.bytes, one.length, text, sizeof text));
+    print_text(length);
+    read_back(&one, length);
+    printf("-- the same with always-quoted symbols, for a dome that takes bare words for commands\n");
+    length = counted("ion_write_tree_quoted", ion_write_tree_quoted(one.bytes, one.length, text, sizeof text));
     print_text(length);
     read_back(&one, length);
     int64_t answer = ion_length(ION_LINES, one.bytes, one.length);

@@ -4,10 +4,10 @@
    A tape is the binary form of a list of values: nodes, then u32 body length and u32 number of top-level nodes, all little-endian.
    docs/FORMAT.md has the nodes byte by byte, the texts, and the grammar of what is read.
 
-   Every call but the lookups answers a count, of the bytes that it finished at the start of `out`, or for ion_length and ion_tree_length of those
-   that a text will have, or for ion_index of a struct's fields; or one of the refusals below. Where more than one refusal would do, the first in the
-   list at the function comes. The lookups, ion_find and ion_find_id, answer a place or ION_NONE. `out` and `entries` have any length; bytes behind
-   them are never touched, nor is the tape or text.
+   Every call but the lookups answers a count, of the bytes that it finished at the start of `out`, or for the four lengths of those that a text will
+   have, or for ion_index of a struct's fields; or one of the refusals below. Where more than one refusal would do, the first in the list at the
+   function comes. The lookups, ion_find and ion_find_id, answer a place or ION_NONE. `out` and `entries` have any length; bytes behind them are never
+   touched, nor is the tape or text.
 
    What a caller owes:
    - Each pointer and its length name memory that is there during the call. With length 0 the pointer is not followed, so it may be null.
@@ -100,6 +100,17 @@ int64_t ion_write_tree(const uint8_t *tape, size_t tape_length, uint8_t *out, si
 /* The length of the text that ion_write_tree writes of the tape, as ion_length is of ion_write's. Answers as ion_write_tree, but never
    ION_TEXT_TOO_LONG. */
 int64_t ion_tree_length(const uint8_t *tape, size_t tape_length);
+
+/* The same four with always-quoted symbols: every symbol text, as a value, a field's name or an annotation, stands between two ', with the escapes of
+   strings, also where it could stand bare. Identifiers stay $ and digits, the marker stays $ion_1_0, and every other byte is as without _quoted. The
+   texts are read back to the same tape.
+
+   All else is as at the call without _quoted: answers, the order of refusals, what `out` holds behind each, and that in ION_COMPACT and ION_LINES
+   ion_length_quoted counts at most nine times tape_length. Each length is that of the _quoted text. */
+int64_t ion_write_quoted(uint32_t layout, const uint8_t *tape, size_t tape_length, uint8_t *out, size_t out_length);
+int64_t ion_length_quoted(uint32_t layout, const uint8_t *tape, size_t tape_length);
+int64_t ion_write_tree_quoted(const uint8_t *tape, size_t tape_length, uint8_t *out, size_t out_length);
+int64_t ion_tree_length_quoted(const uint8_t *tape, size_t tape_length);
 
 /* Reads a text of any number of values as their tape.
 

@@ -104,6 +104,47 @@ static void lengths(void) {
     check("tree length: no value", ion_tree_length(BYTES(EMPTY)), ION_UNSUITED, 0, "", 0, KEPT);
 }
 
+/* With always-quoted symbols, and the lengths of these texts; the tape is {b: (a $7)}. What is refused is refused as without. */
+#define SYMBOLS "\14\26\0\0\0\6\1\0\0\0b\13\13\0\0\0\6\1\0\0\0a\7\7\0\0\0\33\0\0\0\1\0\0\0"
+
+static void quoted_writers(void) {
+    static const char lines[] = "{'b': ('a' $7 ), }\n", pretty[] = "{\n  'b': (\n    'a'\n    $7\n  ),\n}\n";
+    size_t full = sizeof lines - 1;
+    check("quoted: room to spare", ion_write_quoted(ION_LINES, BYTES(SYMBOLS), out, ROOM), (int64_t)full, ROOM, lines, full, KEPT);
+    check("quoted: exactly full", ion_write_quoted(ION_LINES, BYTES(SYMBOLS), out, full), (int64_t)full, full, lines, full, KEPT);
+    for (size_t n = 0; n < full; n++)
+        check("quoted: too short", ion_write_quoted(ION_LINES, BYTES(SYMBOLS), out, n), ION_TEXT_TOO_LONG, n, lines, n, KEPT);
+    check("quoted: no buffer", ion_write_quoted(ION_LINES, BYTES(SYMBOLS), NULL, 0), ION_TEXT_TOO_LONG, 0, "", 0, KEPT);
+    check("quoted: Compact", ion_write_quoted(ION_COMPACT, BYTES(SYMBOLS), out, ROOM), 19, ROOM, "{'b': ('a' $7 ), } ", 19, KEPT);
+    check("quoted: Pretty", ion_write_quoted(ION_PRETTY, BYTES(SYMBOLS), out, ROOM), sizeof pretty - 1, ROOM, pretty, sizeof pretty - 1, KEPT);
+    check("quoted: no symbol", ion_write_quoted(ION_LINES, BYTES(LIST), out, ROOM), 9, ROOM, "[true, ]\n", 9, KEPT);
+    check("quoted: empty tape, no buffer", ion_write_quoted(ION_LINES, BYTES(EMPTY), NULL, 0), 0, 0, "", 0, KEPT);
+    check("quoted: no tape", ion_write_quoted(ION_LINES, NULL, 0, out, ROOM), ION_MISFIT, ROOM, "", 0, KEPT);
+    check("quoted: the last layout, no tape", ion_write_quoted(UINT32_MAX, NULL, 0, out, ROOM), ION_NO_LAYOUT, ROOM, "", 0, KEPT);
+    check("quoted: broken node", ion_write_quoted(ION_LINES, BYTES(BROKEN), out, ROOM), ION_BAD_NODE, ROOM, "", 0, KEPT);
+    check("quoted: wrong count", ion_write_quoted(ION_LINES, BYTES(MISCOUNTED), out, ROOM), ION_BAD_NODE, ROOM, "", 0, KEPT);
+    check("quoted: 1.5", ion_write_quoted(ION_LINES, BYTES(FLOAT), out, ROOM), ION_FINITE_FLOAT, ROOM, "", 0, KEPT);
+    check("quoted: annotated", ion_write_quoted(ION_LINES, BYTES(NOTED), out, ROOM), ION_UNSUITED, ROOM, "", 0, KEPT);
+
+    check("quoted tree: annotated", ion_write_tree_quoted(BYTES(NOTED), out, ROOM), 9, ROOM, "'a'::true", 9, KEPT);
+    check("quoted tree: exactly full", ion_write_tree_quoted(BYTES(NOTED), out, 9), 9, 9, "'a'::true", 9, KEPT);
+    check("quoted tree: one byte short", ion_write_tree_quoted(BYTES(NOTED), out, 8), ION_TEXT_TOO_LONG, 8, "'a'::tru", 8, KEPT);
+    check("quoted tree: no buffer", ion_write_tree_quoted(BYTES(NOTED), NULL, 0), ION_TEXT_TOO_LONG, 0, "", 0, KEPT);
+    check("quoted tree: no tape", ion_write_tree_quoted(NULL, 0, out, ROOM), ION_MISFIT, ROOM, "", 0, KEPT);
+    check("quoted tree: an identifier", ion_write_tree_quoted(BYTES(SYMBOLS), out, ROOM), ION_UNSUITED, ROOM, "", 0, KEPT);
+
+    check("quoted length: Compact", ion_length_quoted(ION_COMPACT, BYTES(SYMBOLS)), 19, 0, "", 0, KEPT);
+    check("quoted length: Lines", ion_length_quoted(ION_LINES, BYTES(SYMBOLS)), 19, 0, "", 0, KEPT);
+    check("quoted length: Pretty", ion_length_quoted(ION_PRETTY, BYTES(SYMBOLS)), sizeof pretty - 1, 0, "", 0, KEPT);
+    check("quoted length: no value", ion_length_quoted(ION_LINES, BYTES(EMPTY)), 0, 0, "", 0, KEPT);
+    check("quoted length: no tape", ion_length_quoted(ION_LINES, NULL, 0), ION_MISFIT, 0, "", 0, KEPT);
+    check("quoted length: layout 3, no tape", ion_length_quoted(3, NULL, 0), ION_NO_LAYOUT, 0, "", 0, KEPT);
+    check("quoted length: annotated", ion_length_quoted(ION_LINES, BYTES(NOTED)), ION_UNSUITED, 0, "", 0, KEPT);
+    check("quoted tree length: annotated", ion_tree_length_quoted(BYTES(NOTED)), 9, 0, "", 0, KEPT);
+    check("quoted tree length: no tape", ion_tree_length_quoted(NULL, 0), ION_MISFIT, 0, "", 0, KEPT);
+    check("quoted tree length: no value", ion_tree_length_quoted(BYTES(EMPTY)), ION_UNSUITED, 0, "", 0, KEPT);
+}
+
 /* Entries between guards, which tell their places too. */
 enum { ENTRIES = 8, BESIDE = 2 };
 
@@ -234,6 +275,8 @@ static void depth_and_length(void) {
         tape[body + 4] = 1;
         check("depth, length", ion_tree_length(tape, body + 8), depth == 64 ? 128 : ION_TOO_DEEP, 0, "", 0, KEPT);
         check("depth", ion_write_tree(tape, body + 8, text, sizeof text), depth == 64 ? 128 : ION_TOO_DEEP, 0, "", 0, KEPT);
+        check("depth, quoted length", ion_tree_length_quoted(tape, body + 8), depth == 64 ? 128 : ION_TOO_DEEP, 0, "", 0, KEPT);
+        check("depth, quoted", ion_write_tree_quoted(tape, body + 8, text, sizeof text), depth == 64 ? 128 : ION_TOO_DEEP, 0, "", 0, KEPT);
         tape[body - 5] = 12; /* the innermost is a struct */
         check_index("depth, index", ion_index(tape, body + 8, body - 5, entries, ENTRIES), depth == 64 ? 0 : ION_TOO_DEEP, NULL);
         check_index("depth, no struct", ion_index(tape, body + 8, 0, NULL, 0), depth == 64 ? ION_NO_STRUCT : ION_TOO_DEEP, NULL);
@@ -256,6 +299,10 @@ static void depth_and_length(void) {
         int fits = length == ION_TAPE_MAX;
         check("long tape, length", ion_length(ION_LINES, tape, length), fits ? (int64_t)text_length : ION_MISFIT, 0, "", 0, KEPT);
         check("long tape", ion_write(ION_LINES, tape, length, text, text_length), fits ? (int64_t)text_length : ION_MISFIT, 0, "", 0, KEPT);
+        tape[0] = 6; /* a symbol, whose text is the bytes between two ' and a line feed */
+        int64_t due = fits ? (int64_t)bytes + 3 : ION_MISFIT;
+        check("long tape, quoted length", ion_length_quoted(ION_LINES, tape, length), due, 0, "", 0, KEPT);
+        check("long tape, quoted", ion_write_quoted(ION_LINES, tape, length, text, bytes + 3), due, 0, "", 0, KEPT);
         check_index("long tape, index", ion_index(tape, length, 0, entries, ENTRIES), fits ? ION_NO_STRUCT : ION_MISFIT, NULL);
         memset(text, 'c', text_length);
         memcpy(text, "{{\"", 3);
@@ -404,8 +451,10 @@ static void deepest(void) {
     for (uint32_t layout = ION_COMPACT; layout <= ION_PRETTY; layout++) {
         int64_t n = ion_write(layout, tape, sizeof tape, room, sizeof room);
         if (n < 318 || n != ion_length(layout, tape, sizeof tape)) exit(2);
+        if (n != ion_write_quoted(layout, tape, sizeof tape, room, sizeof room) || n != ion_length_quoted(layout, tape, sizeof tape)) exit(2);
     }
     if (ion_write_tree(tape, sizeof tape, room, sizeof room) != 318 || ion_tree_length(tape, sizeof tape) != 318) exit(2);
+    if (ion_write_tree_quoted(tape, sizeof tape, room, sizeof room) != 318 || ion_tree_length_quoted(tape, sizeof tape) != 318) exit(2);
     if (ion_index(tape, sizeof tape, 5 * 64, entries, ENTRIES) != ION_NO_STRUCT) exit(2);
     if (ion_index(BYTES(PASS), 0, entries, ENTRIES) != FIELDS || ion_find(BYTES(PASS), entries, FIELDS, BYTES("b")) != 4) exit(2);
 }
@@ -439,6 +488,7 @@ int main(void) {
     refill_entries();
     writers();
     lengths();
+    quoted_writers();
     index_calls();
     lookups();
     depth_and_length();

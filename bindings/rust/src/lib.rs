@@ -5,16 +5,20 @@
 //! behind a damaged line. [`convert`] brings over a stored text that has control characters raw, which [`read`] refuses. Each works in a lent buffer of
 //! any length and answers the count of bytes that it finished there, or a [`Refusal`]. No input makes a call panic. [`to_text`], [`to_tree_text`],
 //! [`to_tape`], [`to_converted`] and [`lines`] are the same with a buffer of their own. [`length`] and [`tree_length`] tell how long a text will be,
-//! before it is written. [`Index`] finds the fields of a struct by name; [`index_into`], [`find`] and [`find_id`] do so in lent entries.
+//! before it is written. [`WriteOptions`] writes and measures with always-quoted symbols. [`Index`] finds the fields of a struct by name;
+//! [`index_into`], [`find`] and [`find_id`] do so in lent entries.
 //!
 //! ```
-//! use lechuqta::{lines, to_tape, to_text, to_tree_text, Index, Layout, Refusal};
+//! use lechuqta::{lines, to_tape, to_text, to_tree_text, Index, Layout, Refusal, WriteOptions};
 //!
 //! let tape = to_tape(b"[1, 2] {peak: 61.25}")?;
 //! assert_eq!(to_text(Layout::Lines, &tape)?, b"[1, 2, ]\n{peak: 61.25, }\n");
 //!
 //! // A field by its name: the struct stands behind the list, at offset 23, and the value of `peak` is a decimal, kind 4.
 //! assert_eq!(Index::new(&tape, 23)?.get("peak").map(|field| tape[field.value]), Some(4));
+//!
+//! // The same text with always-quoted symbols.
+//! assert_eq!(WriteOptions::new().quoted(true).to_text(Layout::Lines, &tape)?, b"[1, 2, ]\n{'peak': 61.25, }\n");
 //!
 //! // A finder image is a blob.
 //! let field = to_tape(b"{field: m31, finder: jpeg::{{/9j/4AAQ}}}")?;
@@ -34,11 +38,13 @@ use std::iter::FusedIterator;
 use std::ops::Range;
 
 mod index;
+mod options;
 #[allow(unsafe_code)]
 mod raw;
 mod refusal;
 
 pub use index::{find, find_id, index_into, Entry, Field, Index};
+pub use options::WriteOptions;
 pub use refusal::Refusal;
 
 /// The longest tape, in bytes.
@@ -87,7 +93,7 @@ fn answered(answer: i64) -> Result<usize, Refusal> {
 /// assert_eq!(write(Layout::Lines, &tape, &mut out[..5]), Err(Refusal::TextTooLong));
 /// ```
 pub fn write(layout: Layout, tape: &[u8], out: &mut [u8]) -> Result<usize, Refusal> {
-    answered(raw::write(layout as u32, tape, out))
+    WriteOptions::new().write(layout, tape, out)
 }
 
 /// The length of a tape's streaming text in a layout, in place of the text: with a buffer of that many bytes [`write()`] succeeds, and with one byte
@@ -109,7 +115,7 @@ pub fn write(layout: Layout, tape: &[u8], out: &mut [u8]) -> Result<usize, Refus
 /// # Ok::<(), Refusal>(())
 /// ```
 pub fn length(layout: Layout, tape: &[u8]) -> Result<usize, Refusal> {
-    answered(raw::length(layout as u32, tape))
+    WriteOptions::new().length(layout, tape)
 }
 
 /// Writes the tree text of a tape of one value, annotations included, and answers the text's length.
@@ -125,7 +131,7 @@ pub fn length(layout: Layout, tape: &[u8]) -> Result<usize, Refusal> {
 /// # Ok::<(), lechuqta::Refusal>(())
 /// ```
 pub fn write_tree(tape: &[u8], out: &mut [u8]) -> Result<usize, Refusal> {
-    answered(raw::write_tree(tape, out))
+    WriteOptions::new().write_tree(tape, out)
 }
 
 /// The length of the tree text of a tape of one value, in place of the text, as [`length`] is that of a streaming text.
@@ -138,7 +144,7 @@ pub fn write_tree(tape: &[u8], out: &mut [u8]) -> Result<usize, Refusal> {
 /// # Ok::<(), lechuqta::Refusal>(())
 /// ```
 pub fn tree_length(tape: &[u8]) -> Result<usize, Refusal> {
-    answered(raw::tree_length(tape))
+    WriteOptions::new().tree_length(tape)
 }
 
 /// Reads a text of any number of values, lays their tape at the start of `out` and answers the tape's length.
@@ -237,9 +243,7 @@ fn tape_of(input: usize, mut call: impl FnMut(&mut [u8]) -> Result<usize, Refusa
 /// # Ok::<(), lechuqta::Refusal>(())
 /// ```
 pub fn to_text(layout: Layout, tape: &[u8]) -> Result<Vec<u8>, Refusal> {
-    let mut out = vec![0; length(layout, tape)?];
-    write(layout, tape, &mut out)?;
-    Ok(out)
+    WriteOptions::new().to_text(layout, tape)
 }
 
 /// The tree text of a tape of one value. As [`write_tree`], never [`TextTooLong`](Refusal::TextTooLong).
@@ -250,9 +254,7 @@ pub fn to_text(layout: Layout, tape: &[u8]) -> Result<Vec<u8>, Refusal> {
 /// # Ok::<(), lechuqta::Refusal>(())
 /// ```
 pub fn to_tree_text(tape: &[u8]) -> Result<Vec<u8>, Refusal> {
-    let mut out = vec![0; tree_length(tape)?];
-    write_tree(tape, &mut out)?;
-    Ok(out)
+    WriteOptions::new().to_tree_text(tape)
 }
 
 /// The tape of a text. As [`read`]; [`TapeTooLong`](Refusal::TapeTooLong) only for a tape over [`MAX_TAPE`] bytes.

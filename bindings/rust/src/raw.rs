@@ -13,6 +13,10 @@ extern "C" {
     fn ion_length(layout: u32, tape: *const u8, tape_length: usize) -> i64;
     fn ion_write_tree(tape: *const u8, tape_length: usize, out: *mut u8, out_length: usize) -> i64;
     fn ion_tree_length(tape: *const u8, tape_length: usize) -> i64;
+    fn ion_write_quoted(layout: u32, tape: *const u8, tape_length: usize, out: *mut u8, out_length: usize) -> i64;
+    fn ion_length_quoted(layout: u32, tape: *const u8, tape_length: usize) -> i64;
+    fn ion_write_tree_quoted(tape: *const u8, tape_length: usize, out: *mut u8, out_length: usize) -> i64;
+    fn ion_tree_length_quoted(tape: *const u8, tape_length: usize) -> i64;
     fn ion_read(text: *const u8, text_length: usize, out: *mut u8, out_length: usize) -> i64;
     fn ion_read_line(text: *const u8, text_length: usize, at: *mut u64, out: *mut u8, out_length: usize) -> i64;
     fn ion_convert(text: *const u8, text_length: usize, out: *mut u8, out_length: usize) -> i64;
@@ -39,6 +43,26 @@ pub fn write_tree(tape: &[u8], out: &mut [u8]) -> i64 {
 pub fn tree_length(tape: &[u8]) -> i64 {
     // SAFETY: the slice is whole, as said above.
     unsafe { ion_tree_length(tape.as_ptr(), tape.len()) }
+}
+
+pub fn write_quoted(layout: u32, tape: &[u8], out: &mut [u8]) -> i64 {
+    // SAFETY: as `write`.
+    unsafe { ion_write_quoted(layout, tape.as_ptr(), tape.len(), out.as_mut_ptr(), out.len()) }
+}
+
+pub fn length_quoted(layout: u32, tape: &[u8]) -> i64 {
+    // SAFETY: as `length`.
+    unsafe { ion_length_quoted(layout, tape.as_ptr(), tape.len()) }
+}
+
+pub fn write_tree_quoted(tape: &[u8], out: &mut [u8]) -> i64 {
+    // SAFETY: as `write_tree`.
+    unsafe { ion_write_tree_quoted(tape.as_ptr(), tape.len(), out.as_mut_ptr(), out.len()) }
+}
+
+pub fn tree_length_quoted(tape: &[u8]) -> i64 {
+    // SAFETY: as `tree_length`.
+    unsafe { ion_tree_length_quoted(tape.as_ptr(), tape.len()) }
 }
 
 pub fn read(text: &[u8], out: &mut [u8]) -> i64 {

@@ -16,10 +16,10 @@ use Rattle.text_rules.specs.Digits.{pad, count, digits, isDigit, run, behindDig
 use Rattle.text_rules.specs.Texts.{starts, strip, same}
 use Rattle.text_rules.specs.Words.{isStart, isPart, behindWord, allDigits, isKeyword, resemblesSymbolId, version, resemblesVersionMarker, isIdentifier}
 use Rattle.text_rules.specs.Utf8.{leadOf, charOf, after, valid}
-use Rattle.text_rules.specs.Text.{Sym, symbolText}
+use Rattle.text_rules.specs.Text.{symbolText}
 use Rattle.numbers.specs.Decimal.{intText}
 use Rattle.tape.specs.Bytes.{bits}
-use Rattle.tape.specs.Tree.{Node, Nodes, int, symbol, scalar, nil, more, size, sized, encodeSym, encodeHead, encodeName, encodeNotes, encodeScalar, encode, tape}
+use Rattle.tape.specs.Tree.{Node, Nodes, int, scalar, nil, more, size, sized, encodeSym, encodeHead, encodeName, encodeNotes, encodeScalar, encode, tape}
 use Rattle.tape.specs.Tape.{nodesOf}
 use Rattle.tape.specs.Refusal.{noted}
 use Rattle.tape.specs.Fine.{Bytes, FineText, FineHead, Fine, Fines}
@@ -35,7 +35,7 @@ use Rattle.text_rules.proofs.DigitLaws.{never}
 use Rattle.tape.proofs.Accepted.{tape-accepted, tape-nodes}
 use Rattle.line_reader.proofs.DamagedLines.{two-bytes, one-byte}
 use Rattle.claims.specs.Demand3.{writtenAs}
-use Rattle.claims.specs.Examples.{intTape, xTape, x3Tape, call, tapeOver}
+use Rattle.claims.specs.Examples.{symbolNode, intTape, xTape, x3Tape, call, tapeOver}
 use Rattle.claims.proofs.TokensRead.{bytes-none, bytes-more}
 use Rattle.claims.proofs.Demand3.{line-reads, tape-fits, demand-3-calls}
 
@@ -60,9 +60,6 @@ value n ns = more (none, []) n ns
 
 abbrev number : ℕ → Node
 number n = scalar (int (pos n))
-
-abbrev word : List ℕ → Node
-word s = scalar (symbol (Sym.text s))
 
 abbrev three : Nodes
 three = value (number 1) (value (number 2) (value (number 3) nil))
@@ -89,7 +86,7 @@ let-through : refusal 1 threeTape ≡ 0
 unfolding refusal noted
 let-through = rw (nodes-are, ← tape-is, tape-accepted three three-fine (rw tape-is (omega arith)))
 
-text-is : streamText 1 (nodesOf threeTape) ≡ ascii "1\n2\n3\n"
+text-is : streamText false 1 (nodesOf threeTape) ≡ ascii "1\n2\n3\n"
 unfolding streamText text texts nameText scalarText intText digits count pad separator
 text-is = rw nodes-are
 
@@ -100,16 +97,16 @@ values = writtenAs (linesOf (ascii "1\n2\n3\n")) three
 three-damaged : (head run new tail buf : List ℕ) (n : ℕ) → ascii "1\n2\n3\n" ≡ head ++ run ++ tail → 35 ≤ length buf
     → calls n (head ++ new ++ tail) 0 buf ≡ play n (damaged values head run new tail) 0 buf
 three-damaged head run new tail buf n e l =
-    rw (e, ← nodes-are) (demand-3-calls threeTape head run new tail buf n (bytes-told threeTape refl) let-through (text-is ∙ e) l)
+    rw (e, ← nodes-are) (demand-3-calls false threeTape head run new tail buf n (bytes-told threeTape refl) let-through (text-is ∙ e) l)
 
 -- ---- symbols between
 
 -- a symbol's line is read to its tape, with room
-symbol-read : (s l t : List ℕ) (at : ℕ) (buf : List ℕ) → FineText s → streamText 1 (value (word s) nil) ≡ l → tape (value (word s) nil) ≡ t → length t ≤ length buf → length t ≤ 1048576
+symbol-read : (s l t : List ℕ) (at : ℕ) (buf : List ℕ) → FineText s → streamText false 1 (value (symbolNode s) nil) ≡ l → tape (value (symbolNode s) nil) ≡ t → length t ≤ length buf → length t ≤ 1048576
     → byBook l at buf ≡ success l t at buf
 unfolding byBook room Fine noted
 symbol-read s l t at buf f e e′ h m =
-    let r : lineTape l ≡ some t = rw (← e, ← e′) (line-reads (none, []) (word s) (head-fine, f, tt) refl) in
+    let r : lineTape l ≡ some t = rw (← e, ← e′) (line-reads false (none, []) (symbolNode s) (head-fine, f, tt) refl) in
     rw (r, tape-fits t (length buf) h m)
 
 text-fine : (s : List ℕ) → allBytes s ≡ true → length s < 2 ^ 32 → valid s ≡ true → FineText s

@@ -1,5 +1,6 @@
 -- What A5 changed: a text free of the characters that it escapes is as it was, which is the Rust's, in every layout and as tree text; in a string or a symbol that has
--- them they are replaced, and nothing else; by 01's raw rule both spellings are read. Assumes nothing.
+-- them they are replaced, and nothing else; by 01's raw rule both spellings are read. The texts are those with A9's setting off. Assumes
+-- nothing.
 use Prim.Native.Nat.{ℕ, _≤_, _<_}
 use mathlib.Core.Path.{_≡_, refl, sym, ap, ap₂, _∙_}
 use mathlib.Core.Bool.{Bool, true, false, not, _&&_, _||_}
@@ -92,7 +93,7 @@ pub string-same : (s : List ℕ) → freeOfHex (formerString s) ≡ true → str
 unfolding stringText formerString
 string-same s f = marked-same (byte "\"") s f
 
-pub symbol-same : (s : List ℕ) → freeOfHex (formerSymbol s) ≡ true → symbolText s ≡ formerSymbol s
+pub symbol-same : (s : List ℕ) → freeOfHex (formerSymbol s) ≡ true → symbolText false s ≡ formerSymbol s
 unfolding symbolText formerSymbol
 symbol-same s f = go (isKeyword s || resemblesSymbolId s || resemblesVersionMarker s) (isIdentifier s) f
   where
@@ -101,12 +102,12 @@ symbol-same s f = go (isKeyword s || resemblesSymbolId s || resemblesVersionMark
     go false true g = refl
     go false false g = marked-same (byte "'") s g
 
-sym-same : (s : Sym) → freeOfHex (formerSym s) ≡ true → symText s ≡ formerSym s
+sym-same : (s : Sym) → freeOfHex (formerSym s) ≡ true → symText false s ≡ formerSym s
 unfolding symText formerSym
 sym-same (Sym.text s) f = symbol-same s f
 sym-same (Sym.id n) f = refl
 
-scalar-same : (s : Scalar) → freeOfHex (formerScalar s) ≡ true → scalarText s ≡ formerScalar s
+scalar-same : (s : Scalar) → freeOfHex (formerScalar s) ≡ true → scalarText false s ≡ formerScalar s
 unfolding scalarText formerScalar
 scalar-same (null t) f = refl
 scalar-same (bool b) f = refl
@@ -119,12 +120,12 @@ scalar-same (string s) f = string-same s f
 scalar-same (clob s) f = refl
 scalar-same (blob s) f = refl
 
-name-same : (x : Option Sym) → freeOfHex (formerName x) ≡ true → nameText x ≡ formerName x
+name-same : (x : Option Sym) → freeOfHex (formerName x) ≡ true → nameText false x ≡ formerName x
 unfolding nameText formerName
 name-same none f = refl
 name-same (some s) f = ap (λ (t : List ℕ). t ++ ascii ": ") (sym-same s (parts (formerSym s) (ascii ": ") f .0))
 
-notes-same : (ss : List Sym) → freeOfHex (formerNotes ss) ≡ true → notesText ss ≡ formerNotes ss
+notes-same : (ss : List Sym) → freeOfHex (formerNotes ss) ≡ true → notesText false ss ≡ formerNotes ss
 unfolding notesText formerNotes
 notes-same [] f = refl
 notes-same (s ∷ ss) f =
@@ -134,7 +135,7 @@ notes-same (s ∷ ss) f =
 mutual
   unfolding text texts formerText formerTexts
 
-  text-same : (y w : ℕ) (n : Node) → freeOfHex (formerText y w n) ≡ true → text y w n ≡ formerText y w n
+  text-same : (y w : ℕ) (n : Node) → freeOfHex (formerText y w n) ≡ true → text false y w n ≡ formerText y w n
   text-same y w (scalar s) f = scalar-same s f
   text-same y w (nest k ns) f =
       let inner = formerTexts y k (deeper y w) ns in
@@ -144,7 +145,7 @@ mutual
       ap (λ (t : List ℕ). opening k ++ broken y ++ t ++ blanks w ++ closing k) (texts-same y k (deeper y w) ns (r .1))
   text-same y w marker f = refl
 
-  texts-same : (y : ℕ) (k : Frame) (w : ℕ) (ns : Nodes) → freeOfHex (formerTexts y k w ns) ≡ true → texts y k w ns ≡ formerTexts y k w ns
+  texts-same : (y : ℕ) (k : Frame) (w : ℕ) (ns : Nodes) → freeOfHex (formerTexts y k w ns) ≡ true → texts false y k w ns ≡ formerTexts y k w ns
   texts-same y k w nil f = refl
   texts-same y k w (more h n ns) f =
       let p = parts (blanks w ++ formerName (h .0) ++ formerText y w n ++ separator y k) (formerTexts y k w ns) f in
@@ -154,14 +155,14 @@ mutual
       joined (ap₂ (λ (a b : List ℕ). blanks w ++ a ++ b ++ separator y k) (name-same (h .0) (m .1)) (text-same y w n (r .1))) (texts-same y k w ns (p .1))
 
 -- "Texts free of these characters remain equal to the Rust's": the streaming text in every layout
-pub stream-same : (y : ℕ) (ns : Nodes) → freeOfHex (formerStream y ns) ≡ true → streamText y ns ≡ formerStream y ns
+pub stream-same : (y : ℕ) (ns : Nodes) → freeOfHex (formerStream y ns) ≡ true → streamText false y ns ≡ formerStream y ns
 unfolding streamText formerStream
 stream-same y ns f = texts-same y Top 0 ns f
 
 mutual
   unfolding element elements formerElement formerElements
 
-  element-same : (n : Node) → freeOfHex (formerElement n) ≡ true → element n ≡ formerElement n
+  element-same : (n : Node) → freeOfHex (formerElement n) ≡ true → element false n ≡ formerElement n
   element-same (scalar s) f = scalar-same s f
   element-same (nest k ns) f =
       let p = parts (opening k ++ formerElements false k ns) (closing k) f in
@@ -169,7 +170,7 @@ mutual
       ap (λ (t : List ℕ). opening k ++ t ++ closing k) (elements-same false k ns (q .1))
   element-same marker f = refl
 
-  elements-same : (b : Bool) (k : Frame) (ns : Nodes) → freeOfHex (formerElements b k ns) ≡ true → elements b k ns ≡ formerElements b k ns
+  elements-same : (b : Bool) (k : Frame) (ns : Nodes) → freeOfHex (formerElements b k ns) ≡ true → elements false b k ns ≡ formerElements b k ns
   elements-same b k nil f = refl
   elements-same b k (more h n ns) f =
       let p = parts (lead b k ++ formerName (h .0) ++ formerNotes (h .1) ++ formerElement n) (formerElements true k ns) f in
@@ -179,7 +180,7 @@ mutual
       joined (joined (ap₂ (λ (a c : List ℕ). lead b k ++ a ++ c) (name-same (h .0) (m .1)) (notes-same (h .1) (r .1))) (element-same n (q .1))) (elements-same true k ns (p .1))
 
 -- and the tree text
-pub tree-same : (ns : Nodes) → freeOfHex (formerTree ns) ≡ true → treeText ns ≡ formerTree ns
+pub tree-same : (ns : Nodes) → freeOfHex (formerTree ns) ≡ true → treeText false ns ≡ formerTree ns
 unfolding treeText formerTree
 tree-same ns f = elements-same false Top ns f
 
@@ -242,7 +243,7 @@ bare-amended (c ∷ s) h = go (isPart c) refl h (bare-amended s)
     go true p g e = rw (part-none c p) (ap (λ (t : List ℕ). c ∷ t) (e g))
     go false p g e = never (sym g)
 
-pub symbol-amended : (s : List ℕ) → symbolText s ≡ amended (formerSymbol s)
+pub symbol-amended : (s : List ℕ) → symbolText false s ≡ amended (formerSymbol s)
 unfolding symbolText formerSymbol
 symbol-amended s = go (isKeyword s || resemblesSymbolId s || resemblesVersionMarker s) (isIdentifier s) refl
   where

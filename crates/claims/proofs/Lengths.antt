@@ -22,11 +22,11 @@ use Rattle.text_rules.specs.Digits as Digits
 use Rattle.text_rules.specs.Digits.{pad, digits}
 use Rattle.numbers.specs.Decimal.{intText}
 use Rattle.writer.specs.Text.{scalarText, nameText, notesText, opening, closing, separator, text, texts, streamText}
-use Rattle.writer.specs.Outcome.{laid, refusal, measured, answered, left, streamed, leaves}
+use Rattle.writer.specs.Outcome.{laid, refusal, measured, answered, left, streamedWith, leavesWith}
 use Rattle.tape.proofs.Verdicts.{verdict-most}
 use Rattle.tree.specs.Text.{lead, element, treeText}
 use Rattle.tree.specs.Outcome as tree
-use Rattle.measure.specs.Outcome.{textLength, longest}
+use Rattle.measure.specs.Outcome.{textLength, textLengthWith, longest}
 use Rattle.measure.proofs.Bound.{length-bound}
 use Rattle.claims.specs.Writing.{WritesText}
 use Rattle.claims.specs.Lengths.{TellsLength, markers}
@@ -91,31 +91,31 @@ tree-no-six t = first-no-six (verdict t) (tree.unsuited (nodesOf t)) (verdict-mo
 
 -- ---- of a tape
 
--- FOR EVERY LAYOUT AND TAPE, AND FOR THE TREE TEXT: the length told before is that of the text written, or the writer's refusal.
-pub stream-length : (y : ℕ) (t : List ℕ) → TellsLength (textLength y t) (streamText y (nodesOf t)) (streamed y t) (leaves y t)
-unfolding textLength streamed leaves
-stream-length y t = tells (refusal y t) (streamText y (nodesOf t)) (stream-no-six y t)
+-- FOR EVERY SETTING, LAYOUT AND TAPE, AND FOR THE TREE TEXT: the length told before is that of the text written, or the writer's refusal.
+pub stream-length : (quoted : Bool) (y : ℕ) (t : List ℕ) → TellsLength (textLengthWith quoted y t) (streamText quoted y (nodesOf t)) (streamedWith quoted y t) (leavesWith quoted y t)
+unfolding textLengthWith streamedWith leavesWith
+stream-length quoted y t = tells (refusal y t) (streamText quoted y (nodesOf t)) (stream-no-six y t)
 
-pub tree-length : (t : List ℕ) → TellsLength (tree.treeLength t) (treeText (nodesOf t)) (tree.written t) (tree.leaves t)
-unfolding tree.treeLength tree.written tree.leaves
-tree-length t = tells (tree.refusal t) (treeText (nodesOf t)) (tree-no-six t)
+pub tree-length : (quoted : Bool) (t : List ℕ) → TellsLength (tree.treeLengthWith quoted t) (treeText quoted (nodesOf t)) (tree.writtenWith quoted t) (tree.leavesWith quoted t)
+unfolding tree.treeLengthWith tree.writtenWith tree.leavesWith
+tree-length quoted t = tells (tree.refusal t) (treeText quoted (nodesOf t)) (tree-no-six t)
 
--- FOR LAYOUTS 0 AND 1, and every tape that 1 to 5 let through, "the count is at most nine times the tape's length, trailer included".
-pub nine-times : (y : ℕ) (t : List ℕ) (n : ℕ) → Bytes t → y ≤ 1 → textLength y t ≡ counted n → n ≤ longest (length t)
+-- FOR LAYOUTS 0 AND 1, every setting and every tape that 1 to 5 let through, "the count is at most nine times the tape's length, trailer included".
+pub nine-times : (quoted : Bool) (y : ℕ) (t : List ℕ) (n : ℕ) → Bytes t → y ≤ 1 → textLengthWith quoted y t ≡ counted n → n ≤ longest (length t)
 nine-times = length-bound
 
 -- ---- of well-formed nodes
 
 -- the tape of well-formed nodes without annotations tells the length of their text
-pub nodes-length : (y : ℕ) (ns : Nodes) → y ≤ 2 → Fines 64 Top ns → noteds ns ≡ false → length (tape ns) ≤ 1048576 → textLength y (tape ns) ≡ counted (length (streamText y ns))
-unfolding textLength refusal
-nodes-length y ns l f q m = rw (le-ltb 2 y l, tape-accepted ns f m, tape-nodes ns f, q)
+pub nodes-length : (quoted : Bool) (y : ℕ) (ns : Nodes) → y ≤ 2 → Fines 64 Top ns → noteds ns ≡ false → length (tape ns) ≤ 1048576 → textLengthWith quoted y (tape ns) ≡ counted (length (streamText quoted y ns))
+unfolding textLengthWith refusal
+nodes-length quoted y ns l f q m = rw (le-ltb 2 y l, tape-accepted ns f m, tape-nodes ns f, q)
 
 -- ---- examples
 
 -- the tree text of 01's list is not refused
 tree-told : tree.treeLength (tape list) ≡ counted 6
-unfolding tree.treeLength tree.refusal tree.unsuited numbered headNumbered symsNumbered scalarNumbered treeText element lead notesText scalarText nameText opening closing separator intText digits Digits.count pad
+unfolding tree.treeLengthWith tree.refusal tree.unsuited numbered headNumbered symsNumbered scalarNumbered treeText element lead notesText scalarText nameText opening closing separator intText digits Digits.count pad
 tree-told = rw (tape-accepted list list-fine (rw list-tape (omega arith)), tape-nodes list list-fine) refl
 
 markers-fine : (c : ℕ) → Fines 64 Top (markers c)
@@ -133,22 +133,22 @@ unfolding markers encode encodeHead encodeName encodeNotes
 markers-encoded zero = refl
 markers-encoded (suc c) = ap suc (markers-encoded c)
 
-markers-text : (c : ℕ) → length (streamText 1 (markers c)) ≡ 9 * c
+markers-text : (quoted : Bool) (c : ℕ) → length (streamText quoted 1 (markers c)) ≡ 9 * c
 unfolding streamText markers text nameText separator
-markers-text zero = refl
-markers-text (suc c) = let h = markers-text c in omega arith
+markers-text quoted zero = refl
+markers-text quoted (suc c) = let h = markers-text quoted c in omega arith
 
 -- 01's list of 1 and 2 has 9 bytes in Compact, and 6 as tree text
 pub list-length : (textLength 0 listTape ≡ counted 9) × (tree.treeLength listTape ≡ counted 6)
 unfolding noted
 list-length = (
-  subst (λ (t : List ℕ). textLength 0 t ≡ counted 9) list-tape (nodes-length 0 list (omega arith) list-fine refl (rw list-tape (omega arith)) ∙ ap (λ (s : List ℕ). counted (length s)) (marked .compact-list)),
+  subst (λ (t : List ℕ). textLength 0 t ≡ counted 9) list-tape (nodes-length false 0 list (omega arith) list-fine refl (rw list-tape (omega arith)) ∙ ap (λ (s : List ℕ). counted (length s)) (marked .compact-list)),
   subst (λ (t : List ℕ). tree.treeLength t ≡ counted 6) list-tape tree-told,
 )
 
 -- The nine is tight: a marker of one byte takes nine in Lines, so that only the trailer's eight bytes are left over, whatever their number.
-pub markers-length : (c : ℕ) → c + 8 ≤ 1048576 → (textLength 1 (tape (markers c)) ≡ counted (9 * c)) × (length (tape (markers c)) ≡ c + 8)
-markers-length c h =
+pub markers-length : (quoted : Bool) (c : ℕ) → c + 8 ≤ 1048576 → (textLengthWith quoted 1 (tape (markers c)) ≡ counted (9 * c)) × (length (tape (markers c)) ≡ c + 8)
+markers-length quoted c h =
     let n = tape-length (markers c) in
     let e = markers-encoded c in
-    (nodes-length 1 (markers c) (omega arith) (markers-fine c) (markers-plain c) (omega arith) ∙ ap counted (markers-text c), omega arith)
+    (nodes-length quoted 1 (markers c) (omega arith) (markers-fine c) (markers-plain c) (omega arith) ∙ ap counted (markers-text quoted c), omega arith)

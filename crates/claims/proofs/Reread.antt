@@ -24,7 +24,7 @@ use Rattle.tokens.specs.Quoted.{strictRaw, rawRule}
 use Rattle.reader.specs.Grammar.{meaning}
 use Rattle.reader.specs.Outcome.{fits, zeros, tapeAnswer, tapeLeaves, answer}
 use Rattle.reader.specs.Outcome as read
-use Rattle.writer.specs.Outcome.{laid, refusal, measured, answered, streamed, leaves}
+use Rattle.writer.specs.Outcome.{laid, refusal, measured, answered, streamedWith, leavesWith}
 use Rattle.writer.specs.Text.{streamText}
 use Rattle.tape.proofs.Walking.{tape-back}
 use Rattle.claims.specs.Back.{backAnswer, backLeaves}
@@ -36,17 +36,17 @@ count ended = 0
 count (refused n) = 0
 
 -- where the writer counts n bytes, nothing was refused and the buffer's first n bytes are the text
-pub record Finished (y : ℕ) (t b : List ℕ) (n : ℕ) : Type 0 where
+pub record Finished (quoted : Bool) (y : ℕ) (t b : List ℕ) (n : ℕ) : Type 0 where
   pub let-through : refusal y t ≡ 0
   pub room : n ≤ length b
-  pub is-text : take n (leaves y t b) ≡ streamText y (nodesOf t)
+  pub is-text : take n (leavesWith quoted y t b) ≡ streamText quoted y (nodesOf t)
 
-pub finished : (y : ℕ) (t b : List ℕ) (n : ℕ) → streamed y t (length b) ≡ counted n → Finished y t b n
-unfolding streamed measured leaves laid
-finished y t b n e = refused-or (refusal y t) refl (ap count e)
+pub finished : (quoted : Bool) (y : ℕ) (t b : List ℕ) (n : ℕ) → streamedWith quoted y t (length b) ≡ counted n → Finished quoted y t b n
+unfolding streamedWith measured leavesWith laid
+finished quoted y t b n e = refused-or (refusal y t) refl (ap count e)
   where
     s : List ℕ
-    s = streamText y (nodesOf t)
+    s = streamText quoted y (nodesOf t)
 
     text : length s ≡ n → length s ≤ length b → take n (take (length b) (s ++ drop (length s) b)) ≡ s
     text k l = sym (ap (λ (i : ℕ). take i (take (length b) (s ++ drop (length s) b))) k) ∙ take-take (length s) (length b) (s ++ drop (length s) b) l ∙ take-append-seam s (drop (length s) b)
@@ -55,23 +55,23 @@ finished y t b n e = refused-or (refusal y t) refl (ap count e)
     in-room true q h = let l = leb-true (length s) (length b) q in (omega arith, text (omega arith) l)
     in-room false q h = absurd (omega arith)
 
-    refused-or : (f : ℕ) → refusal y t ≡ f → count (answered f (if (leb (length s) (length b)) (counted (length s)) (refused 6))) ≡ suc n → Finished y t b n
+    refused-or : (f : ℕ) → refusal y t ≡ f → count (answered f (if (leb (length s) (length b)) (counted (length s)) (refused 6))) ≡ suc n → Finished quoted y t b n
     refused-or zero r h = let z = in-room (leb (length s) (length b)) refl h in record { let-through = r; room = z .0; is-text = rw r (z .1) }
     refused-or (suc f) r h = absurd (omega arith)
 
 -- by the reader's rule
-means : (y : ℕ) (t : List ℕ) → Bytes t → refusal y t ≡ 0 → meaning strictRaw (streamText y (nodesOf t)) ≡ some (nodesOf t)
+means : (quoted : Bool) (y : ℕ) (t : List ℕ) → Bytes t → refusal y t ≡ 0 → meaning strictRaw (streamText quoted y (nodesOf t)) ≡ some (nodesOf t)
 unfolding rawRule
-means y t b e = written-means false y t b e
+means quoted y t b e = written-means quoted false y t b e
 
 -- what the reader answers and leaves for the text of a tape is what it does for that very tape
-pub text-answer : (y : ℕ) (t : List ℕ) (n : ℕ) → Bytes t → refusal y t ≡ 0 → answer (streamText y (nodesOf t)) n ≡ tapeAnswer t n
+pub text-answer : (quoted : Bool) (y : ℕ) (t : List ℕ) (n : ℕ) → Bytes t → refusal y t ≡ 0 → answer (streamText quoted y (nodesOf t)) n ≡ tapeAnswer t n
 unfolding answer
-text-answer y t n b e = rw (means y t b e) (ap (λ (x : List ℕ). tapeAnswer x n) (tape-back t b (through y t e .0)))
+text-answer quoted y t n b e = rw (means quoted y t b e) (ap (λ (x : List ℕ). tapeAnswer x n) (tape-back t b (through y t e .0)))
 
-pub text-leaves : (y : ℕ) (t o : List ℕ) → Bytes t → refusal y t ≡ 0 → read.leaves (streamText y (nodesOf t)) o ≡ tapeLeaves t o
+pub text-leaves : (quoted : Bool) (y : ℕ) (t o : List ℕ) → Bytes t → refusal y t ≡ 0 → read.leaves (streamText quoted y (nodesOf t)) o ≡ tapeLeaves t o
 unfolding read.leaves
-text-leaves y t o b e = rw (means y t b e) (ap (λ (x : List ℕ). tapeLeaves x o) (tape-back t b (through y t e .0)))
+text-leaves quoted y t o b e = rw (means quoted y t b e) (ap (λ (x : List ℕ). tapeLeaves x o) (tape-back t b (through y t e .0)))
 
 -- an answer that is no count is handed on
 pub handed-on : (a : Answer) → OneOf (1 ∷ 2 ∷ 3 ∷ 4 ∷ 5 ∷ 6 ∷ 7 ∷ 8 ∷ 9 ∷ 10 ∷ 11 ∷ 12 ∷ 13 ∷ []) (tagOf the-type a) → (t o : List ℕ) → (backAnswer (outcome a) t (length o) ≡ outcome a) × (backLeaves (outcome a) t o ≡ o)

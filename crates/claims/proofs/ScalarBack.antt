@@ -37,7 +37,7 @@ use Rattle.writer.specs.Text.{symText, scalarText}
 use Rattle.text_rules.proofs.DigitLaws.{never}
 use Rattle.text_rules.proofs.WordsLaws.{kind-nothing}
 use Rattle.text_rules.proofs.WordsBack.{stops, word-back, behind-back, identifier-parts}
-use Rattle.text_rules.proofs.SymbolsText.{bare-is, symbol-bare, symbol-marked}
+use Rattle.text_rules.proofs.SymbolsText.{bare-is, symbol-bare, symbol-always, symbol-either}
 use Rattle.tokens.proofs.SymbolBack.{bare-kind, id-kind, symbol-back, symbol-id-back, bare-word, id-word}
 use Rattle.tokens.proofs.NullBack.{null-back, null-kind}
 use Rattle.tokens.proofs.WordsOther.{nan-kind}
@@ -218,22 +218,21 @@ module _ (old : Bool) where
   keyword-told : (m : Bool) (s : Scalar) (w r : List ℕ) (k : Kind) → Word w k → ended r ≡ true → byKind m k (w ++ r) ≡ some (Node.scalar s, behindWord (w ++ r)) → ((v : List ℕ) → wordSymbol k v ≡ none) → Told m s w r
   keyword-told m s w r k i e h g = word-told m s w r none (i .first) (word-value w r k i e m (Node.scalar s) h) (word-none w r k i e g)
 
-  symbol-told : (m : Bool) (s r : List ℕ) → valid s ≡ true → ended r ≡ true → Told m (Scalar.symbol (Sym.text s)) (symbolText s) r
-  symbol-told m s r h e = go (isBare s) refl
+  symbol-told : (quoted m : Bool) (s r : List ℕ) → valid s ≡ true → ended r ≡ true → Told m (Scalar.symbol (Sym.text s)) (symbolText quoted s) r
+  symbol-told quoted m s r h e = symbol-either (λ t. Told m (Scalar.symbol (Sym.text s)) t r) quoted s bare marks
     where
-      quoted : symbolText s ≡ marked (byte "'") s → Told m (Scalar.symbol (Sym.text s)) (marked (byte "'") s) r
-      quoted q =
-          let b : symbol (rawRule old) (marked (byte "'") s ++ r) ≡ some (Sym.text s, r) = rw q at (symbol-back old s r h e) in record {
+      bare : isBare s ≡ true → Told m (Scalar.symbol (Sym.text s)) s r
+      bare i = word-told m (Scalar.symbol (Sym.text s)) s r (some (Sym.text s)) (bare-first s i) (bare-words m s r i e) (rw (symbol-bare s i) at (symbol-back false old s r h e))
+
+      marks : Told m (Scalar.symbol (Sym.text s)) (marked (byte "'") s) r
+      marks =
+          let b : symbol (rawRule old) (marked (byte "'") s ++ r) ≡ some (Sym.text s, r) = rw (symbol-always s) at (symbol-back true old s r h e) in record {
             reads = marked-scalar m s r b;
             no-bracket = unfold opens opener in refl;
             begins = record { byte₀ = byte "'"; rest = _; is = refl; tells = unfold leads numeric isDigit isStart in refl };
             as-symbol = some (Sym.text s);
             symbol-is = b;
           }
-
-      go : (b : Bool) → isBare s ≡ b → Told m (Scalar.symbol (Sym.text s)) (symbolText s) r
-      go true i = rw (symbol-bare s i) (word-told m (Scalar.symbol (Sym.text s)) s r (some (Sym.text s)) (bare-first s i) (bare-words m s r i e) (rw (symbol-bare s i) at (symbol-back old s r h e)))
-      go false i = rw (symbol-marked s i) (quoted (symbol-marked s i))
 
   -- ---- strings, clobs and blobs
 
@@ -353,23 +352,23 @@ module _ (old : Bool) where
   float-told m (inf s) r h e = spelled-told m (inf s) r (infinity-spelled s) e
   float-told m (fin s k d) r h e = spelled-told m (fin s k d) r (whole-spelled s k d h) e
 
-  -- ---- every scalar
+-- ---- every scalar, under either setting of the writer
 
-  pub scalar-told : (m : Bool) (s : Scalar) (r : List ℕ) → FineScalar s → ended r ≡ true → Told m s (scalarText s) r
-  unfolding scalarText symText boolText
-  scalar-told m (null t) r h e = word-told m (null t) (nullText t) r none (null-first t) (null-words m t r h e) (null-symbol t r e)
-  scalar-told m (bool true) r h e = keyword-told m (bool true) (ascii "true") r True true-is e refl (λ w. refl)
-  scalar-told m (bool false) r h e = keyword-told m (bool false) (ascii "false") r False false-is e refl (λ w. refl)
-  scalar-told m (int n) r h e = int-told m n r h e
-  scalar-told m (float x) r h e = float-told m x r h e
-  scalar-told m (decimal neg k x) r h e = decimal-told m neg k x r (h .0) (h .1) e
-  scalar-told m (timestamp x) r h e = timestamp-told m x r h e
-  scalar-told m (Scalar.symbol (Sym.text s)) r h e = symbol-told m s r (h .utf8) e
-  scalar-told m (Scalar.symbol (Sym.id n)) r h e = word-told m (Scalar.symbol (Sym.id n)) (symbolIdText n) r (some (Sym.id n)) (id-first n) (id-words m n r h e) (symbol-id-back (rawRule old) n r h e)
-  scalar-told m (Scalar.string s) r h e = string-told m s r (h .utf8)
-  scalar-told m (Scalar.clob s) r h e = clob-told m s r h
-  scalar-told m (Scalar.blob s) r h e = blob-told m s r h
+pub scalar-told : (quoted old m : Bool) (s : Scalar) (r : List ℕ) → FineScalar s → ended r ≡ true → Told old m s (scalarText quoted s) r
+unfolding scalarText symText boolText
+scalar-told quoted old m (null t) r h e = word-told old m (null t) (nullText t) r none (null-first old t) (null-words old m t r h e) (null-symbol old t r e)
+scalar-told quoted old m (bool true) r h e = keyword-told old m (bool true) (ascii "true") r True true-is e refl (λ w. refl)
+scalar-told quoted old m (bool false) r h e = keyword-told old m (bool false) (ascii "false") r False false-is e refl (λ w. refl)
+scalar-told quoted old m (int n) r h e = int-told old m n r h e
+scalar-told quoted old m (float x) r h e = float-told old m x r h e
+scalar-told quoted old m (decimal neg k x) r h e = decimal-told old m neg k x r (h .0) (h .1) e
+scalar-told quoted old m (timestamp x) r h e = timestamp-told old m x r h e
+scalar-told quoted old m (Scalar.symbol (Sym.text s)) r h e = symbol-told old quoted m s r (h .utf8) e
+scalar-told quoted old m (Scalar.symbol (Sym.id n)) r h e = word-told old m (Scalar.symbol (Sym.id n)) (symbolIdText n) r (some (Sym.id n)) (id-first old n) (id-words old m n r h e) (symbol-id-back (rawRule old) n r h e)
+scalar-told quoted old m (Scalar.string s) r h e = string-told old m s r (h .utf8)
+scalar-told quoted old m (Scalar.clob s) r h e = clob-told old m s r h
+scalar-told quoted old m (Scalar.blob s) r h e = blob-told old m s r h
 
 -- a written scalar has a byte at least
-pub scalar-long : (s : Scalar) → FineScalar s → 1 ≤ length (scalarText s)
-scalar-long s h = let b = first-long (scalarText s ++ []) (scalar-told true true s [] h (unfold ended in refl) .begins) in omega (arith, length-append (scalarText s) [])
+pub scalar-long : (quoted : Bool) (s : Scalar) → FineScalar s → 1 ≤ length (scalarText quoted s)
+scalar-long quoted s h = let b = first-long (scalarText quoted s ++ []) (scalar-told quoted true true s [] h (unfold ended in refl) .begins) in omega (arith, length-append (scalarText quoted s) [])

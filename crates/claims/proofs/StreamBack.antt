@@ -1,4 +1,5 @@
--- The round trip: the streaming text of a well-formed tree without annotations means that tree, in every layout. Assumes nothing.
+-- The round trip: the streaming text of a well-formed tree without annotations means that tree, in every layout and under either
+-- setting of the writer. Assumes nothing.
 use Prim.Native.Nat.{ℕ, zero, suc, _+_, _*_, _≤_}
 use mathlib.Core.Path.{_≡_, refl, sym, ap, _∙_}
 use mathlib.Core.List.{List, [], _∷_, _++_, append-assoc, append-nil}
@@ -108,39 +109,6 @@ closing-ends ListF w r h = rw (skip-blanks w (byte "]" ∷ r)) (unfold skip blan
 closing-ends Sexp w r h = rw (skip-blanks w (byte ")" ∷ r)) (unfold skip blank strip in refl)
 closing-ends Struct w r h = rw (skip-blanks w (byte "}" ∷ r)) (unfold skip blank strip in refl)
 
--- no `{` stands behind the opening bracket of a struct: a name starts with no bracket
-pub name-brace : (s : Sym) (t : List ℕ) → starts (byte "{") (symText s ++ t) ≡ false
-name-brace s t = let f = first-more t (sym-first s) in ap (starts (byte "{")) (f .is) ∙ unfold starts startsSymbol isStart in other startsSymbol (f .byte₀) (byte "{") (f .tells) refl
-
-blanks-brace : (w : ℕ) (t : List ℕ) → starts (byte "{") t ≡ false → starts (byte "{") (blanks w ++ t) ≡ false
-unfolding starts
-blanks-brace zero t h = h
-blanks-brace (suc w) t h = refl
-
-fields-brace : (y w d : ℕ) (ns : Nodes) (t : List ℕ) → Fines d Struct ns → starts (byte "{") t ≡ false → starts (byte "{") (texts y Struct w ns ++ t) ≡ false
-unfolding text Fine nameText
-fields-brace y w d nil t h e = e
-fields-brace y w d (more (none, ss) n ns) t h e = absurd (h .0 .name)
-fields-brace y w d (more (some s, ss) n ns) t h e = simp append-assoc (blanks-brace w _ (name-brace s _))
-
-struct-brace : (y w v d : ℕ) (ns : Nodes) (r : List ℕ) → Fines d Struct ns → starts (byte "{") (broken y ++ (texts y Struct v ns ++ (blanks w ++ (closing Struct ++ r)))) ≡ false
-unfolding broken closing
-struct-brace y w v d ns r h = go (eqb y 2)
-  where
-    inside : starts (byte "{") (texts y Struct v ns ++ (blanks w ++ (byte "}" ∷ r))) ≡ false
-    inside = fields-brace y v d ns (blanks w ++ (byte "}" ∷ r)) h (blanks-brace w (byte "}" ∷ r) (unfold starts in refl))
-
-    go : (b : Bool) → starts (byte "{") (if b (ascii "\n") [] ++ (texts y Struct v ns ++ (blanks w ++ (byte "}" ∷ r)))) ≡ false
-    go true = unfold starts in refl
-    go false = inside
-
-opening-opens : (k : Frame) (y w v d : ℕ) (ns : Nodes) (r : List ℕ) → Inner k → Fines d k ns → opens (opening k ++ (broken y ++ (texts y k v ns ++ (blanks w ++ (closing k ++ r))))) ≡ some k
-unfolding opening opens opener
-opening-opens Top y w v d ns r i h = absurd i
-opening-opens ListF y w v d ns r i h = refl
-opening-opens Sexp y w v d ns r i h = refl
-opening-opens Struct y w v d ns r i h = rw (struct-brace y w v d ns r h)
-
 pub brackets-long : (k : Frame) → Inner k → (length (opening k) ≡ 1) × (length (closing k) ≡ 1)
 unfolding opening closing
 brackets-long Top h = absurd h
@@ -148,15 +116,50 @@ brackets-long ListF h = (refl, refl)
 brackets-long Sexp h = (refl, refl)
 brackets-long Struct h = (refl, refl)
 
--- the brackets take two bytes
-nest-long : (k : Frame) (y w : ℕ) (ns : Nodes) → Inner k → 2 + length (texts y k (deeper y w) ns) ≤ length (text y w (nest k ns))
-unfolding text
-nest-long k y w ns i = let b = brackets-long k i in simp length-append (omega arith)
+blanks-brace : (w : ℕ) (t : List ℕ) → starts (byte "{") t ≡ false → starts (byte "{") (blanks w ++ t) ≡ false
+unfolding starts
+blanks-brace zero t h = h
+blanks-brace (suc w) t h = refl
 
--- the separator takes one
-child-long : (k : Frame) (h : Head) (n : Node) (ns : Nodes) (y w : ℕ) → 1 + length (text y w n) + length (texts y k w ns) ≤ length (texts y k w (more h n ns))
-unfolding text
-child-long k h n ns y w = let b = separator-long y k in simp length-append (omega arith)
+-- What is written, under either setting of the writer.
+module _ (quoted : Bool) where
+  -- no `{` stands behind the opening bracket of a struct: a name starts with no bracket
+  pub name-brace : (s : Sym) (t : List ℕ) → starts (byte "{") (symText quoted s ++ t) ≡ false
+  name-brace s t = let f = first-more t (sym-first quoted s) in ap (starts (byte "{")) (f .is) ∙ unfold starts startsSymbol isStart in other startsSymbol (f .byte₀) (byte "{") (f .tells) refl
+
+  fields-brace : (y w d : ℕ) (ns : Nodes) (t : List ℕ) → Fines d Struct ns → starts (byte "{") t ≡ false → starts (byte "{") (texts quoted y Struct w ns ++ t) ≡ false
+  unfolding text Fine nameText
+  fields-brace y w d nil t h e = e
+  fields-brace y w d (more (none, ss) n ns) t h e = absurd (h .0 .name)
+  fields-brace y w d (more (some s, ss) n ns) t h e = simp append-assoc (blanks-brace w _ (name-brace s _))
+
+  struct-brace : (y w v d : ℕ) (ns : Nodes) (r : List ℕ) → Fines d Struct ns → starts (byte "{") (broken y ++ (texts quoted y Struct v ns ++ (blanks w ++ (closing Struct ++ r)))) ≡ false
+  unfolding broken closing
+  struct-brace y w v d ns r h = go (eqb y 2)
+    where
+      inside : starts (byte "{") (texts quoted y Struct v ns ++ (blanks w ++ (byte "}" ∷ r))) ≡ false
+      inside = fields-brace y v d ns (blanks w ++ (byte "}" ∷ r)) h (blanks-brace w (byte "}" ∷ r) (unfold starts in refl))
+
+      go : (b : Bool) → starts (byte "{") (if b (ascii "\n") [] ++ (texts quoted y Struct v ns ++ (blanks w ++ (byte "}" ∷ r)))) ≡ false
+      go true = unfold starts in refl
+      go false = inside
+
+  opening-opens : (k : Frame) (y w v d : ℕ) (ns : Nodes) (r : List ℕ) → Inner k → Fines d k ns → opens (opening k ++ (broken y ++ (texts quoted y k v ns ++ (blanks w ++ (closing k ++ r))))) ≡ some k
+  unfolding opening opens opener
+  opening-opens Top y w v d ns r i h = absurd i
+  opening-opens ListF y w v d ns r i h = refl
+  opening-opens Sexp y w v d ns r i h = refl
+  opening-opens Struct y w v d ns r i h = rw (struct-brace y w v d ns r h)
+
+  -- the brackets take two bytes
+  nest-long : (k : Frame) (y w : ℕ) (ns : Nodes) → Inner k → 2 + length (texts quoted y k (deeper y w) ns) ≤ length (text quoted y w (nest k ns))
+  unfolding text
+  nest-long k y w ns i = let b = brackets-long k i in simp length-append (omega arith)
+
+  -- the separator takes one
+  child-long : (k : Frame) (h : Head) (n : Node) (ns : Nodes) (y w : ℕ) → 1 + length (text quoted y w n) + length (texts quoted y k w ns) ≤ length (texts quoted y k w (more h n ns))
+  unfolding text
+  child-long k h n ns y w = let b = separator-long y k in simp length-append (omega arith)
 
 -- ---- what is free of annotations
 
@@ -199,15 +202,6 @@ module _ (old : Bool) where
   body-nest f m l Sexp t ns r i h e = rw (h, e)
   body-nest f m l Struct t ns r i h e = rw (h, e)
 
-  -- a container, by what is inside it
-  nest-back : (k : Frame) (y w d f : ℕ) (m : Bool) (ns : Nodes) (r : List ℕ) → Inner k → Fines d k ns
-      → sequence (rawRule old) f k d (texts y k (deeper y w) ns ++ (blanks w ++ (closing k ++ r))) ≡ some (ns, r)
-      → body (rawRule old) (suc f) m (suc d) (text y w (nest k ns) ++ r) ≡ some (nest k ns, r)
-  unfolding text
-  nest-back k y w d f m ns r i h e =
-      let u : List ℕ = texts y k (deeper y w) ns ++ (blanks w ++ (closing k ++ r)) in
-      simp append-assoc (body-nest f m d k (broken y ++ u) ns r i (opening-opens k y w (deeper y w) d ns r i h) (blanks-before f d k (broken y ++ u) u (skip-broken y u) ∙ e))
-
   -- ---- sequences
 
   pub sequence-end : (f l : ℕ) (k : Frame) (t r : List ℕ) → closes k (skip t) ≡ some r → sequence (rawRule old) (suc f) k l t ≡ some (nil, r)
@@ -220,79 +214,94 @@ module _ (old : Bool) where
   unfolding body
   sequence-child f l k t u v x h n o a b c d e = rw (a, b, c, d, e)
 
-  -- a child whose value has the text v, with s behind it, and the rest t of the sequence
-  pub headed-back : (k : Frame) (h : Head) (n : Node) (ns : Nodes) (w f l : ℕ) (v s t r : List ℕ) → FineHead k h → Leads old (v ++ (s ++ t)) → Parts k s t
-      → body (rawRule old) f (free k (h .1)) l (v ++ (s ++ t)) ≡ some (n, s ++ t)
-      → sequence (rawRule old) f k l t ≡ some (ns, r)
-      → sequence (rawRule old) (suc f) k l (blanks w ++ (nameText (h .0) ++ (notesText (h .1) ++ (v ++ (s ++ t))))) ≡ some (more h n ns, r)
-  headed-back k h n ns w f l v s t r a i p b e =
-      let z : List ℕ = v ++ (s ++ t) in
-      let x : List ℕ = nameText (h .0) ++ (notesText (h .1) ++ z) in
-      let j : First leads x = head-first k h z a (i .begins) in
-      let q : skip (blanks w ++ x) ≡ x = skip-blanks w x ∙ no-blank x j in
-      let e′ : sequence (rawRule old) f k l (p .next) ≡ some (ns, r) = blanks-before f l k (p .next) t (p .next-is) ∙ e in
-      sequence-child f l k (blanks w ++ x) z (s ++ t) (p .next) h n (some (ns, r)) (ap (closes k) q ∙ no-end k x j) (ap (head (rawRule old) k) q ∙ head-back old k h z a i) b (p .gap-is) e′
-
-  -- the same without annotations
-  pub child-back : (k : Frame) (h : Head) (n : Node) (ns : Nodes) (y w d f l : ℕ) (s t r : List ℕ) → FineHead k h → h .1 ≡ [] → Fine d k (h .1) n → Parts k s t
-      → body (rawRule old) f (free k (h .1)) l (text y w n ++ (s ++ t)) ≡ some (n, s ++ t)
-      → sequence (rawRule old) f k l t ≡ some (ns, r)
-      → sequence (rawRule old) (suc f) k l ((blanks w ++ nameText (h .0) ++ text y w n ++ s) ++ t) ≡ some (more h n ns, r)
-  unfolding notesText
-  child-back k h n ns y w d f l s t r a b c p v e =
-      let z : List ℕ = text y w n ++ (s ++ t) in
-      let all : (blanks w ++ nameText (h .0) ++ text y w n ++ s) ++ t ≡ blanks w ++ (nameText (h .0) ++ z) = simp append-assoc in
-      ap (sequence (rawRule old) (suc f) k l) (all ∙ ap (λ (ss : List Sym). blanks w ++ (nameText (h .0) ++ (notesText ss ++ z))) (sym b))
-      ∙ headed-back k h n ns w f l (text y w n) s t r a (node-leads old n y w d k (h .1) (s ++ t) c (p .delimits)) p v e
-
   pub marker-body : (f : ℕ) (m : Bool) (l : ℕ) (r : List ℕ) → m ≡ true → Delimits r → body (rawRule old) (suc f) m l (ascii "$ion_1_0" ++ r) ≡ some (marker, r)
   marker-body f m l r h d =
       body-scalar f m l (ascii "$ion_1_0" ++ r) (some (marker, r)) (word-opens _ (first-more r marker-first)) (ap (λ (b : Bool). scalarOf (rawRule old) b (ascii "$ion_1_0" ++ r)) h ∙ marker-back old r (d .ends))
 
-  pub scalar-body : (f : ℕ) (m : Bool) (l : ℕ) (s : Scalar) (r : List ℕ) → FineScalar s → Delimits r → body (rawRule old) (suc f) m l (scalarText s ++ r) ≡ some (scalar s, r)
-  scalar-body f m l s r h d = let t = scalar-told old m s r h (d .ends) in body-scalar f m l (scalarText s ++ r) (some (scalar s, r)) (t .no-bracket) (t .reads)
+-- What is written, under either setting of the writer and by either raw rule.
+module _ (quoted old : Bool) where
+  -- ---- containers
+
+  -- a container, by what is inside it
+  nest-back : (k : Frame) (y w d f : ℕ) (m : Bool) (ns : Nodes) (r : List ℕ) → Inner k → Fines d k ns
+      → sequence (rawRule old) f k d (texts quoted y k (deeper y w) ns ++ (blanks w ++ (closing k ++ r))) ≡ some (ns, r)
+      → body (rawRule old) (suc f) m (suc d) (text quoted y w (nest k ns) ++ r) ≡ some (nest k ns, r)
+  unfolding text
+  nest-back k y w d f m ns r i h e =
+      let u : List ℕ = texts quoted y k (deeper y w) ns ++ (blanks w ++ (closing k ++ r)) in
+      simp append-assoc (body-nest old f m d k (broken y ++ u) ns r i (opening-opens quoted k y w (deeper y w) d ns r i h) (blanks-before old f d k (broken y ++ u) u (skip-broken y u) ∙ e))
+
+  -- ---- sequences
+
+  -- a child whose value has the text v, with s behind it, and the rest t of the sequence
+  pub headed-back : (k : Frame) (h : Head) (n : Node) (ns : Nodes) (w f l : ℕ) (v s t r : List ℕ) → FineHead k h → Leads old (v ++ (s ++ t)) → Parts k s t
+      → body (rawRule old) f (free k (h .1)) l (v ++ (s ++ t)) ≡ some (n, s ++ t)
+      → sequence (rawRule old) f k l t ≡ some (ns, r)
+      → sequence (rawRule old) (suc f) k l (blanks w ++ (nameText quoted (h .0) ++ (notesText quoted (h .1) ++ (v ++ (s ++ t))))) ≡ some (more h n ns, r)
+  headed-back k h n ns w f l v s t r a i p b e =
+      let z : List ℕ = v ++ (s ++ t) in
+      let x : List ℕ = nameText quoted (h .0) ++ (notesText quoted (h .1) ++ z) in
+      let j : First leads x = head-first quoted k h z a (i .begins) in
+      let q : skip (blanks w ++ x) ≡ x = skip-blanks w x ∙ no-blank x j in
+      let e′ : sequence (rawRule old) f k l (p .next) ≡ some (ns, r) = blanks-before old f l k (p .next) t (p .next-is) ∙ e in
+      sequence-child old f l k (blanks w ++ x) z (s ++ t) (p .next) h n (some (ns, r)) (ap (closes k) q ∙ no-end k x j) (ap (head (rawRule old) k) q ∙ head-back quoted old k h z a i) b (p .gap-is) e′
+
+  -- the same without annotations
+  pub child-back : (k : Frame) (h : Head) (n : Node) (ns : Nodes) (y w d f l : ℕ) (s t r : List ℕ) → FineHead k h → h .1 ≡ [] → Fine d k (h .1) n → Parts k s t
+      → body (rawRule old) f (free k (h .1)) l (text quoted y w n ++ (s ++ t)) ≡ some (n, s ++ t)
+      → sequence (rawRule old) f k l t ≡ some (ns, r)
+      → sequence (rawRule old) (suc f) k l ((blanks w ++ nameText quoted (h .0) ++ text quoted y w n ++ s) ++ t) ≡ some (more h n ns, r)
+  unfolding notesText
+  child-back k h n ns y w d f l s t r a b c p v e =
+      let z : List ℕ = text quoted y w n ++ (s ++ t) in
+      let all : (blanks w ++ nameText quoted (h .0) ++ text quoted y w n ++ s) ++ t ≡ blanks w ++ (nameText quoted (h .0) ++ z) = simp append-assoc in
+      ap (sequence (rawRule old) (suc f) k l) (all ∙ ap (λ (ss : List Sym). blanks w ++ (nameText quoted (h .0) ++ (notesText quoted ss ++ z))) (sym b))
+      ∙ headed-back k h n ns w f l (text quoted y w n) s t r a (node-leads quoted old n y w d k (h .1) (s ++ t) c (p .delimits)) p v e
+
+  pub scalar-body : (f : ℕ) (m : Bool) (l : ℕ) (s : Scalar) (r : List ℕ) → FineScalar s → Delimits r → body (rawRule old) (suc f) m l (scalarText quoted s ++ r) ≡ some (scalar s, r)
+  scalar-body f m l s r h d = let t = scalar-told quoted old m s r h (d .ends) in body-scalar old f m l (scalarText quoted s ++ r) (some (scalar s, r)) (t .no-bracket) (t .reads)
 
   -- ---- trees, for every number of calls that is large enough
 
   mutual
     unfolding text Fine noted
 
-    pub body-back : (n : Node) (y w f d : ℕ) (k : Frame) (ss : List Sym) (r : List ℕ) → Fine d k ss n → noted n ≡ false → Delimits r → 2 * length (text y w n) ≤ f
-        → body (rawRule old) f (free k ss) d (text y w n ++ r) ≡ some (n, r)
-    body-back (scalar s) y w zero d k ss r h q e g = absurd (omega (arith, scalar-long s h))
+    pub body-back : (n : Node) (y w f d : ℕ) (k : Frame) (ss : List Sym) (r : List ℕ) → Fine d k ss n → noted n ≡ false → Delimits r → 2 * length (text quoted y w n) ≤ f
+        → body (rawRule old) f (free k ss) d (text quoted y w n ++ r) ≡ some (n, r)
+    body-back (scalar s) y w zero d k ss r h q e g = absurd (omega (arith, scalar-long quoted s h))
     body-back (scalar s) y w (suc f) d k ss r h q e g = scalar-body f (free k ss) d s r h e
     body-back marker y w zero d k ss r h q e g = absurd (omega arith)
-    body-back marker y w (suc f) d k ss r h q e g = marker-body f (free k ss) d r (free-marker k ss h) e
+    body-back marker y w (suc f) d k ss r h q e g = marker-body old f (free k ss) d r (free-marker k ss h) e
     body-back (nest i ns) y w zero zero k ss r h q e g = absurd h
     body-back (nest i ns) y w (suc f) zero k ss r h q e g = absurd h
-    body-back (nest i ns) y w zero (suc d) k ss r h q e g = absurd (omega (arith, nest-long i y w ns (h .0)))
+    body-back (nest i ns) y w zero (suc d) k ss r h q e g = absurd (omega (arith, nest-long quoted i y w ns (h .0)))
     body-back (nest i ns) y w (suc f) (suc d) k ss r h q e g =
         nest-back i y w d f (free k ss) ns r (h .0) (h .2)
-        (sequence-back ns y (deeper y w) f d i (blanks w ++ (closing i ++ r)) r (h .2) q (closing-ends i w r (h .0)) (omega (arith, nest-long i y w ns (h .0))))
+        (sequence-back ns y (deeper y w) f d i (blanks w ++ (closing i ++ r)) r (h .2) q (closing-ends i w r (h .0)) (omega (arith, nest-long quoted i y w ns (h .0))))
 
-    pub sequence-back : (ns : Nodes) (y w f d : ℕ) (k : Frame) (t r : List ℕ) → Fines d k ns → noteds ns ≡ false → closes k (skip t) ≡ some r → suc (2 * length (texts y k w ns)) ≤ f
-        → sequence (rawRule old) f k d (texts y k w ns ++ t) ≡ some (ns, r)
+    pub sequence-back : (ns : Nodes) (y w f d : ℕ) (k : Frame) (t r : List ℕ) → Fines d k ns → noteds ns ≡ false → closes k (skip t) ≡ some r → suc (2 * length (texts quoted y k w ns)) ≤ f
+        → sequence (rawRule old) f k d (texts quoted y k w ns ++ t) ≡ some (ns, r)
     sequence-back nil y w zero d k t r h q e g = absurd (omega arith)
-    sequence-back nil y w (suc f) d k t r h q e g = sequence-end f d k t r e
+    sequence-back nil y w (suc f) d k t r h q e g = sequence-end old f d k t r e
     sequence-back (more x n ns) y w zero d k t r h q e g = absurd (omega arith)
     sequence-back (more x n ns) y w (suc f) d k t r h q e g =
         let z = three-false (annotated (x .1)) (noted n) (noteds ns) q in
-        let l = child-long k x n ns y w in
-        let u : List ℕ = texts y k w ns ++ t in
+        let l = child-long quoted k x n ns y w in
+        let u : List ℕ = texts quoted y k w ns ++ t in
         let p : Parts k (separator y k) u = parts y k u in
-        ap (sequence (rawRule old) (suc f) k d) (append-assoc (blanks w ++ nameText (x .0) ++ text y w n ++ separator y k) (texts y k w ns) t)
+        ap (sequence (rawRule old) (suc f) k d) (append-assoc (blanks w ++ nameText quoted (x .0) ++ text quoted y w n ++ separator y k) (texts quoted y k w ns) t)
         ∙ child-back k x n ns y w d f d (separator y k) u r (h .0) (no-notes (x .1) (z .0)) (h .1) p
         (body-back n y w f d k (x .1) (separator y k ++ u) (h .1) (z .1) (p .delimits) (omega arith))
         (sequence-back ns y w f d k t r (h .2) (z .2) e (omega arith))
 
   -- what the text of a tree's nodes means, at top level and with all of it read
-  pub read-back : (ns : Nodes) (y : ℕ) → Fines 64 Top ns → noteds ns ≡ false → sequence (rawRule old) (suc (2 * length (streamText y ns))) Top 64 (streamText y ns) ≡ some (ns, [])
+  pub read-back : (ns : Nodes) (y : ℕ) → Fines 64 Top ns → noteds ns ≡ false → sequence (rawRule old) (suc (2 * length (streamText quoted y ns))) Top 64 (streamText quoted y ns) ≡ some (ns, [])
   unfolding streamText
   read-back ns y h q =
-      ap (sequence (rawRule old) (suc (2 * length (texts y Top 0 ns))) Top 64) (sym (append-nil (texts y Top 0 ns)))
-      ∙ sequence-back ns y 0 (suc (2 * length (texts y Top 0 ns))) 64 Top [] [] h q (unfold closes skip in refl) (omega arith)
+      ap (sequence (rawRule old) (suc (2 * length (texts quoted y Top 0 ns))) Top 64) (sym (append-nil (texts quoted y Top 0 ns)))
+      ∙ sequence-back ns y 0 (suc (2 * length (texts quoted y Top 0 ns))) 64 Top [] [] h q (unfold closes skip in refl) (omega arith)
 
   -- The streaming text of a well-formed tree without annotations means that tree, for every layout number.
-  pub stream-back : (y : ℕ) (ns : Nodes) → Fines 64 Top ns → noteds ns ≡ false → meaning (rawRule old) (streamText y ns) ≡ some ns
+  pub stream-back : (y : ℕ) (ns : Nodes) → Fines 64 Top ns → noteds ns ≡ false → meaning (rawRule old) (streamText quoted y ns) ≡ some ns
   unfolding meaning
   stream-back y ns h q = rw (read-back ns y h q)

@@ -22,7 +22,7 @@ use Rattle.tape.specs.declared.Frame.the-variants.{Top}
 use Rattle.tokens.specs.Quoted.{strictRaw, rawRule}
 use Rattle.reader.specs.Grammar.{meaning}
 use Rattle.reader.specs.Outcome.{fits, tapeAnswer, tapeLeaves, answer, leaves}
-use Rattle.writer.specs.Outcome.{laid, refusal, measured, streamed}
+use Rattle.writer.specs.Outcome.{laid, refusal, measured, streamedWith}
 use Rattle.writer.specs.Outcome as writer
 use Rattle.writer.specs.Text.{streamText}
 use Rattle.tape.proofs.Walking.{first-zero, verdict-told, tape-back}
@@ -51,9 +51,9 @@ through y t e = layout (ltb 2 y) e
     layout true h = absurd (omega arith)
     layout false h = suited t (noteds (nodesOf t)) h
 
--- For every layout and every tape that is let through: its text means its nodes, by either raw rule.
-pub written-means : (old : Bool) (y : ℕ) (t : List ℕ) → Bytes t → refusal y t ≡ 0 → meaning (rawRule old) (streamText y (nodesOf t)) ≡ some (nodesOf t)
-written-means old y t b e = let z = through y t e in stream-back old y (nodesOf t) (tape-fine t b (z .0)) (z .1)
+-- For every layout and every tape that is let through: its text means its nodes, under either setting and by either raw rule.
+pub written-means : (quoted old : Bool) (y : ℕ) (t : List ℕ) → Bytes t → refusal y t ≡ 0 → meaning (rawRule old) (streamText quoted y (nodesOf t)) ≡ some (nodesOf t)
+written-means quoted old y t b e = let z = through y t e in stream-back quoted old y (nodesOf t) (tape-fine t b (z .0)) (z .1)
 
 -- what the reader answers and leaves for a text, by its meaning
 answer-some : (s : List ℕ) (n : ℕ) (ns : Nodes) → meaning strictRaw s ≡ some ns → length (tape ns) ≤ n → length (tape ns) ≤ 1048576 → answer s n ≡ counted (length (tape ns))
@@ -75,9 +75,9 @@ means-tape s t b h v m l =
     )
 
 -- Reading it back with room gives the tape itself: its length is answered, and it lies at the buffer's start, the rest kept.
-pub round-trip : (y : ℕ) (t b : List ℕ) → Bytes t → refusal y t ≡ 0 → length t ≤ length b
-    → (answer (streamText y (nodesOf t)) (length b) ≡ counted (length t)) × (leaves (streamText y (nodesOf t)) b ≡ t ++ drop (length t) b)
-round-trip y t b h e l = means-tape (streamText y (nodesOf t)) t b h (through y t e .0) (unfold rawRule in written-means false y t h e) l
+pub round-trip : (quoted : Bool) (y : ℕ) (t b : List ℕ) → Bytes t → refusal y t ≡ 0 → length t ≤ length b
+    → (answer (streamText quoted y (nodesOf t)) (length b) ≡ counted (length t)) × (leaves (streamText quoted y (nodesOf t)) b ≡ t ++ drop (length t) b)
+round-trip quoted y t b h e l = means-tape (streamText quoted y (nodesOf t)) t b h (through y t e .0) (unfold rawRule in written-means quoted false y t h e) l
 
 -- ---- which tapes are let through
 
@@ -89,10 +89,10 @@ accepted-exactly t b = (
 )
 
 -- The tape of well-formed nodes without annotations is written as the text of these nodes: the answer and the whole buffer.
-pub tree-written : (y : ℕ) (ns : Nodes) → y ≤ 2 → Fines 64 Top ns → noteds ns ≡ false → length (tape ns) ≤ 1048576
-    → WritesText (streamText y ns) (streamed y (tape ns)) (writer.leaves y (tape ns))
-unfolding streamed writer.leaves refusal
-tree-written y ns l f q m =
+pub tree-written : (quoted : Bool) (y : ℕ) (ns : Nodes) → y ≤ 2 → Fines 64 Top ns → noteds ns ≡ false → length (tape ns) ≤ 1048576
+    → WritesText (streamText quoted y ns) (streamedWith quoted y (tape ns)) (writer.leavesWith quoted y (tape ns))
+unfolding streamedWith writer.leavesWith refusal
+tree-written quoted y ns l f q m =
     let fits = le-ltb 2 y l in
     let accepted = tape-accepted ns f m in
     let nodes = tape-nodes ns f in

@@ -1,5 +1,6 @@
 -- Which values a Lines text was written from, line by line: what demand 3 calls "as written". Assumes nothing: these are definitions.
 use Prim.Native.Nat.{ℕ}
+use mathlib.Core.Bool.{Bool}
 use mathlib.Core.List.{List, [], _∷_}
 use Rattle.tape.specs.Tree.{Nodes, nil, more, tape}
 use Rattle.line_reader.specs.Damage.{Written}
@@ -11,7 +12,7 @@ writtenAs [] ns = []
 writtenAs (l ∷ ls) nil = []
 writtenAs (l ∷ ls) (more h n ns) = record { line = l; tape = tape (more h n nil) } ∷ writtenAs ls ns
 
--- each top-level node's own Lines text
-unfoldable pub linesEach : Nodes → List (List ℕ)
-linesEach nil = []
-linesEach (more h n ns) = streamText 1 (more h n nil) ∷ linesEach ns
+-- each top-level node's own Lines text, under a setting of the writer
+unfoldable pub linesEach : Bool → Nodes → List (List ℕ)
+linesEach quoted nil = []
+linesEach quoted (more h n ns) = streamText quoted 1 (more h n nil) ∷ linesEach quoted ns

@@ -1,21 +1,23 @@
--- Document 01's examples: the marked ones (M) in one record, and the bytes of the others that a theorem names. Assumes nothing: these are definitions.
+-- Document 01's examples: the marked ones (M) in one record, and the bytes of the others that a theorem names; and examples of A9's setting in one record.
+-- Assumes nothing: these are definitions.
 use mathlib.Core.Path.{_≡_}
 use mathlib.Core.Bool.{true, false}
 use mathlib.Core.List.{List, [], _∷_, _++_}
-use mathlib.Core.Option.{none}
+use mathlib.Core.Option.{none, some}
 use Prim.Native.Nat.{ℕ, _≤_}
 use lib.IntN.{ℤ, pos, negsuc}
 use lib.ListN.{length, drop}
 use Rattle.output.specs.Logic.{ascii}
-use Rattle.text_rules.specs.Text.{symbolText}
+use Rattle.text_rules.specs.Text.{Sym, symbolText}
 use Rattle.numbers.specs.Decimal.{decimalText}
 use Rattle.numbers.specs.Timestamp.{offsetText}
-use Rattle.tape.specs.Tree.{Nodes, int, scalar, nest, nil, more}
+use Rattle.tape.specs.Tree.{Node, Nodes, int, symbol, string, scalar, nest, marker, nil, more}
 use Rattle.tape.specs.Answer.{Outcome, counted, refused}
-use Rattle.tape.specs.declared.Frame.the-variants.{List as ListF}
+use Rattle.tape.specs.declared.Frame.the-variants.{List as ListF, Struct}
 use Rattle.line_reader.specs.Book.{Call}
 use Rattle.writer.specs.Text.{streamText}
 use Rattle.writer.specs.Outcome.{streamed, leaves}
+use Rattle.tree.specs.Text.{treeText}
 
 -- an int without name and annotations, and the nodes behind it
 abbrev pub intBefore : ℤ → Nodes → Nodes
@@ -31,10 +33,10 @@ listTape = 0x0A ∷ 0x12 ∷ 0 ∷ 0 ∷ 0 ∷ 2 ∷ 1 ∷ 0 ∷ 0 ∷ 0 ∷ 0 �
 -- THE MARKED EXAMPLES. The list's text is also what `write_stream` answers and leaves for its tape: in every buffer of 9 bytes or more, the rest
 -- kept, and, cut, in one of 8.
 pub record Marked : Type 0 where
-  pub empty-symbol : symbolText [] ≡ ascii "''"
-  pub keyword : symbolText (ascii "true") ≡ ascii "'true'"
-  pub identifier-text : symbolText (ascii "$7") ≡ ascii "'$7'"
-  pub no-marker : symbolText (ascii "$ion_1_0_0") ≡ ascii "$ion_1_0_0"
+  pub empty-symbol : symbolText false [] ≡ ascii "''"
+  pub keyword : symbolText false (ascii "true") ≡ ascii "'true'"
+  pub identifier-text : symbolText false (ascii "$7") ≡ ascii "'$7'"
+  pub no-marker : symbolText false (ascii "$ion_1_0_0") ≡ ascii "$ion_1_0_0"
   pub six-digits : decimalText false 123456 (pos 0) ≡ ascii "123456."
   pub seven-digits : decimalText false 1234567 (pos 0) ≡ ascii "1.234567d6"
   pub five-zeros : decimalText false 116 (negsuc 7) ≡ ascii "0.00000116"
@@ -42,9 +44,40 @@ pub record Marked : Type 0 where
   pub negative-zero : decimalText true 0 (pos 0) ≡ ascii "-0."
   pub offset-unknown : offsetText (pos 32767) ≡ ascii "-00:00"
   pub offset-five : offsetText (negsuc 4) ≡ ascii "-00:05"
-  pub compact-list : streamText 0 list ≡ ascii "[1, 2, ] "
+  pub compact-list : streamText false 0 list ≡ ascii "[1, 2, ] "
   pub list-written : (b : List ℕ) → 9 ≤ length b → (streamed 0 listTape (length b) ≡ counted 9) × (leaves 0 listTape b ≡ ascii "[1, 2, ] " ++ drop 9 b)
   pub list-too-long : (b : List ℕ) → length b ≡ 8 → (streamed 0 listTape (length b) ≡ refused 6) × (leaves 0 listTape b ≡ ascii "[1, 2, ]")
+
+-- ---- every symbol text quoted
+
+-- one node, without name and annotations
+abbrev pub oneNode : Node → Nodes
+oneNode n = more (none, []) n nil
+
+-- a struct of one value, by its name
+abbrev pub structOf : Sym → Node → Nodes
+structOf s n = oneNode (nest Struct (more (some s, []) n nil))
+
+-- the symbol value of a text
+abbrev pub symbolNode : List ℕ → Node
+symbolNode s = scalar (symbol (Sym.text s))
+
+-- EXAMPLES OF A9'S SETTING, which is on.
+pub record QuotedExamples : Type 0 where
+  -- "every symbol text is quoted": one that stood bare before, and those that were quoted
+  pub bare-word : symbolText true (ascii "vega") ≡ ascii "'vega'"
+  pub empty-symbol : symbolText true [] ≡ ascii "''"
+  pub keyword : symbolText true (ascii "true") ≡ ascii "'true'"
+  -- "values, names and annotations"
+  pub name-and-value : streamText true 0 (structOf (Sym.text (ascii "a")) (symbolNode (ascii "b"))) ≡ ascii "{'a': 'b', } "
+  pub annotation-and-value : treeText true (more (none, Sym.text (ascii "a") ∷ []) (symbolNode (ascii "b")) nil) ≡ ascii "'a'::'b'"
+  -- "Identifiers by number keep `$` and digits"
+  pub identifier-value : streamText true 0 (oneNode (scalar (symbol (Sym.id 7)))) ≡ ascii "$7 "
+  pub identifier-name : streamText true 0 (structOf (Sym.id 7) (symbolNode (ascii "b"))) ≡ ascii "{$7: 'b', } "
+  pub identifier-annotation : treeText true (more (none, Sym.id 0 ∷ []) (symbolNode (ascii "b")) nil) ≡ ascii "$0::'b'"
+  -- what is no symbol text stays: a marker, a string
+  pub marker-line : streamText true 1 (oneNode marker) ≡ ascii "$ion_1_0\n"
+  pub string-value : streamText true 0 (oneNode (scalar (string (ascii "vega")))) ≡ ascii "\"vega\" "
 
 -- ---- damaged texts
 

@@ -6,20 +6,26 @@ ghost use lib.ListN.{length};
 ghost use Rattle.tape.specs.Answer.{outcome};
 ghost use Rattle.tape.specs.Tape.{nodesOf};
 ghost use Rattle.writer.specs.Text.{streamText};
-ghost use Rattle.writer.specs.Outcome.{streamed, leaves};
-ghost use Rattle.measure.specs.Outcome.{textLength};
+ghost use Rattle.writer.specs.Outcome.{streamedWith, leavesWith};
+ghost use Rattle.measure.specs.Outcome.{textLengthWith};
 ghost use Rattle.tree.specs.Text.{treeText};
-ghost use Rattle.tree.specs.Outcome.{treeLength};
+ghost use Rattle.tree.specs.Outcome.{treeLengthWith};
 ghost use Rattle.claims.specs.Back.{backAnswer, backLeaves};
 ghost use Rattle.claims.specs.Reserved.{roomFor, reservedAnswer, reservedLeaves};
 
-// Writes a tape's text in a layout and reads it back: what stands in `out` is the tape itself.
-pub fn write_and_read(layout: u32, tape: &[u8], text: &mut [u8], out: &mut [u8]) -> Answer
-    ensures answer { λ r. ⌜ outcome r ≡ backAnswer (streamed layout (now (tape .entry)) (length (now (text .entry)))) (now (tape .entry)) (length (now (out .entry))) ⌝ }
-    ensures text { λ _. ⌜ now (text .exit) ≡ leaves layout (now (tape .entry)) (now (text .entry)) ⌝ }
-    ensures tape { λ _. ⌜ now (out .exit) ≡ backLeaves (streamed layout (now (tape .entry)) (length (now (text .entry)))) (now (tape .entry)) (now (out .entry)) ⌝ }
+// Writes a tape's text in a layout, under a setting of the writer, and reads it back: what stands in `out` is the tape itself.
+pub fn write_and_read(
+    quoted: bool,
+    layout: u32,
+    tape: &[u8],
+    text: &mut [u8],
+    out: &mut [u8],
+) -> Answer
+    ensures answer { λ r. ⌜ outcome r ≡ backAnswer (streamedWith quoted layout (now (tape .entry)) (length (now (text .entry)))) (now (tape .entry)) (length (now (out .entry))) ⌝ }
+    ensures text { λ _. ⌜ now (text .exit) ≡ leavesWith quoted layout (now (tape .entry)) (now (text .entry)) ⌝ }
+    ensures tape { λ _. ⌜ now (out .exit) ≡ backLeaves (streamedWith quoted layout (now (tape .entry)) (length (now (text .entry)))) (now (tape .entry)) (now (out .entry)) ⌝ }
 {
-    let a = writer::writer::write_stream(layout, tape, text);
+    let a = writer::writer::write_stream_with(quoted, layout, tape, text);
     let Answer::Count(n) = a else {
         return a;
     };
@@ -39,12 +45,19 @@ fn room_for(k: usize, less: bool) -> usize
     k
 }
 
-// Measures a tape's text in a layout and writes it in exactly as many bytes of `out`; or in one byte less, where `less` asks for it.
-pub fn measure_and_write(layout: u32, tape: &[u8], less: bool, out: &mut [u8]) -> Answer
-    ensures answer { λ r. ⌜ outcome r ≡ reservedAnswer less (textLength layout (now (tape .entry))) (length (now (out .entry))) ⌝ }
-    ensures buffer { λ _. ⌜ now (out .exit) ≡ reservedLeaves less (textLength layout (now (tape .entry))) (streamText layout (nodesOf (now (tape .entry)))) (now (out .entry)) ⌝ }
+// Measures a tape's text in a layout, under a setting of the writer, and writes it in exactly as many bytes of `out`; or in one byte less, where `less`
+// asks for it.
+pub fn measure_and_write(
+    quoted: bool,
+    layout: u32,
+    tape: &[u8],
+    less: bool,
+    out: &mut [u8],
+) -> Answer
+    ensures answer { λ r. ⌜ outcome r ≡ reservedAnswer less (textLengthWith quoted layout (now (tape .entry))) (length (now (out .entry))) ⌝ }
+    ensures buffer { λ _. ⌜ now (out .exit) ≡ reservedLeaves less (textLengthWith quoted layout (now (tape .entry))) (streamText quoted layout (nodesOf (now (tape .entry)))) (now (out .entry)) ⌝ }
 {
-    let a = measure::text_length(layout, tape);
+    let a = measure::text_length_with(quoted, layout, tape);
     let Answer::Count(k) = a else {
         return a;
     };
@@ -52,15 +65,15 @@ pub fn measure_and_write(layout: u32, tape: &[u8], less: bool, out: &mut [u8]) -
         return Answer::TextTooLong;
     }
     let n = room_for(k, less);
-    writer::writer::write_stream(layout, tape, &mut out[..n])
+    writer::writer::write_stream_with(quoted, layout, tape, &mut out[..n])
 }
 
 // The same with the tree text.
-pub fn measure_and_write_tree(tape: &[u8], less: bool, out: &mut [u8]) -> Answer
-    ensures answer { λ r. ⌜ outcome r ≡ reservedAnswer less (treeLength (now (tape .entry))) (length (now (out .entry))) ⌝ }
-    ensures buffer { λ _. ⌜ now (out .exit) ≡ reservedLeaves less (treeLength (now (tape .entry))) (treeText (nodesOf (now (tape .entry)))) (now (out .entry)) ⌝ }
+pub fn measure_and_write_tree(quoted: bool, tape: &[u8], less: bool, out: &mut [u8]) -> Answer
+    ensures answer { λ r. ⌜ outcome r ≡ reservedAnswer less (treeLengthWith quoted (now (tape .entry))) (length (now (out .entry))) ⌝ }
+    ensures buffer { λ _. ⌜ now (out .exit) ≡ reservedLeaves less (treeLengthWith quoted (now (tape .entry))) (treeText quoted (nodesOf (now (tape .entry)))) (now (out .entry)) ⌝ }
 {
-    let a = tree::tree_length(tape);
+    let a = tree::tree_length_with(quoted, tape);
     let Answer::Count(k) = a else {
         return a;
     };
@@ -68,5 +81,5 @@ pub fn measure_and_write_tree(tape: &[u8], less: bool, out: &mut [u8]) -> Answer
         return Answer::TextTooLong;
     }
     let n = room_for(k, less);
-    tree::write_tree(tape, &mut out[..n])
+    tree::write_tree_with(quoted, tape, &mut out[..n])
 }

@@ -306,11 +306,11 @@ fn is_over(tape: &[u8], out: &[u8]) -> bool {
     true
 }
 
-// 0 where the tape's text in a layout reads back as the tape, in a buffer that keeps its rest; else 1.
-fn differs_back(layout: u32, tape: &[u8]) -> u64 {
+// 0 where the tape's text in a layout, under a setting, reads back as the tape, in a buffer that keeps its rest; else 1.
+fn differs_back(quoted: bool, layout: u32, tape: &[u8]) -> u64 {
     let mut text = [0u8; 512];
     let mut out = [b'#'; 512];
-    let a = claims::write_and_read(layout, tape, &mut text, &mut out);
+    let a = claims::write_and_read(quoted, layout, tape, &mut text, &mut out);
     match a {
         Answer::Count(n) => {
             if n != tape.len() {
@@ -322,15 +322,23 @@ fn differs_back(layout: u32, tape: &[u8]) -> u64 {
     }
 }
 
+// In how many of the three layouts it differs under a setting.
+fn layouts_back(quoted: bool, tape: &[u8]) -> u64 {
+    let compact = differs_back(quoted, 0, tape);
+    let lines = differs_back(quoted, 1, tape);
+    let pretty = differs_back(quoted, 2, tape);
+    (compact % 2) + (lines % 2) + (pretty % 2)
+}
+
+// Under both settings.
 fn say_back(tape: &[u8]) {
-    let compact = differs_back(0, tape);
-    let lines = differs_back(1, tape);
-    let pretty = differs_back(2, tape);
+    let off = layouts_back(false, tape);
+    let on = layouts_back(true, tape);
     io::write_all(
         STDOUT_FILENO,
         b"written and read back, differs in layouts: ",
     );
-    say_number((compact % 2) + (lines % 2) + (pretty % 2));
+    say_number((off % 4) + (on % 4));
     io::write_all(STDOUT_FILENO, b"\n");
 }
 
@@ -382,28 +390,28 @@ fn differs_by(a: Answer, text: &[u8], b: Answer, exact: &[u8], c: Answer, short:
     }
 }
 
-fn differs_measured(layout: u32, tape: &[u8]) -> u64 {
+fn differs_measured(quoted: bool, layout: u32, tape: &[u8]) -> u64 {
     let mut text = [b'#'; 512];
     let mut exact = [b'#'; 512];
     let mut short = [b'#'; 512];
-    let a = writer::writer::write_stream(layout, tape, &mut text);
-    let b = claims::measure_and_write(layout, tape, false, &mut exact);
-    let c = claims::measure_and_write(layout, tape, true, &mut short);
+    let a = writer::writer::write_stream_with(quoted, layout, tape, &mut text);
+    let b = claims::measure_and_write(quoted, layout, tape, false, &mut exact);
+    let c = claims::measure_and_write(quoted, layout, tape, true, &mut short);
     differs_by(a, &text, b, &exact, c, &short)
 }
 
-fn differs_measured_tree(tape: &[u8]) -> u64 {
+fn differs_measured_tree(quoted: bool, tape: &[u8]) -> u64 {
     let mut text = [b'#'; 512];
     let mut exact = [b'#'; 512];
     let mut short = [b'#'; 512];
-    let a = tree::write_tree(tape, &mut text);
-    let b = claims::measure_and_write_tree(tape, false, &mut exact);
-    let c = claims::measure_and_write_tree(tape, true, &mut short);
+    let a = tree::write_tree_with(quoted, tape, &mut text);
+    let b = claims::measure_and_write_tree(quoted, tape, false, &mut exact);
+    let c = claims::measure_and_write_tree(quoted, tape, true, &mut short);
     differs_by(a, &text, b, &exact, c, &short)
 }
 
 // The same of the tree text of the first line's value.
-fn differs_first(text: &[u8]) -> u64 {
+fn differs_first(quoted: bool, text: &[u8]) -> u64 {
     let mut tape = [0u8; 512];
     let c = line_reader::call_at(text, 0, &mut tape);
     let a = c.answer;
@@ -412,19 +420,27 @@ fn differs_first(text: &[u8]) -> u64 {
             if 512 < n {
                 return 1;
             }
-            differs_measured_tree(&tape[0..n])
+            differs_measured_tree(quoted, &tape[0..n])
         }
         _ => 1,
     }
 }
 
+// In how many of the four texts it differs under a setting.
+fn texts_measured(quoted: bool, tape: &[u8], text: &[u8]) -> u64 {
+    let compact = differs_measured(quoted, 0, tape);
+    let lines = differs_measured(quoted, 1, tape);
+    let pretty = differs_measured(quoted, 2, tape);
+    let tree = differs_first(quoted, text);
+    (compact % 2) + (lines % 2) + (pretty % 2) + (tree % 2)
+}
+
+// Under both settings.
 fn say_measured(tape: &[u8], text: &[u8]) {
-    let compact = differs_measured(0, tape);
-    let lines = differs_measured(1, tape);
-    let pretty = differs_measured(2, tape);
-    let tree = differs_first(text);
+    let off = texts_measured(false, tape, text);
+    let on = texts_measured(true, tape, text);
     io::write_all(STDOUT_FILENO, b"measured and written, differs in texts: ");
-    say_number((compact % 2) + (lines % 2) + (pretty % 2) + (tree % 2));
+    say_number((off % 8) + (on % 8));
     io::write_all(STDOUT_FILENO, b"\n");
 }
 

@@ -4,7 +4,7 @@ use mathlib.Core.List.{List}
 use Rattle.output.specs.Logic.{if, ascii}
 use Rattle.text_rules.specs.Texts.{same}
 use Rattle.ion.specs.declared.words.Word.{Word}
-use Rattle.ion.specs.declared.words.Word.the-variants.{Compact, Lines, Pretty, Tree, Length, Check, Show, Find, Read, Split, Convert, Help, Unknown}
+use Rattle.ion.specs.declared.words.Word.the-variants.{Compact, Lines, Pretty, Tree, Length, Check, Show, Find, Read, Split, Convert, Help, Quoted, Unknown}
 
 unfoldable pub commandOf : List ℕ → Word
 commandOf s =
@@ -19,4 +19,5 @@ commandOf s =
     (if (same (ascii "read") s) Read
     (if (same (ascii "split") s) Split
     (if (same (ascii "convert") s) Convert
-    (if (same (ascii "help") s) Help Unknown)))))))))))
+    (if (same (ascii "help") s) Help
+    (if (same (ascii "--quoted") s) Quoted Unknown))))))))))))

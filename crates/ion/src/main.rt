@@ -1,6 +1,6 @@
 // One program for the command line: `ion WORD [FILE]`, `ion length WORD [FILE]`, or `ion find OFFSET NAME [FILE]`. The word says what to do with a tape or a text, which comes from the file or from
-// standard input. What it gives goes to standard output, and a sentence for each refusal to standard error. The kit has no exit status: the
-// script `ion` of the repository makes it from these sentences.
+// standard input; before a word for one of the four texts, or for its length, `--quoted` has every symbol text quoted. What it gives goes to standard
+// output, and a sentence for each refusal to standard error. The kit has no exit status: the script `ion` of the repository makes it from these sentences.
 mod input;
 mod words;
 
@@ -112,13 +112,14 @@ fn replaced_characters(replaced: usize) {
 fn help(fd: i32) {
     let whole = io::write_all(
         fd,
-        b"use: ion WORD [FILE], ion length compact|lines|pretty|tree [FILE], or ion find OFFSET NAME [FILE]
+        b"use: ion [--quoted] WORD [FILE], ion [--quoted] length compact|lines|pretty|tree [FILE], or ion find OFFSET NAME [FILE]
 From a tape, of at most 1,048,576 bytes:
   compact  its Ion text, values parted by blanks
   lines    its Ion text, one value a line
   pretty   its Ion text, indented
   tree     the text of its one value, annotations included
   length   how many bytes one of these four texts has; a second word names it
+  --quoted before one of these five words: every symbol text is quoted
   check    whether it is a good tape
   show     its nodes, one a line: offset, kind and value
   find     the latest field NAME of the struct at OFFSET: where it stands, and its nodes; $7 is an identifier, and a text if single quote marks stand around it
@@ -159,18 +160,18 @@ fn refuse(number: u8, tape: &[u8], text: &mut [u8], spare: &mut [u8]) {
 }
 
 // A text in a layout, or the tree text.
-fn write(word: Word, tape: &[u8], text: &mut [u8]) -> Answer {
+fn write(quoted: bool, word: Word, tape: &[u8], text: &mut [u8]) -> Answer {
     match word {
-        Word::Compact => writer::writer::write_stream(0, tape, text),
-        Word::Lines => writer::writer::write_stream(1, tape, text),
-        Word::Pretty => writer::writer::write_stream(2, tape, text),
-        _ => tree::write_tree(tape, text),
+        Word::Compact => writer::writer::write_stream_with(quoted, 0, tape, text),
+        Word::Lines => writer::writer::write_stream_with(quoted, 1, tape, text),
+        Word::Pretty => writer::writer::write_stream_with(quoted, 2, tape, text),
+        _ => tree::write_tree_with(quoted, tape, text),
     }
 }
 
 // A text to standard output, or why there is none.
-fn give_text(word: Word, tape: &[u8], text: &mut [u8], spare: &mut [u8]) {
-    let a = write(word, tape, text);
+fn give_text(quoted: bool, word: Word, tape: &[u8], text: &mut [u8], spare: &mut [u8]) {
+    let a = write(quoted, word, tape, text);
     let Answer::Count(n) = a else {
         refuse(tape::answer::number(a), tape, text, spare);
         return;
@@ -179,18 +180,18 @@ fn give_text(word: Word, tape: &[u8], text: &mut [u8], spare: &mut [u8]) {
 }
 
 // The length of a text in a layout, or of the tree text.
-fn length(word: Word, tape: &[u8]) -> Answer {
+fn length(quoted: bool, word: Word, tape: &[u8]) -> Answer {
     match word {
-        Word::Compact => measure::text_length(0, tape),
-        Word::Lines => measure::text_length(1, tape),
-        Word::Pretty => measure::text_length(2, tape),
-        _ => tree::tree_length(tape),
+        Word::Compact => measure::text_length_with(quoted, 0, tape),
+        Word::Lines => measure::text_length_with(quoted, 1, tape),
+        Word::Pretty => measure::text_length_with(quoted, 2, tape),
+        _ => tree::tree_length_with(quoted, tape),
     }
 }
 
 // The length of a text to standard output, or why there is none.
-fn give_length(word: Word, tape: &[u8], text: &mut [u8], spare: &mut [u8]) {
-    let a = length(word, tape);
+fn give_length(quoted: bool, word: Word, tape: &[u8], text: &mut [u8], spare: &mut [u8]) {
+    let a = length(quoted, word, tape);
     let Answer::Count(n) = a else {
         refuse(tape::answer::number(a), tape, text, spare);
         return;
@@ -226,11 +227,11 @@ fn check(tape: &[u8], aloud: bool, text: &mut [u8], spare: &mut [u8]) {
     }
 }
 
-fn with_tape(word: Word, tape: &[u8], text: &mut [u8], spare: &mut [u8]) {
+fn with_tape(quoted: bool, word: Word, tape: &[u8], text: &mut [u8], spare: &mut [u8]) {
     match word {
         Word::Check => check(tape, false, text, spare),
         Word::Show => check(tape, true, text, spare),
-        _ => give_text(word, tape, text, spare),
+        _ => give_text(quoted, word, tape, text, spare),
     }
 }
 
@@ -510,11 +511,18 @@ fn tape_buffer() -> [u8; 1048576]
     [0; 1048576]
 }
 
-fn on_tape(word: Word, name: &[u8], text: &mut [u8], tape: &mut [u8], spare: &mut [u8]) {
+fn on_tape(
+    quoted: bool,
+    word: Word,
+    name: &[u8],
+    text: &mut [u8],
+    tape: &mut [u8],
+    spare: &mut [u8],
+) {
     let i = input::read(name, tape);
     let n = i.count;
     if i.whole {
-        with_tape(word, &tape[0..n], text, spare);
+        with_tape(quoted, word, &tape[0..n], text, spare);
     }
 }
 
@@ -527,11 +535,18 @@ fn on_text(word: Word, name: &[u8], text: &mut [u8], tape: &mut [u8], spare: &mu
 }
 
 // The length of the text that the word behind `length` names.
-fn on_length(word: Word, name: &[u8], text: &mut [u8], tape: &mut [u8], spare: &mut [u8]) {
+fn on_length(
+    quoted: bool,
+    word: Word,
+    name: &[u8],
+    text: &mut [u8],
+    tape: &mut [u8],
+    spare: &mut [u8],
+) {
     let i = input::read(name, tape);
     let n = i.count;
     if i.whole {
-        give_length(word, &tape[0..n], text, spare);
+        give_length(quoted, word, &tape[0..n], text, spare);
     }
 }
 
@@ -556,18 +571,38 @@ fn on_find(name: &[u8], text: &mut [u8], tape: &mut [u8], spare: &mut [u8]) {
     }
 }
 
-fn obey_length(word: Word, name: &[u8], text: &mut [u8], tape: &mut [u8], spare: &mut [u8]) {
+fn obey_length(
+    quoted: bool,
+    word: Word,
+    name: &[u8],
+    text: &mut [u8],
+    tape: &mut [u8],
+    spare: &mut [u8],
+) {
     match word {
-        Word::Compact => on_length(word, name, text, tape, spare),
-        Word::Lines => on_length(word, name, text, tape, spare),
-        Word::Pretty => on_length(word, name, text, tape, spare),
-        Word::Tree => on_length(word, name, text, tape, spare),
+        Word::Compact => on_length(quoted, word, name, text, tape, spare),
+        Word::Lines => on_length(quoted, word, name, text, tape, spare),
+        Word::Pretty => on_length(quoted, word, name, text, tape, spare),
+        Word::Tree => on_length(quoted, word, name, text, tape, spare),
         _ => wrong_use(b"length takes compact, lines, pretty or tree"),
+    }
+}
+
+// Whether `--quoted` may stand before a word.
+fn takes_quoted(word: Word) -> bool {
+    match word {
+        Word::Compact => true,
+        Word::Lines => true,
+        Word::Pretty => true,
+        Word::Tree => true,
+        Word::Length => true,
+        _ => false,
     }
 }
 
 // Does what the word says, with the input of a name; where it is `length`, of the text that `text_word` names.
 fn obey(
+    quoted: bool,
     word: Word,
     text_word: Word,
     name: &[u8],
@@ -576,14 +611,14 @@ fn obey(
     spare: &mut [u8],
 ) {
     match word {
-        Word::Length => obey_length(text_word, name, text, tape, spare),
+        Word::Length => obey_length(quoted, text_word, name, text, tape, spare),
         Word::Find => on_find(name, text, tape, spare),
         Word::Unknown => wrong_use(b"no such word"),
         Word::Help => help(libc::STDOUT_FILENO),
         Word::Read => on_text(word, name, text, tape, spare),
         Word::Split => on_text(word, name, text, tape, spare),
         Word::Convert => on_text(word, name, text, tape, spare),
-        _ => on_tape(word, name, text, tape, spare),
+        _ => on_tape(quoted, word, name, text, tape, spare),
     }
 }
 
@@ -594,28 +629,32 @@ fn word_at(i: usize) -> Word {
     words::word_of(&s[..n])
 }
 
-// The number of the word that is the file's name: `length` has a word of its own before it, `find` two.
-fn name_at(word: Word) -> usize
-    ensures { λ r. ⌜ r ≤ 4 ⌝ }
+// The number of the word that is the file's name, where the first word has this number: `length` has a word of its own before it, `find` two.
+fn name_at(word: Word, at: usize) -> usize
+    requires { ⌜ at ≤ 2 ⌝ }
+    ensures { λ r. ⌜ r ≤ 5 ⌝ }
 {
     match word {
-        Word::Length => 3,
-        Word::Find => 4,
-        _ => 2,
+        Word::Length => at + 2,
+        Word::Find => at + 3,
+        _ => at + 1,
     }
 }
 
-fn run(text: &mut [u8], tape: &mut [u8], spare: &mut [u8]) {
+// Does what the words from one on say.
+fn run_from(at: usize, quoted: bool, text: &mut [u8], tape: &mut [u8], spare: &mut [u8])
+    requires { ⌜ at ≤ 2 ⌝ }
+{
     let count = os::arg_count();
-    let word = word_at(1);
-    let last = name_at(word);
+    let word = word_at(at);
+    let last = name_at(word, at);
     if last + 1 < count {
         wrong_use(b"more than a word and a file");
         return;
     }
-    let text_word = word_at(2);
+    let text_word = word_at(at + 1);
     if count <= last {
-        obey(word, text_word, b"-", text, tape, spare);
+        obey(quoted, word, text_word, b"-", text, tape, spare);
         return;
     }
     let mut name = io::buffer();
@@ -624,7 +663,21 @@ fn run(text: &mut [u8], tape: &mut [u8], spare: &mut [u8]) {
         cannot_read(b"the file");
         return;
     }
-    obey(word, text_word, &name[..n], text, tape, spare);
+    obey(quoted, word, text_word, &name[..n], text, tape, spare);
+}
+
+fn run(text: &mut [u8], tape: &mut [u8], spare: &mut [u8]) {
+    let first = word_at(1);
+    match first {
+        Word::Quoted => {
+            if !takes_quoted(word_at(2)) {
+                wrong_use(b"--quoted stands before compact, lines, pretty, tree or length");
+                return;
+            }
+            run_from(2, true, text, tape, spare);
+        }
+        _ => run_from(1, false, text, tape, spare),
+    }
 }
 
 fn main() {

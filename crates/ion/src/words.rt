@@ -16,6 +16,7 @@ pub enum Word {
     Split,
     Convert,
     Help,
+    Quoted,
     Unknown,
 }
 
@@ -57,6 +58,9 @@ pub fn word_of(s: &[u8]) -> Word
     }
     if same_word(s, b"help") {
         return Word::Help;
+    }
+    if same_word(s, b"--quoted") {
+        return Word::Quoted;
     }
     Word::Unknown
 }

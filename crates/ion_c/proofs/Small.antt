@@ -18,11 +18,11 @@ use Rattle.reader.specs.Outcome.{fits, tapeAnswer, answer}
 use Rattle.converter.specs.Convert.{converted}
 use Rattle.converter.specs.Outcome as convert
 use Rattle.writer.specs.Text.{streamText}
-use Rattle.writer.specs.Outcome.{refusal, measured, answered, streamed}
-use Rattle.measure.specs.Outcome.{textLength}
+use Rattle.writer.specs.Outcome.{refusal, measured, answered, streamedWith}
+use Rattle.measure.specs.Outcome.{textLengthWith}
 use Rattle.measure.proofs.Verdicts.{length-small}
 use Rattle.tree.specs.Text.{treeText}
-use Rattle.tree.specs.Outcome.{written}
+use Rattle.tree.specs.Outcome.{writtenWith}
 use Rattle.tree.specs.Outcome as tree
 use Rattle.tree.proofs.Verdicts as told
 use Rattle.tape.specs.Tape.{nodesOf}
@@ -51,23 +51,23 @@ answered-small : (k : ℕ) (o : Outcome) → (k ≡ 0 → Small o) → Small (an
 answered-small zero o h = h refl
 answered-small (suc k) o h = tt
 
-pub streamed-small : (y : ℕ) (t : List ℕ) (n : ℕ) → n < 2 ^ 63 → Small (streamed y t n)
-unfolding streamed
-streamed-small y t n h = answered-small (refusal y t) (measured (streamText y (nodesOf t)) n) (λ _. measured-small (streamText y (nodesOf t)) n h)
+pub streamed-small : (quoted : Bool) (y : ℕ) (t : List ℕ) (n : ℕ) → n < 2 ^ 63 → Small (streamedWith quoted y t n)
+unfolding streamedWith
+streamed-small quoted y t n h = answered-small (refusal y t) (measured (streamText quoted y (nodesOf t)) n) (λ _. measured-small (streamText quoted y (nodesOf t)) n h)
 
-pub written-small : (t : List ℕ) (n : ℕ) → n < 2 ^ 63 → Small (written t n)
-unfolding written
-written-small t n h = answered-small (tree.refusal t) (measured (treeText (nodesOf t)) n) (λ _. measured-small (treeText (nodesOf t)) n h)
+pub written-small : (quoted : Bool) (t : List ℕ) (n : ℕ) → n < 2 ^ 63 → Small (writtenWith quoted t n)
+unfolding writtenWith
+written-small quoted t n h = answered-small (tree.refusal t) (measured (treeText quoted (nodesOf t)) n) (λ _. measured-small (treeText quoted (nodesOf t)) n h)
 
 -- ---- lengths
 
-pub text-length-small : (y : ℕ) (t : List ℕ) → Bytes t → Small (textLength y t)
-unfolding textLength
-text-length-small y t b = answered-small (refusal y t) (counted (length (streamText y (nodesOf t)))) (length-small y t b)
+pub text-length-small : (quoted : Bool) (y : ℕ) (t : List ℕ) → Bytes t → Small (textLengthWith quoted y t)
+unfolding textLengthWith
+text-length-small quoted y t b = answered-small (refusal y t) (counted (length (streamText quoted y (nodesOf t)))) (length-small quoted y t b)
 
-pub tree-length-small : (t : List ℕ) → Bytes t → Small (tree.treeLength t)
-unfolding tree.treeLength
-tree-length-small t b = answered-small (tree.refusal t) (counted (length (treeText (nodesOf t)))) (told.length-small t b)
+pub tree-length-small : (quoted : Bool) (t : List ℕ) → Bytes t → Small (tree.treeLengthWith quoted t)
+unfolding tree.treeLengthWith
+tree-length-small quoted t b = answered-small (tree.refusal t) (counted (length (treeText quoted (nodesOf t)))) (told.length-small quoted t b)
 
 -- ---- reading
 

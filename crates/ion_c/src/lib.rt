@@ -1,11 +1,12 @@
 // The same calls for C and Rust: numbers, byte slices and slices of entries. A slice passes as a pointer and a length. A call answers a count, of
 // bytes finished or measured or of fields, or minus the number of a refusal of document 01 or 02; a lookup answers a place, or -1.
 ghost use mathlib.Core.Path.{_≡_};
+ghost use mathlib.Core.Bool.{true};
 ghost use lib.ListN.{length};
 ghost use Rattle.text_rules.specs.Text.{Sym};
 ghost use Rattle.tape.specs.Answer.{outcome};
-ghost use Rattle.writer.specs.Outcome.{streamed, leaves};
-ghost use Rattle.measure.specs.Outcome.{textLength};
+ghost use Rattle.writer.specs.Outcome.{streamed, leaves, streamedWith, leavesWith};
+ghost use Rattle.measure.specs.Outcome.{textLength, textLengthWith};
 ghost use Rattle.tree.specs.Outcome as tree;
 ghost use Rattle.reader.specs.Outcome as read;
 ghost use Rattle.converter.specs.Outcome as convert;
@@ -67,14 +68,48 @@ fn place_code(f: Found) -> i64
     }
 }
 
+// ---- the writers and the measures under a setting, with their answers as numbers. Each has two callers and is the one caller of what it calls, so that
+// the compiler builds that in
+
+fn write_code(quoted: bool, layout: u32, tape: &[u8], out: &mut [u8]) -> i64
+    ensures answer { λ r. ⌜ r ≡ code (streamedWith quoted layout (now (tape .entry)) (length (now (out .entry)))) ⌝ }
+    ensures buffer { λ _. ⌜ now (out .exit) ≡ leavesWith quoted layout (now (tape .entry)) (now (out .entry)) ⌝ }
+{
+    let a = writer::writer::write_stream_with(quoted, layout, tape, out);
+    code_of(a)
+}
+
+fn write_tree_code(quoted: bool, tape: &[u8], out: &mut [u8]) -> i64
+    ensures answer { λ r. ⌜ r ≡ code (tree.writtenWith quoted (now (tape .entry)) (length (now (out .entry)))) ⌝ }
+    ensures buffer { λ _. ⌜ now (out .exit) ≡ tree.leavesWith quoted (now (tape .entry)) (now (out .entry)) ⌝ }
+{
+    let a = tree::write_tree_with(quoted, tape, out);
+    code_of(a)
+}
+
+fn length_code(quoted: bool, layout: u32, tape: &[u8]) -> i64
+    ensures { λ r. ⌜ r ≡ code (textLengthWith quoted layout (now (tape .entry))) ⌝ }
+{
+    let a = measure::text_length_with(quoted, layout, tape);
+    code_of(a)
+}
+
+fn tree_length_code(quoted: bool, tape: &[u8]) -> i64
+    ensures { λ r. ⌜ r ≡ code (tree.treeLengthWith quoted (now (tape .entry))) ⌝ }
+{
+    let a = tree::tree_length_with(quoted, tape);
+    code_of(a)
+}
+
+// ---- with the setting off
+
 // The text of a tape in a layout: 0 Compact, 1 Lines, 2 Pretty.
 #[no_mangle]
 pub extern "C" fn ion_write(layout: u32, tape: &[u8], out: &mut [u8]) -> i64
     ensures answer { λ r. ⌜ r ≡ code (streamed layout (now (tape .entry)) (length (now (out .entry)))) ⌝ }
     ensures buffer { λ _. ⌜ now (out .exit) ≡ leaves layout (now (tape .entry)) (now (out .entry)) ⌝ }
 {
-    let a = writer::writer::write_stream(layout, tape, out);
-    code_of(a)
+    write_code(false, layout, tape, out)
 }
 
 // The tree text of a tape.
@@ -83,8 +118,7 @@ pub extern "C" fn ion_write_tree(tape: &[u8], out: &mut [u8]) -> i64
     ensures answer { λ r. ⌜ r ≡ code (tree.written (now (tape .entry)) (length (now (out .entry)))) ⌝ }
     ensures buffer { λ _. ⌜ now (out .exit) ≡ tree.leaves (now (tape .entry)) (now (out .entry)) ⌝ }
 {
-    let a = tree::write_tree(tape, out);
-    code_of(a)
+    write_tree_code(false, tape, out)
 }
 
 // The length of a tape's text in a layout, in place of the text.
@@ -92,8 +126,7 @@ pub extern "C" fn ion_write_tree(tape: &[u8], out: &mut [u8]) -> i64
 pub extern "C" fn ion_length(layout: u32, tape: &[u8]) -> i64
     ensures { λ r. ⌜ r ≡ code (textLength layout (now (tape .entry))) ⌝ }
 {
-    let a = measure::text_length(layout, tape);
-    code_of(a)
+    length_code(false, layout, tape)
 }
 
 // The length of a tape's tree text.
@@ -101,9 +134,42 @@ pub extern "C" fn ion_length(layout: u32, tape: &[u8]) -> i64
 pub extern "C" fn ion_tree_length(tape: &[u8]) -> i64
     ensures { λ r. ⌜ r ≡ code (tree.treeLength (now (tape .entry))) ⌝ }
 {
-    let a = tree::tree_length(tape);
-    code_of(a)
+    tree_length_code(false, tape)
 }
+
+// ---- the same four with the setting on: every symbol text is quoted
+
+#[no_mangle]
+pub extern "C" fn ion_write_quoted(layout: u32, tape: &[u8], out: &mut [u8]) -> i64
+    ensures answer { λ r. ⌜ r ≡ code (streamedWith true layout (now (tape .entry)) (length (now (out .entry)))) ⌝ }
+    ensures buffer { λ _. ⌜ now (out .exit) ≡ leavesWith true layout (now (tape .entry)) (now (out .entry)) ⌝ }
+{
+    write_code(true, layout, tape, out)
+}
+
+#[no_mangle]
+pub extern "C" fn ion_write_tree_quoted(tape: &[u8], out: &mut [u8]) -> i64
+    ensures answer { λ r. ⌜ r ≡ code (tree.writtenWith true (now (tape .entry)) (length (now (out .entry)))) ⌝ }
+    ensures buffer { λ _. ⌜ now (out .exit) ≡ tree.leavesWith true (now (tape .entry)) (now (out .entry)) ⌝ }
+{
+    write_tree_code(true, tape, out)
+}
+
+#[no_mangle]
+pub extern "C" fn ion_length_quoted(layout: u32, tape: &[u8]) -> i64
+    ensures { λ r. ⌜ r ≡ code (textLengthWith true layout (now (tape .entry))) ⌝ }
+{
+    length_code(true, layout, tape)
+}
+
+#[no_mangle]
+pub extern "C" fn ion_tree_length_quoted(tape: &[u8]) -> i64
+    ensures { λ r. ⌜ r ≡ code (tree.treeLengthWith true (now (tape .entry))) ⌝ }
+{
+    tree_length_code(true, tape)
+}
+
+// ---- the readers
 
 // The tape of a text.
 #[no_mangle]

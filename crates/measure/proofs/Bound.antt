@@ -30,7 +30,7 @@ use Rattle.tape.proofs.FineBack.{tape-fine}
 use Rattle.writer.specs.Text.{symText, scalarText, nameText, notesText, opening, closing, separator, broken, deeper, streamText}
 use Rattle.writer.specs.Outcome.{refusal, answered}
 use Rattle.measure.specs.Sums.{frontLength, contentsOf, contents, separatorLength, separatorsOf, separators, indentsOf, indents}
-use Rattle.measure.specs.Outcome.{textLength, longest}
+use Rattle.measure.specs.Outcome.{textLengthWith, longest}
 use Rattle.measure.proofs.EscapeLengths.{quoted-most, symbol-most, clob-body-most, blob-text-length}
 use Rattle.measure.proofs.NumberLengths.{int-most, decimal-most, timestamp-most, id-most}
 use Rattle.measure.proofs.TextSums.{length-3, stream-sums}
@@ -72,10 +72,10 @@ sized-long s =
     omega arith
 
 -- a symbol with the two bytes behind it, or a separator, and two more
-sym-most : (s : Sym) → length (symText s) + 4 ≤ longest (length (encodeSym s))
+sym-most : (quoted : Bool) (s : Sym) → length (symText quoted s) + 4 ≤ longest (length (encodeSym s))
 unfolding symText encodeSym
-sym-most (Sym.text s) = let a = symbol-most s in let b = sized-long s in omega arith
-sym-most (Sym.id n) = let a = id-most n in let b = length-le 4 n in omega arith
+sym-most quoted (Sym.text s) = let a = symbol-most quoted s in let b = sized-long s in omega arith
+sym-most quoted (Sym.id n) = let a = id-most n in let b = length-le 4 n in omega arith
 
 -- a timestamp stands in the calendar
 abbrev Dated : Scalar → Type 0
@@ -84,53 +84,54 @@ Dated s = (x : Timestamp) → s ≡ timestamp x → wellFormed x ≡ true
 fine-dated : (s : Scalar) → FineScalar s → Dated s
 fine-dated s f x e = subst FineScalar e f
 
--- a scalar and its separator
-scalar-most : (s : Scalar) → Dated s → length (scalarText s) + 2 ≤ longest (length (encodeScalar s))
-unfolding scalarText encodeScalar encodeTimestamp stringText leBytes
-scalar-most (null t) f = let a = null-most t in omega arith
-scalar-most (bool b) f = let a = bool-most b in omega arith
-scalar-most (int n) f = let a = int-most n in omega arith
-scalar-most (float x) f = let a = float-most x in omega arith
-scalar-most (decimal neg m e) f = let a = decimal-most neg m e in omega arith
-scalar-most (timestamp x) f = let a = timestamp-most x (f x refl) in omega arith
-scalar-most (symbol s) f = let a = sym-most s in omega arith
-scalar-most (string s) f = let a = quoted-most (byte "\"") s in let b = sized-long s in omega arith
-scalar-most (clob s) f = let a = clob-most s in let b = sized-long s in omega arith
-scalar-most (blob s) f = let a = blob-text-length s in let b = sized-long s in omega arith
+module _ (quoted : Bool) where
+  -- a scalar and its separator
+  scalar-most : (s : Scalar) → Dated s → length (scalarText quoted s) + 2 ≤ longest (length (encodeScalar s))
+  unfolding scalarText encodeScalar encodeTimestamp stringText leBytes
+  scalar-most (null t) f = let a = null-most t in omega arith
+  scalar-most (bool b) f = let a = bool-most b in omega arith
+  scalar-most (int n) f = let a = int-most n in omega arith
+  scalar-most (float x) f = let a = float-most x in omega arith
+  scalar-most (decimal neg m e) f = let a = decimal-most neg m e in omega arith
+  scalar-most (timestamp x) f = let a = timestamp-most x (f x refl) in omega arith
+  scalar-most (symbol s) f = let a = sym-most quoted s in omega arith
+  scalar-most (string s) f = let a = quoted-most (byte "\"") s in let b = sized-long s in omega arith
+  scalar-most (clob s) f = let a = clob-most s in let b = sized-long s in omega arith
+  scalar-most (blob s) f = let a = blob-text-length s in let b = sized-long s in omega arith
 
-pub sound-most : (s : Scalar) → scalarFault s ≡ 0 → length (scalarText s) + 2 ≤ longest (length (encodeScalar s))
-unfolding scalarFault
-sound-most s z = scalar-most s (λ x e. if-zero-else (wellFormed x) 1 (subst (λ (s : Scalar). scalarFault s ≡ 0) e z))
+  pub sound-most : (s : Scalar) → scalarFault s ≡ 0 → length (scalarText quoted s) + 2 ≤ longest (length (encodeScalar s))
+  unfolding scalarFault
+  sound-most s z = scalar-most s (λ x e. if-zero-else (wellFormed x) 1 (subst (λ (s : Scalar). scalarFault s ≡ 0) e z))
 
--- ---- what stands before a value
+  -- ---- what stands before a value
 
-pub name-most : (a : Option Sym) → length (nameText a) ≤ longest (length (encodeName a))
-unfolding nameText encodeName
-name-most none = omega arith
-name-most (some s) = let a = sym-most s in let b = length-append (symText s) (ascii ": ") in omega arith
+  pub name-most : (a : Option Sym) → length (nameText quoted a) ≤ longest (length (encodeName a))
+  unfolding nameText encodeName
+  name-most none = omega arith
+  name-most (some s) = let a = sym-most quoted s in let b = length-append (symText quoted s) (ascii ": ") in omega arith
 
-syms-most : (ss : List Sym) → length (notesText ss) ≤ longest (length (encodeSyms ss))
-unfolding notesText encodeSyms
-syms-most [] = omega arith
-syms-most (s ∷ ss) =
-    let a = sym-most s in
-    let b = length-3 (symText s) (ascii "::") (notesText ss) in
-    let c = length-append (encodeSym s) (encodeSyms ss) in
-    let d = syms-most ss in
-    omega arith
+  syms-most : (ss : List Sym) → length (notesText quoted ss) ≤ longest (length (encodeSyms ss))
+  unfolding notesText encodeSyms
+  syms-most [] = omega arith
+  syms-most (s ∷ ss) =
+      let a = sym-most quoted s in
+      let b = length-3 (symText quoted s) (ascii "::") (notesText quoted ss) in
+      let c = length-append (encodeSym s) (encodeSyms ss) in
+      let d = syms-most ss in
+      omega arith
 
-pub notes-most : (ss : List Sym) → length (notesText ss) ≤ longest (length (encodeNotes ss))
-unfolding encodeNotes notesText
-notes-most [] = omega arith
-notes-most (s ∷ ss) = let a = syms-most (s ∷ ss) in omega arith
+  pub notes-most : (ss : List Sym) → length (notesText quoted ss) ≤ longest (length (encodeNotes ss))
+  unfolding encodeNotes notesText
+  notes-most [] = omega arith
+  notes-most (s ∷ ss) = let a = syms-most (s ∷ ss) in omega arith
 
-front-most : (h : Head) → frontLength h ≤ longest (length (encodeHead h))
-unfolding encodeHead
-front-most h =
-    let a = name-most (h .0) in
-    let b = notes-most (h .1) in
-    let c = length-append (encodeName (h .0)) (encodeNotes (h .1)) in
-    omega arith
+  front-most : (h : Head) → frontLength quoted h ≤ longest (length (encodeHead h))
+  unfolding encodeHead
+  front-most h =
+      let a = name-most (h .0) in
+      let b = notes-most (h .1) in
+      let c = length-append (encodeName (h .0)) (encodeNotes (h .1)) in
+      omega arith
 
 -- ---- nodes
 
@@ -161,39 +162,40 @@ unfolding encodes
 more-long h n ns = length-3 (encodeHead h) (encode n) (encodes ns)
 
 -- nine times the bytes: a marker and its separator are nine bytes, and one on the tape
-mutual
-  unfolding contentsOf contents separatorsOf separators encode encodes separator Fine Fines
+module _ (quoted : Bool) where
+  mutual
+    unfolding contentsOf contents separatorsOf separators encode encodes separator Fine Fines
 
-  node-most : (d : ℕ) (k : Frame) (ss : List Sym) (n : Node) → Fine d k ss n → contentsOf n + separatorsOf n + separatorLength k ≤ longest (length (encode n))
-  node-most d k ss (scalar s) f = let a = scalar-most s (fine-dated s f) in let b = gap-most k in omega arith
-  node-most zero k ss (nest g ns) f = absurd f
-  node-most (suc d) k ss (nest g ns) f =
-      let a = nodes-most d g ns (f .2) in
-      let b = brackets-most g in
-      let c = gap-most k in
-      let e = nest-long g ns in
-      omega arith
-  node-most d Top [] marker f = omega arith
-  node-most d Top (s ∷ ss) marker f = absurd f
-  node-most d ListF ss marker f = absurd f
-  node-most d Sexp ss marker f = absurd f
-  node-most d Struct ss marker f = absurd f
+    node-most : (d : ℕ) (k : Frame) (ss : List Sym) (n : Node) → Fine d k ss n → contentsOf quoted n + separatorsOf n + separatorLength k ≤ longest (length (encode n))
+    node-most d k ss (scalar s) f = let a = scalar-most quoted s (fine-dated s f) in let b = gap-most k in omega arith
+    node-most zero k ss (nest g ns) f = absurd f
+    node-most (suc d) k ss (nest g ns) f =
+        let a = nodes-most d g ns (f .2) in
+        let b = brackets-most g in
+        let c = gap-most k in
+        let e = nest-long g ns in
+        omega arith
+    node-most d Top [] marker f = omega arith
+    node-most d Top (s ∷ ss) marker f = absurd f
+    node-most d ListF ss marker f = absurd f
+    node-most d Sexp ss marker f = absurd f
+    node-most d Struct ss marker f = absurd f
 
-  pub nodes-most : (d : ℕ) (k : Frame) (ns : Nodes) → Fines d k ns → contents ns + separators k ns ≤ longest (length (encodes ns))
-  nodes-most d k nil f = omega arith
-  nodes-most d k (more h n ns) f =
-      let a = front-most h in
-      let b = node-most d k (h .1) n (f .1) in
-      let c = nodes-most d k ns (f .2) in
-      let e = more-long h n ns in
-      omega arith
+    pub nodes-most : (d : ℕ) (k : Frame) (ns : Nodes) → Fines d k ns → contents quoted ns + separators k ns ≤ longest (length (encodes ns))
+    nodes-most d k nil f = omega arith
+    nodes-most d k (more h n ns) f =
+        let a = front-most quoted h in
+        let b = node-most d k (h .1) n (f .1) in
+        let c = nodes-most d k ns (f .2) in
+        let e = more-long h n ns in
+        omega arith
 
 -- Pretty's indentation: d containers may be opened inside, each by two blanks more
 mutual
   unfolding indentsOf indents broken deeper encode encodes Fine Fines
 
   node-indents : (d w : ℕ) (k : Frame) (ss : List Sym) (n : Node) → w + 2 * d ≤ 130 → Fine d k ss n → w + indentsOf w n ≤ 130 * length (encode n)
-  node-indents d w k ss (scalar s) h f = let a = scalar-most s (fine-dated s f) in omega arith
+  node-indents d w k ss (scalar s) h f = let a = scalar-most false s (fine-dated s f) in omega arith
   node-indents zero w k ss (nest g ns) h f = absurd f
   node-indents (suc d) w k ss (nest g ns) h f =
       let a = nodes-indents d (w + 2) g ns (omega arith) (f .2) in
@@ -222,11 +224,11 @@ module _ (t : List ℕ) (b : Bytes t) (v : verdict t ≡ 0) where
       let e = ap (λ (l : List ℕ). length l) (tape-back t b v) in
       omega arith
 
-  pub tape-most : contents (nodesOf t) + separators Top (nodesOf t) ≤ longest (length t)
-  tape-most = let a = nodes-most 64 Top (nodesOf t) (tape-fine t b v) in let n = nodes-long in omega arith
-
   pub tape-indents : indents 0 (nodesOf t) ≤ 130 * length t
   tape-indents = let a = nodes-indents 64 0 Top (nodesOf t) (omega arith) (tape-fine t b v) in let n = nodes-long in omega arith
+
+pub tape-most : (quoted : Bool) (t : List ℕ) → Bytes t → verdict t ≡ 0 → contents quoted (nodesOf t) + separators Top (nodesOf t) ≤ longest (length t)
+tape-most quoted t b v = let a = nodes-most quoted 64 Top (nodesOf t) (tape-fine t b v) in let n = nodes-long t b v in omega arith
 
 -- ---- how long an answer is at most
 
@@ -245,14 +247,14 @@ unnoted true e = absurd (omega arith)
 unnoted false e = refl
 
 -- THE BOUND: a text in Compact or Lines has at most nine bytes for one of its tape
-pub length-bound : (y : ℕ) (t : List ℕ) (n : ℕ) → Bytes t → y ≤ 1 → textLength y t ≡ counted n → n ≤ longest (length t)
-unfolding textLength refusal
-length-bound y t n b h e =
-    let c = count-told (refusal y t) (length (streamText y (nodesOf t))) n e in
+pub length-bound : (quoted : Bool) (y : ℕ) (t : List ℕ) (n : ℕ) → Bytes t → y ≤ 1 → textLengthWith quoted y t ≡ counted n → n ≤ longest (length t)
+unfolding textLengthWith refusal
+length-bound quoted y t n b h e =
+    let c = count-told (refusal y t) (length (streamText quoted y (nodesOf t))) n e in
     let f : first (verdict t) (if (noteds (nodesOf t)) 5 0) ≡ 0 = rw (le-ltb 2 y (omega arith)) at (c .0) in
     let z = first-zero (verdict t) (if (noteds (nodesOf t)) 5 0) f in
-    let s = stream-sums y (nodesOf t) (unnoted (noteds (nodesOf t)) (z .1)) in
-    let l : length (streamText y (nodesOf t)) ≡ contents (nodesOf t) + separators Top (nodesOf t) + 0 = rw (ne-eqb y 2 (λ q. omega arith)) at s in
-    let m = tape-most t b (z .0) in
+    let s = stream-sums quoted y (nodesOf t) (unnoted (noteds (nodesOf t)) (z .1)) in
+    let l : length (streamText quoted y (nodesOf t)) ≡ contents quoted (nodesOf t) + separators Top (nodesOf t) + 0 = rw (ne-eqb y 2 (λ q. omega arith)) at s in
+    let m = tape-most quoted t b (z .0) in
     let q = c .1 in
     omega arith

@@ -1,6 +1,6 @@
 -- How long the bodies of texts, clobs and blobs are. Assumes nothing.
 use mathlib.Core.Path.{_≡_, refl}
-use mathlib.Core.Bool.{Bool, true, false, _&&_, _||_}
+use mathlib.Core.Bool.{Bool, true, false, _&&_}
 use mathlib.Core.List.{List, [], _∷_, _++_}
 use Prim.Native.Nat.{ℕ, zero, suc, _+_, _-_, _*_, _/_, _%_, _≤_, _<_}
 use native.Mathlib.Omega.{arith}
@@ -15,11 +15,11 @@ use Rattle.lanes.specs.Lanes.{every, unmarkedBy, noRaw}
 use Rattle.lanes.proofs.Table.{same as agree}
 use Rattle.text_rules.specs.Base64.{base64}
 use Rattle.text_rules.specs.Escapes.{letterOf, hasLetter, hexEscape, hasHex, textEscape, textBody, clobEscape, clobBody}
-use Rattle.text_rules.specs.Words.{isKeyword, resemblesSymbolId, resemblesVersionMarker, isIdentifier}
 use Rattle.text_rules.specs.Text.{symbolText, marked, clobText, blobText}
 use Rattle.text_rules.proofs.Base64Laws.{base64-length}
 use Rattle.text_rules.proofs.EscapesLaws.{text-body-most, body-part}
 use Rattle.text_rules.proofs.LaneTests.{raw-word, word-part}
+use Rattle.text_rules.proofs.SymbolsText.{symbol-either}
 use Rattle.measure.proofs.MarkLaws.{lowEscapeMark, hexEscapeMark, markedCount}
 
 -- ---- text
@@ -98,14 +98,8 @@ marked-length q s = omega (arith, length-append (textBody s) (q ∷ []))
 pub quoted-most : (q : ℕ) (s : List ℕ) → length (marked q s) ≤ 4 * length s + 2
 quoted-most q s = omega (arith, text-body-most s, marked-length q s)
 
-pub symbol-most : (s : List ℕ) → length (symbolText s) ≤ 4 * length s + 2
-unfolding symbolText
-symbol-most s = go (isKeyword s || resemblesSymbolId s || resemblesVersionMarker s) (isIdentifier s)
-  where
-    go : (a b : Bool) → length (if a (marked (byte "'") s) (if b s (marked (byte "'") s))) ≤ 4 * length s + 2
-    go true b = quoted-most (byte "'") s
-    go false true = omega arith
-    go false false = quoted-most (byte "'") s
+pub symbol-most : (quoted : Bool) (s : List ℕ) → length (symbolText quoted s) ≤ 4 * length s + 2
+symbol-most quoted s = symbol-either (λ t. length t ≤ 4 * length s + 2) quoted s (λ b. omega arith) (quoted-most (byte "'") s)
 
 -- ---- clobs
 

@@ -45,26 +45,26 @@ use Rattle.measure.proofs.TextSums.{length-3}
 -- ---- symbols
 
 -- of n bytes, which a u32 counts
-pub text-most : (n : ℕ) (s : List ℕ) → n < 4294967296 → length (symbolText (take n s)) ≤ 17179869184
-text-most n s h = omega (arith, symbol-most (take n s), length-take n s)
+pub text-most : (quoted : Bool) (n : ℕ) (s : List ℕ) → n < 4294967296 → length (symbolText quoted (take n s)) ≤ 17179869184
+text-most quoted n s h = omega (arith, symbol-most quoted (take n s), length-take n s)
 
 -- ---- names
 
-name-length : (x : Sym) → length (nameText (some x)) ≡ length (symText x) + 2
+name-length : (quoted : Bool) (x : Sym) → length (nameText quoted (some x)) ≡ length (symText quoted x) + 2
 unfolding nameText
-name-length x = length-append (symText x) (ascii ": ")
+name-length quoted x = length-append (symText quoted x) (ascii ": ")
 
-module _ {s : List ℕ} {at e : ℕ} (n : ℕ) where
+module _ (quoted : Bool) {s : List ℕ} {at e : ℕ} (n : ℕ) where
   pub text-name-length : NameAt s at e (Sym.text (take n (drop 5 (part s at e)))) (5 + n)
-      → length (nameText (nameIn Struct (part s at e))) ≡ length (symbolText (take n (drop (at + 5) s))) + 2
+      → length (nameText quoted (nameIn Struct (part s at e))) ≡ length (symbolText quoted (take n (drop (at + 5) s))) + 2
   unfolding symText
   text-name-length q =
       let r = q .room in
-      rw (q .read) (name-length (Sym.text (take n (drop 5 (part s at e)))) ∙ ap (λ (l : List ℕ). length (symbolText l) + 2) (part-text s at e n (omega arith)))
+      rw (q .read) (name-length quoted (Sym.text (take n (drop 5 (part s at e)))) ∙ ap (λ (l : List ℕ). length (symbolText quoted l) + 2) (part-text s at e n (omega arith)))
 
-  pub id-name-length : NameAt s at e (Sym.id n) 5 → length (nameText (nameIn Struct (part s at e))) ≡ length (symbolIdText n) + 2
+  pub id-name-length : NameAt s at e (Sym.id n) 5 → length (nameText quoted (nameIn Struct (part s at e))) ≡ length (symbolIdText n) + 2
   unfolding symText
-  id-name-length q = rw (q .read) (name-length (Sym.id n))
+  id-name-length q = rw (q .read) (name-length quoted (Sym.id n))
 
 -- ---- a symbol that validation passes, by the size that it says
 
@@ -83,39 +83,40 @@ module _ (s : List ℕ) (at e : ℕ) (w : at ≤ e) (i : e ≤ length s) (size :
   name-read : nameOf Struct (part s at e) ≡ some (nameIn Struct (part s at e), sizeTaken (nameOf Struct (part s at e)))
   name-read = rw as-name refl
 
-  sym-name : length (nameText (nameIn Struct (part s at e))) ≡ symLength (part s at e) + 2
-  sym-name = rw (sym-here .is, as-name) (name-length (sym-here .it))
+  module _ (quoted : Bool) where
+    sym-name : length (nameText quoted (nameIn Struct (part s at e))) ≡ symLength quoted (part s at e) + 2
+    sym-name = rw (sym-here .is, as-name) (name-length quoted (sym-here .it))
 
-  pub sym-text-length : getD s at 0 < 7 → (5 ≤ size) × (symLength (part s at e) ≡ length (symbolText (take (size - 5) (drop (at + 5) s))))
-  sym-text-length k =
-      let n : ℕ = leNumber 4 (drop (at + 1) s) in
-      let q = text-name s at e w i name-read n refl (λ (y : getD s at 0 ≡ 7). omega arith) in
-      let m : size ≡ 5 + n = ap (λ (o : Option (Option Sym × ℕ)). sizeTaken o) (sym as-name ∙ q .read) in
-      let d : size - 5 ≡ n = omega arith in
-      let t = text-name-length n q in
-      let y = sym-name in
-      (omega arith, rw d (omega arith))
+    pub sym-text-length : getD s at 0 < 7 → (5 ≤ size) × (symLength quoted (part s at e) ≡ length (symbolText quoted (take (size - 5) (drop (at + 5) s))))
+    sym-text-length k =
+        let n : ℕ = leNumber 4 (drop (at + 1) s) in
+        let q = text-name s at e w i name-read n refl (λ (y : getD s at 0 ≡ 7). omega arith) in
+        let m : size ≡ 5 + n = ap (λ (o : Option (Option Sym × ℕ)). sizeTaken o) (sym as-name ∙ q .read) in
+        let d : size - 5 ≡ n = omega arith in
+        let t = text-name-length quoted n q in
+        let y = sym-name in
+        (omega arith, rw d (omega arith))
 
-  pub sym-id-length : (n : ℕ) → n ≡ leNumber 4 (drop (at + 1) s) → 7 ≤ getD s at 0 → (5 ≤ size) × (symLength (part s at e) ≡ length (symbolIdText n))
-  sym-id-length n j k =
-      let q = id-name s at e w i name-read n j k in
-      let m : size ≡ 5 = ap (λ (o : Option (Option Sym × ℕ)). sizeTaken o) (sym as-name ∙ q .read) in
-      let t = id-name-length n q in
-      let y = sym-name in
-      (omega arith, omega arith)
+    pub sym-id-length : (n : ℕ) → n ≡ leNumber 4 (drop (at + 1) s) → 7 ≤ getD s at 0 → (5 ≤ size) × (symLength quoted (part s at e) ≡ length (symbolIdText n))
+    sym-id-length n j k =
+        let q = id-name s at e w i name-read n j k in
+        let m : size ≡ 5 = ap (λ (o : Option (Option Sym × ℕ)). sizeTaken o) (sym as-name ∙ q .read) in
+        let t = id-name-length quoted n q in
+        let y = sym-name in
+        (omega arith, omega arith)
 
-  -- at most so long, on a tape of at most so many bytes
-  pub sym-length-most : e ≤ 1048576 → symLength (part s at e) + 2 ≤ 4200000
-  sym-length-most g = go (decLe 7 (getD s at 0))
-    where
-      go : Dec (7 ≤ getD s at 0) → symLength (part s at e) + 2 ≤ 4200000
-      go (yes k) = let t = sym-id-length (leNumber 4 (drop (at + 1) s)) refl k .1 in let m = id-most (leNumber 4 (drop (at + 1) s)) in omega arith
-      go (no k) =
-          let t = sym-text-length (omega arith) .1 in
-          let r = sym-room in
-          let m = symbol-most (take (size - 5) (drop (at + 5) s)) in
-          let n = length-take (size - 5) (drop (at + 5) s) in
-          omega arith
+    -- at most so long, on a tape of at most so many bytes
+    pub sym-length-most : e ≤ 1048576 → symLength quoted (part s at e) + 2 ≤ 4200000
+    sym-length-most g = go (decLe 7 (getD s at 0))
+      where
+        go : Dec (7 ≤ getD s at 0) → symLength quoted (part s at e) + 2 ≤ 4200000
+        go (yes k) = let t = sym-id-length (leNumber 4 (drop (at + 1) s)) refl k .1 in let m = id-most (leNumber 4 (drop (at + 1) s)) in omega arith
+        go (no k) =
+            let t = sym-text-length (omega arith) .1 in
+            let r = sym-room in
+            let m = symbol-most quoted (take (size - 5) (drop (at + 5) s)) in
+            let n = length-take (size - 5) (drop (at + 5) s) in
+            omega arith
 
 -- ---- annotations
 
@@ -126,37 +127,38 @@ flag-set b n r e f = f ∙ sym (ap (λ (x : Bool). b || x) e ∙ or-true b)
 pub flag-left : (b n r : Bool) → n ≡ false → r ≡ b → r ≡ b || n
 flag-left b n r e f = f ∙ sym (ap (λ (x : Bool). b || x) e ∙ or-false b)
 
--- a, and the length of the annotations that were read
-abbrev pub notedFrom : ℕ → Option (List Sym × ℕ) → ℕ
-notedFrom a o = reading o 0 (λ ss m. a + length (notesText ss))
+module _ (quoted : Bool) where
+  -- a, and the length of the annotations that were read
+  abbrev pub notedFrom : ℕ → Option (List Sym × ℕ) → ℕ
+  notedFrom a o = reading o 0 (λ ss m. a + length (notesText quoted ss))
 
-pub noted-all : (o : Option (List Sym × ℕ)) → notedFrom 0 o ≡ length (notesText (reading o [] (λ ss m. ss)))
-unfolding notesText
-noted-all none = refl
-noted-all (some (ss, m)) = omega arith
+  pub noted-all : (o : Option (List Sym × ℕ)) → notedFrom 0 o ≡ length (notesText quoted (reading o [] (λ ss m. ss)))
+  unfolding notesText
+  noted-all none = refl
+  noted-all (some (ss, m)) = omega arith
 
-pub noted-end : (a c : ℕ) (l : List ℕ) → c ≤ 0 → notedFrom a (symsOf c l) ≡ a
-unfolding symsOf notesText
-noted-end a zero l h = omega arith
-noted-end a (suc c) l h = absurd (omega arith)
+  pub noted-end : (a c : ℕ) (l : List ℕ) → c ≤ 0 → notedFrom a (symsOf c l) ≡ a
+  unfolding symsOf notesText
+  noted-end a zero l h = omega arith
+  noted-end a (suc c) l h = absurd (omega arith)
 
-noted-step-at : (a c : ℕ) (l : List ℕ) (x : Sym) (n : ℕ) → symOf l ≡ some (x, n) → notedFrom a (symsOf (suc c) l) ≡ notedFrom (a + (length (symText x) + 2)) (symsOf c (drop n l))
-unfolding symsOf notesText
-noted-step-at a c l x n e = rw e (go (symsOf c (drop n l)))
-  where
-    go : (o : Option (List Sym × ℕ)) → notedFrom a (reading o none (λ ss m. some (x ∷ ss, n + m))) ≡ notedFrom (a + (length (symText x) + 2)) o
-    go none = refl
-    go (some (ss, m)) = let y = length-3 (symText x) (ascii "::") (notesText ss) in omega arith
+  noted-step-at : (a c : ℕ) (l : List ℕ) (x : Sym) (n : ℕ) → symOf l ≡ some (x, n) → notedFrom a (symsOf (suc c) l) ≡ notedFrom (a + (length (symText quoted x) + 2)) (symsOf c (drop n l))
+  unfolding symsOf notesText
+  noted-step-at a c l x n e = rw e (go (symsOf c (drop n l)))
+    where
+      go : (o : Option (List Sym × ℕ)) → notedFrom a (reading o none (λ ss m. some (x ∷ ss, n + m))) ≡ notedFrom (a + (length (symText quoted x) + 2)) o
+      go none = refl
+      go (some (ss, m)) = let y = length-3 (symText quoted x) (ascii "::") (notesText quoted ss) in omega arith
 
--- an annotation more, where validation passes it
-pub noted-step : (s : List ℕ) (p e : ℕ) (w : p ≤ e) (i : e ≤ length s) (size : ℕ) (z : size ≡ codeOf symFault (symOf (part s p e))) (h : 1 ≤ size) (a c : ℕ) → 0 < c
-    → notedFrom a (symsOf c (part s p e)) ≡ notedFrom (a + (symLength (part s p e) + 2)) (symsOf (c - 1) (part s (p + size) e))
-noted-step s p e w i size z h a zero g = absurd (omega arith)
-noted-step s p e w i size z h a (suc c) g =
-    let r = sym-here s p e w i size z h in
-    let d : suc c - 1 ≡ c = omega arith in
-    let y : symLength (part s p e) ≡ length (symText (r .it)) = rw (r .is) refl in
-    rw (d, y, ← part-drop s p e size) (noted-step-at a c (part s p e) (r .it) size (r .is))
+  -- an annotation more, where validation passes it
+  pub noted-step : (s : List ℕ) (p e : ℕ) (w : p ≤ e) (i : e ≤ length s) (size : ℕ) (z : size ≡ codeOf symFault (symOf (part s p e))) (h : 1 ≤ size) (a c : ℕ) → 0 < c
+      → notedFrom a (symsOf c (part s p e)) ≡ notedFrom (a + (symLength quoted (part s p e) + 2)) (symsOf (c - 1) (part s (p + size) e))
+  noted-step s p e w i size z h a zero g = absurd (omega arith)
+  noted-step s p e w i size z h a (suc c) g =
+      let r = sym-here s p e w i size z h in
+      let d : suc c - 1 ≡ c = omega arith in
+      let y : symLength quoted (part s p e) ≡ length (symText quoted (r .it)) = rw (r .is) refl in
+      rw (d, y, ← part-drop s p e size) (noted-step-at a c (part s p e) (r .it) size (r .is))
 
 notes-are : (l : List ℕ) → kind l ≡ 13 → 1 ≤ getD l 1 0 → getD l 1 0 ≤ 16 → reading (symsOf (getD l 1 0) (drop 2 l)) [] (λ ss m. ss) ≡ notesIn l
 notes-are l k h g = rw (notes-some l k h g) (go (symsOf (getD l 1 0) (drop 2 l)))
@@ -176,23 +178,23 @@ module _ (s : List ℕ) (at e : ℕ) (r : at + 2 ≤ e) (k : getD s at 0 ≡ 13)
   pub notes-front : symsFront (at + 2) false (symsOf (getD s (at + 1) 0) (part s (at + 2) e)) ≡ notesFront at true false (notesOf (part s at e))
   notes-front = let b = count-is in rw (← b, ← part-drop s at e 2) (front-notes (part s at e) at true false kind-there (omega arith) (omega arith))
 
-  pub notes-length : length (notesText (reading (symsOf (getD s (at + 1) 0) (part s (at + 2) e)) [] (λ ss m. ss))) ≡ length (notesText (notesIn (part s at e)))
-  notes-length = let b = count-is in rw (← b, ← part-drop s at e 2) (ap (λ (ss : List Sym). length (notesText ss)) (notes-are (part s at e) kind-there (omega arith) (omega arith)))
+  pub notes-length : (quoted : Bool) → length (notesText quoted (reading (symsOf (getD s (at + 1) 0) (part s (at + 2) e)) [] (λ ss m. ss))) ≡ length (notesText quoted (notesIn (part s at e)))
+  notes-length quoted = let b = count-is in rw (← b, ← part-drop s at e 2) (ap (λ (ss : List Sym). length (notesText quoted ss)) (notes-are (part s at e) kind-there (omega arith) (omega arith)))
 
 -- ---- heads
 
-front-length : (h : Head) → length (front 3 0 h) ≡ frontLength h
+front-length : (quoted : Bool) (h : Head) → length (front quoted 3 0 h) ≡ frontLength quoted h
 unfolding front
-front-length h = length-append (nameText (h .0)) (notesText (h .1))
+front-length quoted h = length-append (nameText quoted (h .0)) (notesText quoted (h .1))
 
-module _ (k : Frame) (s : List ℕ) (at e q : ℕ) where
+module _ (quoted : Bool) (k : Frame) (s : List ℕ) (at e q : ℕ) where
   -- a name, and annotations behind it
   pub front-both : (v : ℕ) → placeOf at (nameOf k (part s at e)) ≡ At q → placeOf at (headOf k (part s at e)) ≡ At v
-      → frontLength (headAt k (part s at e)) ≡ length (nameText (nameIn k (part s at e))) + length (notesText (notesIn (part s q e)))
+      → frontLength quoted (headAt k (part s at e)) ≡ length (nameText quoted (nameIn k (part s at e))) + length (notesText quoted (notesIn (part s q e)))
   front-both v n z =
-      sym (front-length (headAt k (part s at e)))
-      ∙ ap length (front-parts 3 0 k s at e q v n z)
-      ∙ length-append (nameText (nameIn k (part s at e))) (notesText (notesIn (part s q e)))
+      sym (front-length quoted (headAt k (part s at e)))
+      ∙ ap length (front-parts quoted 3 0 k s at e q v n z)
+      ∙ length-append (nameText quoted (nameIn k (part s at e))) (notesText quoted (notesIn (part s q e)))
 
 -- ---- texts of scalars that are never empty
 
@@ -262,25 +264,25 @@ pub untold-clob : (k : ℕ) → isUntold k ≡ true → (k ≡ 3 → ⊥) → (k
 untold-clob k r a b c = eqb-true _ _ (rw (ne-eqb k 3 a, ne-eqb k 6 b, ne-eqb k 8 c) at r)
 
 module _ {s : List ℕ} {at e : ℕ} {x : Scalar} {n : ℕ} (q : LeafAt s at e x n) where
-  leaf-length : leafLength (part s at e) ≡ length (scalarText x)
-  leaf-length = rw (q .read) refl
+  leaf-length : (quoted : Bool) → leafLength quoted (part s at e) ≡ length (scalarText quoted x)
+  leaf-length quoted = rw (q .read) refl
 
   leaf-size : sizeTaken (scalarOf (part s at e)) ≡ n
   leaf-size = rw (q .read) refl
 
 -- the bytes of a text node, as they stand on the tape
-module _ {s : List ℕ} {at e : ℕ} (n : ℕ) where
-  pub symbol-length-is : LeafAt s at e (symbol (Sym.text (take n (drop 5 (part s at e))))) (5 + n) → leafLength (part s at e) ≡ length (symbolText (take n (drop (at + 5) s)))
+module _ (quoted : Bool) {s : List ℕ} {at e : ℕ} (n : ℕ) where
+  pub symbol-length-is : LeafAt s at e (symbol (Sym.text (take n (drop 5 (part s at e))))) (5 + n) → leafLength quoted (part s at e) ≡ length (symbolText quoted (take n (drop (at + 5) s)))
   unfolding scalarText symText
-  symbol-length-is q = let r = q .room in leaf-length q ∙ ap (λ (l : List ℕ). length (symbolText l)) (part-text s at e n (omega arith))
+  symbol-length-is q = let r = q .room in leaf-length q quoted ∙ ap (λ (l : List ℕ). length (symbolText quoted l)) (part-text s at e n (omega arith))
 
-  pub string-length-is : LeafAt s at e (string (take n (drop 5 (part s at e)))) (5 + n) → leafLength (part s at e) ≡ length (stringText (take n (drop (at + 5) s)))
+  pub string-length-is : LeafAt s at e (string (take n (drop 5 (part s at e)))) (5 + n) → leafLength quoted (part s at e) ≡ length (stringText (take n (drop (at + 5) s)))
   unfolding scalarText
-  string-length-is q = let r = q .room in leaf-length q ∙ ap (λ (l : List ℕ). length (stringText l)) (part-text s at e n (omega arith))
+  string-length-is q = let r = q .room in leaf-length q quoted ∙ ap (λ (l : List ℕ). length (stringText l)) (part-text s at e n (omega arith))
 
-  pub clob-length-is : LeafAt s at e (clob (take n (drop 5 (part s at e)))) (5 + n) → leafLength (part s at e) ≡ length (clobText (take n (drop (at + 5) s)))
+  pub clob-length-is : LeafAt s at e (clob (take n (drop 5 (part s at e)))) (5 + n) → leafLength quoted (part s at e) ≡ length (clobText (take n (drop (at + 5) s)))
   unfolding scalarText
-  clob-length-is q = let r = q .room in leaf-length q ∙ ap (λ (l : List ℕ). length (clobText l)) (part-text s at e n (omega arith))
+  clob-length-is q = let r = q .room in leaf-length q quoted ∙ ap (λ (l : List ℕ). length (clobText l)) (part-text s at e n (omega arith))
 
 module _ (s : List ℕ) (at e : ℕ) (w : at ≤ e) (i : e ≤ length s) (z : 2 ≤ scalarCode (scalarOf (part s at e))) where
   abbrev l : List ℕ
@@ -364,20 +366,20 @@ module _ (s : List ℕ) (at e : ℕ) (w : at ≤ e) (i : e ≤ length s) (z : 2 
       go p (something h t) = sym first-byte ∙ sym (getD-take n l 0 0 p) ∙ ap (λ (u : List ℕ). getD u 0 0) (sym (t (bytes-take (e - at) (drop at s) (bytes-drop at s all))))
 
 -- a blob of z bytes, by the length n that its text has whatever its bytes are
-pub blob-told : (l : List ℕ) → kind l ≡ 15 → (z n : ℕ) → z ≡ spanOf l → (z ≡ 0 → ⊥) → ((s : List ℕ) → length s ≡ z - 5 → n ≡ length (blobText s)) → n ≡ leafLength l
+pub blob-told : (quoted : Bool) (l : List ℕ) → kind l ≡ 15 → (z n : ℕ) → z ≡ spanOf l → (z ≡ 0 → ⊥) → ((s : List ℕ) → length s ≡ z - 5 → n ≡ length (blobText s)) → n ≡ leafLength quoted l
 unfolding sizedOf scalarText
-blob-told l k z n e nz f =
+blob-told quoted l k z n e nz f =
     let i = span-is l z e nz in
     f (take (z - 5) (drop 5 l)) (length-take-le (z - 5) (drop 5 l) (omega (arith, length-drop 5 l, i .0, i .1))) ∙ rw (scalar-blob l k, span-text l z e nz) refl
 
 -- ---- what `leaf_at` says of a scalar: its size z as validation has it, the length n of its text or 0
 
-abbrev pub Told : List ℕ → ℕ → ℕ → ℕ → ℕ → Type 0
-Told s at e z n =
+abbrev pub Told : Bool → List ℕ → ℕ → ℕ → ℕ → ℕ → Type 0
+Told quoted s at e z n =
     (z ≡ scalarCode (scalarOf (part s at e)))
-    × ((2 ≤ z → 0 < n → n ≡ leafLength (part s at e)) × (2 ≤ z → n ≡ 0 → isUntold (getD s at 0) ≡ true))
+    × ((2 ≤ z → 0 < n → n ≡ leafLength quoted (part s at e)) × (2 ≤ z → n ≡ 0 → isUntold (getD s at 0) ≡ true))
 
-module _ (s : List ℕ) (at e : ℕ) (w : at < e) (i : e ≤ length s) where
+module _ (quoted : Bool) (s : List ℕ) (at e : ℕ) (w : at < e) (i : e ≤ length s) where
   abbrev m : List ℕ
   m = part s at e
 
@@ -385,13 +387,13 @@ module _ (s : List ℕ) (at e : ℕ) (w : at < e) (i : e ≤ length s) where
   first = part-first s at e w
 
   -- a scalar with a text that is never empty
-  told : (z n k : ℕ) (x : Scalar) → z ≡ scalarCode (scalarOf m) → (2 ≤ scalarCode (scalarOf m) → LeafAt s at e x k) → n ≡ length (scalarText x) → 0 < length (scalarText x) → Told s at e z n
-  told z n k x c f t p = (c, (λ h _. t ∙ sym (leaf-length (f (omega arith))), λ h q. absurd (omega arith)))
+  told : (z n k : ℕ) (x : Scalar) → z ≡ scalarCode (scalarOf m) → (2 ≤ scalarCode (scalarOf m) → LeafAt s at e x k) → n ≡ length (scalarText quoted x) → 0 < length (scalarText quoted x) → Told quoted s at e z n
+  told z n k x c f t p = (c, (λ h _. t ∙ sym (leaf-length (f (omega arith)) quoted), λ h q. absurd (omega arith)))
 
-  told-later : (z : ℕ) → z ≡ scalarCode (scalarOf m) → isUntold (getD s at 0) ≡ true → Told s at e z 0
+  told-later : (z : ℕ) → z ≡ scalarCode (scalarOf m) → isUntold (getD s at 0) ≡ true → Told quoted s at e z 0
   told-later z c r = (c, (λ h p. absurd (omega arith), λ h q. r))
 
-  told-refused : (z : ℕ) → z ≡ scalarCode (scalarOf m) → z ≡ 0 → Told s at e z 0
+  told-refused : (z : ℕ) → z ≡ scalarCode (scalarOf m) → z ≡ 0 → Told quoted s at e z 0
   told-refused z c q = (c, (λ h p. absurd (omega arith), λ h p. absurd (omega arith)))
 
   -- it has k bytes, if with fewer there is none
@@ -406,32 +408,32 @@ module _ (s : List ℕ) (at e : ℕ) (w : at < e) (i : e ≤ length s) where
     code-is : (o : Option (Scalar × ℕ)) → z ≡ scalarCode o → scalarOf m ≡ o → z ≡ scalarCode (scalarOf m)
     code-is o c q = c ∙ ap (λ (o : Option (Scalar × ℕ)). scalarCode o) (sym q)
 
-    pub null-told : (n : ℕ) → getD s at 0 ≡ 0 → z ≡ scalarCode (byteOf 12 null m) → n ≡ length (nullText (getD s (at + 1) 0)) → Told s at e z n
+    pub null-told : (n : ℕ) → getD s at 0 ≡ 0 → z ≡ scalarCode (byteOf 12 null m) → n ≡ length (nullText (getD s (at + 1) 0)) → Told quoted s at e z n
     unfolding scalarText
     null-told n k c t = told z n 2 (null (getD s (at + 1) 0)) (code-is _ c (scalar-null m (first ∙ k))) (λ y. null-leaf s at e (omega arith) i y k) t (null-some _)
 
-    pub bool-told : (n : ℕ) → getD s at 0 ≡ 1 → z ≡ scalarCode (byteOf 1 (λ b. bool (eqb b 1)) m) → n ≡ length (boolText (eqb (getD s (at + 1) 0) 1)) → Told s at e z n
+    pub bool-told : (n : ℕ) → getD s at 0 ≡ 1 → z ≡ scalarCode (byteOf 1 (λ b. bool (eqb b 1)) m) → n ≡ length (boolText (eqb (getD s (at + 1) 0) 1)) → Told quoted s at e z n
     unfolding scalarText
     bool-told n k c t = told z n 2 (bool (eqb (getD s (at + 1) 0) 1)) (code-is _ c (scalar-bool m (first ∙ k))) (λ y. bool-leaf s at e (omega arith) i y k) t (bool-some _)
 
-    pub int-told : (n : ℕ) → getD s at 0 ≡ 2 → z ≡ scalarCode (intOf m) → n ≡ length (intText (signed 64 (leNumber 8 (drop (at + 1) s)))) → Told s at e z n
+    pub int-told : (n : ℕ) → getD s at 0 ≡ 2 → z ≡ scalarCode (intOf m) → n ≡ length (intText (signed 64 (leNumber 8 (drop (at + 1) s)))) → Told quoted s at e z n
     unfolding scalarText
     int-told n k c t = told z n 9 (int (signed 64 (leNumber 8 (drop (at + 1) s)))) (code-is _ c (scalar-int m (first ∙ k))) (λ y. int-leaf s at e (omega arith) i (stands s at e y) k) t (int-some _)
 
-    pub float-told : getD s at 0 ≡ 3 → z ≡ scalarCode (floatOf m) → Told s at e z 0
+    pub float-told : getD s at 0 ≡ 3 → z ≡ scalarCode (floatOf m) → Told quoted s at e z 0
     float-told k c = told-later z (code-is _ c (scalar-float m (first ∙ k))) (ap (λ (j : ℕ). isUntold j) k)
 
     module _ (k : getD s at 0 ≡ 4) (c : z ≡ scalarCode (decimalOf m)) where
       decimal-code : z ≡ scalarCode (scalarOf m)
       decimal-code = code-is _ c (scalar-decimal m (first ∙ k))
 
-      pub decimal-refused : z ≡ 0 → Told s at e z 0
+      pub decimal-refused : z ≡ 0 → Told quoted s at e z 0
       decimal-refused q = told-refused z decimal-code q
 
       pub decimal-room : (z ≡ 0 → ⊥) → at + 14 ≤ e
       decimal-room nz = room 14 z (decimalOf m) (decimal-short m) c nz
 
-      pub decimal-told : (n : ℕ) → n ≡ length (decimalText (eqb (getD s (at + 1) 0) 1) (leNumber 8 (drop (at + 2) s)) (signed 32 (leNumber 4 (drop (at + 10) s)))) → Told s at e z n
+      pub decimal-told : (n : ℕ) → n ≡ length (decimalText (eqb (getD s (at + 1) 0) 1) (leNumber 8 (drop (at + 2) s)) (signed 32 (leNumber 4 (drop (at + 10) s)))) → Told quoted s at e z n
       unfolding scalarText
       decimal-told n t = told z n 14 (decimal (eqb (getD s (at + 1) 0) 1) (leNumber 8 (drop (at + 2) s)) (signed 32 (leNumber 4 (drop (at + 10) s)))) decimal-code (λ y. decimal-leaf s at e (omega arith) i (stands s at e y) k) t (decimal-some _ _ _)
 
@@ -439,23 +441,23 @@ module _ (s : List ℕ) (at e : ℕ) (w : at < e) (i : e ≤ length s) where
       timestamp-code : z ≡ scalarCode (scalarOf m)
       timestamp-code = code-is _ c (scalar-timestamp m (first ∙ k))
 
-      pub timestamp-refused : z ≡ 0 → Told s at e z 0
+      pub timestamp-refused : z ≡ 0 → Told quoted s at e z 0
       timestamp-refused q = told-refused z timestamp-code q
 
       pub timestamp-room : (z ≡ 0 → ⊥) → at + 16 ≤ e
       timestamp-room nz = room 16 z (timestampOf m) (timestamp-short m) c nz
 
-      pub timestamp-told : (n : ℕ) → n ≡ length (timestampText (timestampAs (drop at s))) → Told s at e z n
+      pub timestamp-told : (n : ℕ) → n ≡ length (timestampText (timestampAs (drop at s))) → Told quoted s at e z n
       unfolding scalarText
       timestamp-told n t = told z n 16 (timestamp (timestampAs (drop at s))) timestamp-code (λ y. timestamp-leaf s at e (omega arith) i (stands s at e y) k) t (timestamp-some _)
 
-    pub id-told : (n j : ℕ) → getD s at 0 ≡ 7 → z ≡ codeOf symFault (symOf m) → j ≡ leNumber 4 (drop (at + 1) s) → n ≡ length (symbolIdText j) → Told s at e z n
+    pub id-told : (n j : ℕ) → getD s at 0 ≡ 7 → z ≡ codeOf symFault (symOf m) → j ≡ leNumber 4 (drop (at + 1) s) → n ≡ length (symbolIdText j) → Told quoted s at e z n
     unfolding scalarText symText
     id-told n j k c u t =
         let f = first in
         told z n 5 (symbol (Sym.id j)) (code-is _ (c ∙ code-symbol m) (scalar-symbol m (omega arith) (omega arith))) (λ y. id-leaf s at e (omega arith) i y j u k) t (id-some j)
 
-    pub string-told : getD s at 0 ≡ 8 → z ≡ codeOf textFault (textOf m) → Told s at e z 0
+    pub string-told : getD s at 0 ≡ 8 → z ≡ codeOf textFault (textOf m) → Told quoted s at e z 0
     string-told k c = told-later z (code-is _ (c ∙ code-string m) (scalar-string m (first ∙ k))) (ap (λ (j : ℕ). isUntold j) k)
 
     -- a symbol that is text
@@ -474,5 +476,5 @@ module _ (s : List ℕ) (at e : ℕ) (w : at < e) (i : e ≤ length s) where
         pub word-room : at + 5 + (z - 5) ≤ e
         word-room = let r = word-leaf .room in let b = word-bytes in omega arith
 
-        pub word-length : leafLength m ≡ length (symbolText (take (z - 5) (drop (at + 5) s)))
-        word-length = symbol-length-is _ word-leaf ∙ ap (λ (j : ℕ). length (symbolText (take j (drop (at + 5) s)))) word-bytes
+        pub word-length : leafLength quoted m ≡ length (symbolText quoted (take (z - 5) (drop (at + 5) s)))
+        word-length = symbol-length-is quoted _ word-leaf ∙ ap (λ (j : ℕ). length (symbolText quoted (take j (drop (at + 5) s)))) word-bytes

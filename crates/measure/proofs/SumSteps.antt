@@ -47,9 +47,9 @@ abbrev pending : ℕ → Frame → Nodes → ℕ
 pending c k ns = if (isNil ns) (lastSeparator c k) 0
 
 -- the total is: what is summed up, what this body has so far (n bytes of contents, c children), and what the nodes left have
-pub record Left (total sums : List ℕ) (k : Frame) (w n c : ℕ) (ns : Nodes) : Type 0 where
+pub record Left (quoted : Bool) (total sums : List ℕ) (k : Frame) (w n c : ℕ) (ns : Nodes) : Type 0 where
   pub long : length sums ≡ 4
-  pub texts : getD sums 0 0 + n + contents ns ≡ getD total 0 0
+  pub texts : getD sums 0 0 + n + contents quoted ns ≡ getD total 0 0
   pub gaps : getD sums 1 0 + c * separatorLength k + separators k ns ≡ getD total 1 0
   pub ends : getD sums 2 0 + pending c k ns + lasts k ns ≡ getD total 2 0
   pub blanks : getD sums 3 0 + c * w + indents w ns ≡ getD total 3 0
@@ -87,12 +87,12 @@ brackets b = go (eqb b 10) (eqb b 11)
     go false true = refl
     go false false = refl
 
-left-start : (sums : List ℕ) (k : Frame) (w : ℕ) (ns : Nodes) → length sums ≡ 4 → Left (plus sums (summed k w ns)) sums k w 0 0 ns
+left-start : (quoted : Bool) (sums : List ℕ) (k : Frame) (w : ℕ) (ns : Nodes) → length sums ≡ 4 → Left quoted (plus sums (summed quoted k w ns)) sums k w 0 0 ns
 unfolding plus summed
-left-start sums k w ns l = record { long = l; texts = omega arith; gaps = omega arith; ends = let p = pending-none k ns in omega arith; blanks = omega arith }
+left-start quoted sums k w ns l = record { long = l; texts = omega arith; gaps = omega arith; ends = let p = pending-none k ns in omega arith; blanks = omega arith }
 
-module _ {total sums : List ℕ} {k : Frame} {w n c : ℕ} {h : Head} {x : Node} {ns : Nodes} (l : Left total sums k w n c (more h x ns)) where
-  more-texts : getD sums 0 0 + n + (frontLength h + contentsOf x + contents ns) ≡ getD total 0 0
+module _ {quoted : Bool} {total sums : List ℕ} {k : Frame} {w n c : ℕ} {h : Head} {x : Node} {ns : Nodes} (l : Left quoted total sums k w n c (more h x ns)) where
+  more-texts : getD sums 0 0 + n + (frontLength quoted h + contentsOf quoted x + contents quoted ns) ≡ getD total 0 0
   unfolding contents
   more-texts = l .texts
 
@@ -109,22 +109,22 @@ module _ {total sums : List ℕ} {k : Frame} {w n c : ℕ} {h : Head} {x : Node}
   more-blanks = omega (arith, l .blanks)
 
 -- a node without a body, of m bytes
-record Single (x : Node) (m : ℕ) : Type 0 where
-  text : contentsOf x ≡ m
+record Single (quoted : Bool) (x : Node) (m : ℕ) : Type 0 where
+  text : contentsOf quoted x ≡ m
   gap : separatorsOf x ≡ 0
   end : lastsOf x ≡ 0
   blank : (w : ℕ) → indentsOf w x ≡ 0
 
-scalar-single : (x : Scalar) → Single (scalar x) (length (scalarText x))
+scalar-single : (quoted : Bool) (x : Scalar) → Single quoted (scalar x) (length (scalarText quoted x))
 unfolding contentsOf separatorsOf lastsOf indentsOf
-scalar-single x = record { text = refl; gap = refl; end = refl; blank = λ w. refl }
+scalar-single quoted x = record { text = refl; gap = refl; end = refl; blank = λ w. refl }
 
-marker-single : Single marker 8
+marker-single : (quoted : Bool) → Single quoted marker 8
 unfolding contentsOf separatorsOf lastsOf indentsOf
-marker-single = record { text = refl; gap = refl; end = refl; blank = λ w. refl }
+marker-single quoted = record { text = refl; gap = refl; end = refl; blank = λ w. refl }
 
-single-on : {total sums : List ℕ} {k : Frame} {w n c : ℕ} {h : Head} {x : Node} {ns : Nodes} {m n′ : ℕ} → Single x m → n′ ≡ n + frontLength h + m
-    → Left total sums k w n c (more h x ns) → Left total sums k w n′ (c + 1) ns
+single-on : {quoted : Bool} {total sums : List ℕ} {k : Frame} {w n c : ℕ} {h : Head} {x : Node} {ns : Nodes} {m n′ : ℕ} → Single quoted x m → n′ ≡ n + frontLength quoted h + m
+    → Left quoted total sums k w n c (more h x ns) → Left quoted total sums k w n′ (c + 1) ns
 single-on {w = w} s e l = record {
   long = l .long;
   texts = omega (arith, more-texts l);
@@ -137,8 +137,8 @@ single-on {w = w} s e l = record {
 abbrev bracketed : List ℕ → ℕ → List ℕ
 bracketed y w = set y 3 (getD y 3 0 + (w + 1))
 
-nest-on : {total sums : List ℕ} {k : Frame} {w n c : ℕ} {h : Head} {f : Frame} {ms ns : Nodes} {n′ : ℕ} {y : List ℕ} → length (opening f) + length (closing f) ≡ 2
-    → y ≡ plus sums (summed f (w + 2) ms) → n′ ≡ n + frontLength h + 2 → Left total sums k w n c (more h (nest f ms) ns) → Left total (bracketed y w) k w n′ (c + 1) ns
+nest-on : {quoted : Bool} {total sums : List ℕ} {k : Frame} {w n c : ℕ} {h : Head} {f : Frame} {ms ns : Nodes} {n′ : ℕ} {y : List ℕ} → length (opening f) + length (closing f) ≡ 2
+    → y ≡ plus sums (summed quoted f (w + 2) ms) → n′ ≡ n + frontLength quoted h + 2 → Left quoted total sums k w n c (more h (nest f ms) ns) → Left quoted total (bracketed y w) k w n′ (c + 1) ns
 unfolding plus summed contentsOf separatorsOf lastsOf indentsOf broken deeper
 nest-on b q e l = rw q (record {
   long = refl;
@@ -156,9 +156,9 @@ four : {a b c d a′ b′ c′ d′ : ℕ} → a ≡ a′ → b ≡ b′ → c �
 four p q r s = cc
 
 -- no child is left: the sums are the total
-all-summed : (x y sums : List ℕ) (k : Frame) (w n c : ℕ) → Left (plus x y) sums k w n c nil → plus sums (bodyOwn n c k w) ≡ plus x y
+all-summed : (quoted : Bool) (x y sums : List ℕ) (k : Frame) (w n c : ℕ) → Left quoted (plus x y) sums k w n c nil → plus sums (bodyOwn n c k w) ≡ plus x y
 unfolding plus bodyOwn contents separators lasts indents
-all-summed x y sums k w n c l = four (omega arith) (omega arith) (omega arith) (omega arith)
+all-summed quoted x y sums k w n c l = four (omega arith) (omega arith) (omega arith) (omega arith)
 
 -- ---- how far the sums grow
 
@@ -322,11 +322,11 @@ notes-bad q a b (some (ss, n)) p c h z = go (symsFault ss) (rw h at z)
     go (suc f) z = refl
 
 -- a head: it has no problem and ends at p, where a value stands. With its text n bytes of contents are m, and with what is met in it b is b′
-pub record Fronted (k : Frame) (s : List ℕ) (at e n : ℕ) (b : List ℕ) (p m : ℕ) (b′ : List ℕ) : Type 0 where
+pub record Fronted (quoted : Bool) (k : Frame) (s : List ℕ) (at e n : ℕ) (b : List ℕ) (p m : ℕ) (b′ : List ℕ) : Type 0 where
   pub head : HeadSeen k s at e false false p (annotated (headAt k (part s at e) .1)) (headNumbered (headAt k (part s at e)))
   pub more : p < e
-  pub text : m ≡ n + frontLength (headAt k (part s at e))
-  pub short : frontLength (headAt k (part s at e)) ≤ longest (p - at)
+  pub text : m ≡ n + frontLength quoted (headAt k (part s at e))
+  pub short : frontLength quoted (headAt k (part s at e)) ≤ longest (p - at)
   pub flags : Flags b′ (flagged (getD b 0 0) (annotated (headAt k (part s at e) .1))) (flagged (getD b 1 0) (headNumbered (headAt k (part s at e))))
 
 -- behind a name, or where there is none
@@ -344,18 +344,18 @@ module _ {d : ℕ} {k : Frame} {s : List ℕ} {at e q : ℕ} (u : Named d k s at
   pub name-within : (at ≤ q) × (q ≤ e)
   name-within = let w = read-within nameFault encodeName s at e _ _ (omega arith) (u .inside) (name-sound k (part s at e)) (u .name .read) in (omega arith, omega arith)
 
-  pub name-short : length (nameText (nameIn k (part s at e))) ≤ longest (q - at)
-  name-short =
+  pub name-short : (quoted : Bool) → length (nameText quoted (nameIn k (part s at e))) ≤ longest (q - at)
+  name-short quoted =
       let l = read-long encodeName (part s at e) (part-bytes s at e (u .bytes)) (name-sound k (part s at e)) (u .name .read) in
-      let m = name-most (u .name .read .it) in
+      let m = name-most quoted (u .name .read .it) in
       let a : nameIn k (part s at e) ≡ u .name .read .it = rw (u .name .read .is) in
       rw a (omega arith)
 
   module _ {p : ℕ} {b : Bool} (t : Noted (part s q e) q p b) where
-    pub notes-short : length (notesText (notesIn (part s q e))) ≤ longest (p - q)
-    notes-short =
+    pub notes-short : (quoted : Bool) → length (notesText quoted (notesIn (part s q e))) ≤ longest (p - q)
+    notes-short quoted =
         let l = read-long encodeNotes (part s q e) (part-bytes s q e (u .bytes)) (notes-sound (part s q e)) (t .read .read) in
-        let m = notes-most (t .read .read .it) in
+        let m = notes-most quoted (t .read .read .it) in
         let a : notesIn (part s q e) ≡ t .read .read .it = rw (t .read .read .is) in
         rw a (omega arith)
 
@@ -366,17 +366,17 @@ module _ {d : ℕ} {k : Frame} {s : List ℕ} {at e q : ℕ} (u : Named d k s at
     pub head-seen : HeadSeen k s at e false false p (annotated (headAt k (part s at e) .1)) (headNumbered (headAt k (part s at e)))
     head-seen = record { place = told .place; sound = told .sound; notes = refl; numbers = refl; behind = told .behind; within = told .within }
 
-    front-is : frontLength (headAt k (part s at e)) ≡ length (nameText (nameIn k (part s at e))) + length (notesText (notesIn (part s q e)))
-    front-is = front-both k s at e q p (rw (u .name .read .is) (ap At (sym (u .name .place)))) (told .place)
+    front-is : (quoted : Bool) → frontLength quoted (headAt k (part s at e)) ≡ length (nameText quoted (nameIn k (part s at e))) + length (notesText quoted (notesIn (part s q e)))
+    front-is quoted = front-both quoted k s at e q p (rw (u .name .read .is) (ap At (sym (u .name .place)))) (told .place)
 
     -- n bytes were there before, a are in the name
-    pub fronted : {n m a v : ℕ} {b₀ b₁ b₂ : List ℕ} → v ≡ p → (p ≡ e → ⊥) → a ≡ length (nameText (nameIn k (part s at e))) → m ≡ n + a + length (notesText (notesIn (part s q e)))
+    pub fronted : (quoted : Bool) {n m a v : ℕ} {b₀ b₁ b₂ : List ℕ} → v ≡ p → (p ≡ e → ⊥) → a ≡ length (nameText quoted (nameIn k (part s at e))) → m ≡ n + a + length (notesText quoted (notesIn (part s q e)))
         → Flags b₁ (getD b₀ 0 0) (flagged (getD b₀ 1 0) (nameNumberIn k (part s at e)))
-        → Flags b₂ (flagged (getD b₁ 0 0) (annotated (notesIn (part s q e)))) (flagged (getD b₁ 1 0) b) → Fronted k s at e n b₀ v m b₂
-    fronted {b₀ = b₀} {b₁ = b₁} c w x y f g =
-        let z = front-is in
-        let l = name-short in
-        let o = notes-short in
+        → Flags b₂ (flagged (getD b₁ 0 0) (annotated (notesIn (part s q e)))) (flagged (getD b₁ 1 0) b) → Fronted quoted k s at e n b₀ v m b₂
+    fronted quoted {b₀ = b₀} {b₁ = b₁} c w x y f g =
+        let z = front-is quoted in
+        let l = name-short quoted in
+        let o = notes-short quoted in
         let i = told .within in
         let j = name-within .0 in
         rw c (record {
@@ -402,13 +402,13 @@ module _ {d : ℕ} {k : Frame} {s : List ℕ} {at e q : ℕ} (u : Named d k s at
         rw a (annotated-some (part s q e) (part-first s q e w ∙ z) _ _ (t .read .read .is))
 
   -- no annotations
-  pub bare-fronted : {n m a : ℕ} {b₀ b₁ b₂ : List ℕ} {p : ℕ} → p ≡ q → q < e → (getD s q 0 ≡ 13 → ⊥) → a ≡ length (nameText (nameIn k (part s at e))) → m ≡ n + a
-      → Flags b₁ (getD b₀ 0 0) (flagged (getD b₀ 1 0) (nameNumberIn k (part s at e))) → b₂ ≡ b₁ → Fronted k s at e n b₀ p m b₂
+  pub bare-fronted : (quoted : Bool) {n m a : ℕ} {b₀ b₁ b₂ : List ℕ} {p : ℕ} → p ≡ q → q < e → (getD s q 0 ≡ 13 → ⊥) → a ≡ length (nameText quoted (nameIn k (part s at e))) → m ≡ n + a
+      → Flags b₁ (getD b₀ 0 0) (flagged (getD b₀ 1 0) (nameNumberIn k (part s at e))) → b₂ ≡ b₁ → Fronted quoted k s at e n b₀ p m b₂
   unfolding notesText
-  bare-fronted i l h x y f g =
+  bare-fronted quoted i l h x y f g =
       let z : kind (part s q e) ≡ 13 → ⊥ = λ z. h (sym (part-first s q e l) ∙ z) in
       let o = notes-none (part s q e) z in
-      rw g (fronted (notes-bare (part s q e) q z) i (λ z. omega arith) x (rw o (omega arith)) f (rw o (flags-are (f .long))))
+      rw g (fronted (notes-bare (part s q e) q z) quoted i (λ z. omega arith) x (rw o (omega arith)) f (rw o (flags-are (f .long))))
 
 -- ---- the walk of a body, from the place `from` to the place e, in which d bodies may be opened, this one included
 
@@ -422,21 +422,21 @@ pub record Body (s : List ℕ) (from e d : ℕ) (sums₀ : List ℕ) : Type 0 wh
   pub before : Grown from (replicate 4 0) sums₀
 
 -- it is at a place: the nodes from there on are left
-pub record Walking (s : List ℕ) (from e : ℕ) (k : Frame) (d : ℕ) (sums₀ seen₀ sums seen : List ℕ) (at n c : ℕ) : Type 0 where
+pub record Walking (quoted : Bool) (s : List ℕ) (from e : ℕ) (k : Frame) (d : ℕ) (sums₀ seen₀ sums seen : List ℕ) (at n c : ℕ) : Type 0 where
   pub behind : from ≤ at
   pub within : at ≤ e
   pub fault : walk d k (part s from e) .1 ≡ walk d k (part s at e) .1
-  pub left : Left (plus sums₀ (summed k (130 - 2 * d) (walk d k (part s from e) .0))) sums k (130 - 2 * d) n c (walk d k (part s at e) .0)
+  pub left : Left quoted (plus sums₀ (summed quoted k (130 - 2 * d) (walk d k (part s from e) .0))) sums k (130 - 2 * d) n c (walk d k (part s at e) .0)
   pub grown : Grown (at - from) sums₀ (plus sums (bodyOwn n c k (130 - 2 * d)))
   pub met : Met seen₀ (walk d k (part s from e) .0) seen c (walk d k (part s at e) .0)
 
-pub walk-start : {s : List ℕ} {from e : ℕ} {k : Frame} {d : ℕ} {sums seen : List ℕ} → from ≤ e → length sums ≡ 4 → length seen ≡ 3 → Walking s from e k d sums seen sums seen from 0 0
+pub walk-start : {quoted : Bool} {s : List ℕ} {from e : ℕ} {k : Frame} {d : ℕ} {sums seen : List ℕ} → from ≤ e → length sums ≡ 4 → length seen ≡ 3 → Walking quoted s from e k d sums seen sums seen from 0 0
 unfolding plus bodyOwn
-walk-start {s = s} {from = from} {e = e} {k = k} {d = d} {sums = sums} h l m = record {
+walk-start {quoted = quoted} {s = s} {from = from} {e = e} {k = k} {d = d} {sums = sums} h l m = record {
   behind = omega arith;
   within = h;
   fault = refl;
-  left = left-start sums k (130 - 2 * d) (walk d k (part s from e) .0) l;
+  left = left-start quoted sums k (130 - 2 * d) (walk d k (part s from e) .0) l;
   grown = record { contents = omega arith; separators = omega arith; lasts = omega arith; indents = omega arith };
   met = record { long = m; notes = refl; numbers = refl; sizes = omega arith };
 }
@@ -450,7 +450,7 @@ walk-deep k l = refl
 pub refusing : {A B C : Type 0} {r w f : ℕ} → r ≡ f → w ≡ f → (f ≡ 0 → ⊥) → (r ≡ w) × ((r ≡ 0 → A) × ((r ≡ 0 → B) × (r ≡ 0 → C)))
 refusing e g nz = (e ∙ sym g, ((λ z. absurd (nz (sym e ∙ z))), ((λ z. absurd (nz (sym e ∙ z))), (λ z. absurd (nz (sym e ∙ z))))))
 
-module _ {s : List ℕ} {from e : ℕ} {k : Frame} {d : ℕ} {sums₀ seen₀ sums seen : List ℕ} {at n c : ℕ} (b : Body s from e d sums₀) (v : Walking s from e k d sums₀ seen₀ sums seen at n c) where
+module _ {quoted : Bool} {s : List ℕ} {from e : ℕ} {k : Frame} {d : ℕ} {sums₀ seen₀ sums seen : List ℕ} {at n c : ℕ} (b : Body s from e d sums₀) (v : Walking quoted s from e k d sums₀ seen₀ sums seen at n c) where
   pub sums-fit : SumsFit (plus sums (bodyOwn n c k (130 - 2 * d)))
   sums-fit = grown-fit (b .before) (v .grown) (omega arith)
 
@@ -461,13 +461,13 @@ module _ {s : List ℕ} {from e : ℕ} {k : Frame} {d : ℕ} {sums₀ seen₀ su
 
     pub ended : (x : List ℕ) → x ≡ plus sums (bodyOwn n c k (130 - 2 * d))
         → (0 ≡ walk d k (part s from e) .1)
-        × ((_≡_ {A = ℕ} 0 0 → x ≡ plus sums₀ (summed k (130 - 2 * d) (walk d k (part s from e) .0)))
+        × ((_≡_ {A = ℕ} 0 0 → x ≡ plus sums₀ (summed quoted k (130 - 2 * d) (walk d k (part s from e) .0)))
         × ((_≡_ {A = ℕ} 0 0 → set seen 2 c ≡ met seen₀ (walk d k (part s from e) .0))
         × (_≡_ {A = ℕ} 0 0 → Grown (e - from) sums₀ x)))
     ended x q = (
       sym (v .fault ∙ ap (λ (u : Walked). u .1) none-left),
       (
-        (λ z. q ∙ all-summed _ _ _ _ _ _ _ (rw none-left at (v .left))),
+        (λ z. q ∙ all-summed quoted _ _ _ _ _ _ _ (rw none-left at (v .left))),
         (
           (λ z. met-all (rw none-left at (v .met))),
           (λ z. let i : at ≡ e = omega arith in rw (q, ← i) (v .grown)),
@@ -476,12 +476,12 @@ module _ {s : List ℕ} {from e : ℕ} {k : Frame} {d : ℕ} {sums₀ seen₀ su
     )
 
 -- a child is left
-pub record Child (s : List ℕ) (from e : ℕ) (k : Frame) (d : ℕ) (sums₀ seen₀ sums seen : List ℕ) (at n c : ℕ) : Type 0 where
+pub record Child (quoted : Bool) (s : List ℕ) (from e : ℕ) (k : Frame) (d : ℕ) (sums₀ seen₀ sums seen : List ℕ) (at n c : ℕ) : Type 0 where
   pub body : Body s from e d sums₀
-  pub walking : Walking s from e k d sums₀ seen₀ sums seen at n c
+  pub walking : Walking quoted s from e k d sums₀ seen₀ sums seen at n c
   pub left : at < e
 
-module _ {s : List ℕ} {from e : ℕ} {k : Frame} {d : ℕ} {sums₀ seen₀ sums seen : List ℕ} {at n c : ℕ} (v : Child s from e k d sums₀ seen₀ sums seen at n c) where
+module _ {quoted : Bool} {s : List ℕ} {from e : ℕ} {k : Frame} {d : ℕ} {sums₀ seen₀ sums seen : List ℕ} {at n c : ℕ} (v : Child quoted s from e k d sums₀ seen₀ sums seen at n c) where
   pub end-most : e + 8 ≤ 1048576
   end-most = omega arith
 
@@ -501,8 +501,8 @@ module _ {s : List ℕ} {from e : ℕ} {k : Frame} {d : ℕ} {sums₀ seen₀ su
 
 -- ---- a child is passed: its front is told, and its value stands at p
 
-module _ {s : List ℕ} {from e : ℕ} {k : Frame} {d : ℕ} {sums₀ seen₀ sums seen : List ℕ} {at n c p m : ℕ} {seen₁ : List ℕ}
-    (v : Child s from e k d sums₀ seen₀ sums seen at n c) (f : Fronted k s at e n seen p m seen₁) where
+module _ {quoted : Bool} {s : List ℕ} {from e : ℕ} {k : Frame} {d : ℕ} {sums₀ seen₀ sums seen : List ℕ} {at n c p m : ℕ} {seen₁ : List ℕ}
+    (v : Child quoted s from e k d sums₀ seen₀ sums seen at n c) (f : Fronted quoted k s at e n seen p m seen₁) where
   abbrev head : Head
   head = headAt k (part s at e)
 
@@ -514,7 +514,7 @@ module _ {s : List ℕ} {from e : ℕ} {k : Frame} {d : ℕ} {sums₀ seen₀ su
   rest r = walk d k (part s r e)
 
   abbrev total : List ℕ
-  total = plus sums₀ (summed k (130 - 2 * d) (walk d k (part s from e) .0))
+  total = plus sums₀ (summed quoted k (130 - 2 * d) (walk d k (part s from e) .0))
 
   inside : e ≤ length s
   inside = trailed (v .body .trails)
@@ -527,9 +527,9 @@ module _ {s : List ℕ} {from e : ℕ} {k : Frame} {d : ℕ} {sums₀ seen₀ su
 
   -- the value x, with the problem g, ends at r; it leads to the sums t, to u bytes of contents and to what is met, b₂
   passed : {t b₂ : List ℕ} {u g r : ℕ} (x : Node) → walk d k (part s at e) ≡ join head x g (rest r) → g ≡ 0 → at < r → r ≤ e
-      → (Left total sums k (130 - 2 * d) n c (more head x (rest r .0)) → Left total t k (130 - 2 * d) u (c + 1) (rest r .0))
+      → (Left quoted total sums k (130 - 2 * d) n c (more head x (rest r .0)) → Left quoted total t k (130 - 2 * d) u (c + 1) (rest r .0))
       → Added (r - at) sums n t u → Flags b₂ (flagged (getD seen₁ 0 0) (noted x)) (flagged (getD seen₁ 1 0) (numbered x))
-      → Walking s from e k d sums₀ seen₀ t b₂ r u (c + 1)
+      → Walking quoted s from e k d sums₀ seen₀ t b₂ r u (c + 1)
   passed {r = r} x step z i j on a q = record {
     behind = omega arith;
     within = j;
@@ -551,26 +551,26 @@ module _ {s : List ℕ} {from e : ℕ} {k : Frame} {d : ℕ} {sums₀ seen₀ su
     read : Read scalarFault (scalarOf value) z
     read = code-read scalarFault (scalarOf value) z code two
 
-    leaf-length : leafLength value ≡ length (scalarText (read .it))
+    leaf-length : leafLength quoted value ≡ length (scalarText quoted (read .it))
     leaf-length = rw (read .is)
 
     pub scalar-within : p + z ≤ e
     scalar-within = read-within scalarFault encodeScalar s p e _ z (omega arith) inside (scalar-sound value) read
 
-    pub scalar-short : leafLength value ≤ longest z
+    pub scalar-short : leafLength quoted value ≤ longest z
     scalar-short =
         let l = read-long encodeScalar value (part-bytes s p e (v .body .bytes)) (scalar-sound value) read in
-        let o = sound-most (read .it) (read .sound) in
+        let o = sound-most quoted (read .it) (read .sound) in
         let y = leaf-length in
         omega arith
 
     -- a length that is told only where it is not 0
-    pub told-most : (x : ℕ) → (2 ≤ z → 0 < x → x ≡ leafLength value) → m + x ≤ 200 * (p + z)
+    pub told-most : (x : ℕ) → (2 ≤ z → 0 < x → x ≡ leafLength quoted value) → m + x ≤ 200 * (p + z)
     told-most zero g = omega (arith, front-most)
     told-most (suc x) g = omega (arith, front-most, scalar-short, g two (omega arith))
 
     -- its kind is no container's, no annotation's and no marker's
-    pub scalar-on : {u : ℕ} {b₂ : List ℕ} → (10 ≤ getD s p 0 → getD s p 0 ≡ 15) → u ≡ m + leafLength value → Flags b₂ (getD seen₁ 0 0) (flagged (getD seen₁ 1 0) (numberIn value)) → Walking s from e k d sums₀ seen₀ sums b₂ (p + z) u (c + 1)
+    pub scalar-on : {u : ℕ} {b₂ : List ℕ} → (10 ≤ getD s p 0 → getD s p 0 ≡ 15) → u ≡ m + leafLength quoted value → Flags b₂ (getD seen₁ 0 0) (flagged (getD seen₁ 1 0) (numberIn value)) → Walking quoted s from e k d sums₀ seen₀ sums b₂ (p + z) u (c + 1)
     unfolding noted numbered
     scalar-on {b₂ = b₂} h w q =
         let y = leaf-length in
@@ -580,7 +580,7 @@ module _ {s : List ℕ} {from e : ℕ} {k : Frame} {d : ℕ} {sums₀ seen₀ su
         passed (scalar (read .it))
         (leaf-step (scalar (read .it)) z (omega arith) (value-scalar (freeAt k (part s at e)) value (g 10 (omega arith) (omega arith)) (g 11 (omega arith) (omega arith)) (g 12 (omega arith) (omega arith)) (g 14 (omega arith) (omega arith))
         ∙ ap (λ (o : Option (Scalar × ℕ)). reading o absent (λ x j. leaf (scalar x) j)) (read .is)))
-        (read .sound) (omega arith) scalar-within (single-on (scalar-single (read .it)) (omega arith)) (single-adds (omega arith) (omega arith))
+        (read .sound) (omega arith) scalar-within (single-on (scalar-single quoted (read .it)) (omega arith)) (single-adds (omega arith) (omega arith))
         (subst (λ (t : Bool). Flags b₂ (getD seen₁ 0 0) (flagged (getD seen₁ 1 0) t)) (sym (scalar-number value (read .it) z (read .is))) q)
 
   -- a node with a length, of z bytes
@@ -614,21 +614,21 @@ module _ {s : List ℕ} {from e : ℕ} {k : Frame} {d : ℕ} {sums₀ seen₀ su
     pub sized-two : 2 ≤ z
     sized-two = omega (arith, span-room span some .0)
 
-    pub sized-most : m + leafLength value ≤ 200 * (p + z)
+    pub sized-most : m + leafLength quoted value ≤ 200 * (p + z)
     sized-most = omega (arith, front-most, scalar-short sized-code sized-two)
 
-    pub sized-on : {u : ℕ} → u ≡ m + leafLength value → Walking s from e k d sums₀ seen₀ sums seen₁ (p + z) u (c + 1)
+    pub sized-on : {u : ℕ} → u ≡ m + leafLength quoted value → Walking quoted s from e k d sums₀ seen₀ sums seen₁ (p + z) u (c + 1)
     sized-on w =
         let y : numberIn value ≡ false = number-other value (λ q. omega (arith, kind-is)) in
         scalar-on sized-code sized-two other w (rw y (record { long = f .flags .long; notes = refl; numbers = refl }))
 
   -- a version marker
   module _ (is : getD s p 0 ≡ 14) (free : freeAt k (part s at e) ≡ true) where
-    pub marker-on : Walking s from e k d sums₀ seen₀ sums seen₁ (p + 1) (m + 8) (c + 1)
+    pub marker-on : Walking quoted s from e k d sums₀ seen₀ sums seen₁ (p + 1) (m + 8) (c + 1)
     unfolding noted numbered
     marker-on =
         passed marker (leaf-step marker 1 (omega arith) (value-marker (freeAt k (part s at e)) value (kind-is ∙ is) ∙ rw free)) refl (omega arith) (omega arith)
-        (single-on marker-single (omega arith)) (single-adds (omega arith) (omega arith)) (record { long = f .flags .long; notes = refl; numbers = refl })
+        (single-on (marker-single quoted) (omega arith)) (single-adds (omega arith) (omega arith)) (record { long = f .flags .long; notes = refl; numbers = refl })
 
   -- a container of the frame g, whose body ends at r
   module _ {g : Frame} {r : ℕ} (turn : TreeTurn d k s at e g (p + 5) r) where
@@ -642,8 +642,8 @@ module _ {s : List ℕ} {from e : ℕ} {k : Frame} {d : ℕ} {sums₀ seen₀ su
     pub container-most : {y : List ℕ} → Grown (r - (p + 5)) sums y → getD y 3 0 ≤ 200 * r
     container-most g = omega (arith, sums-most v (f .head .behind) .indents)
 
-    pub container-on : {y b₂ : List ℕ} → g ≡ frameOf (getD s p 0) → inner .1 ≡ 0 → y ≡ plus sums (summed g (130 - 2 * (d - 1)) (inner .0)) → b₂ ≡ met seen₁ (inner .0) → Grown (r - (p + 5)) sums y
-        → Walking s from e k d sums₀ seen₀ (bracketed y (130 - 2 * d)) b₂ r (m + 2) (c + 1)
+    pub container-on : {y b₂ : List ℕ} → g ≡ frameOf (getD s p 0) → inner .1 ≡ 0 → y ≡ plus sums (summed quoted g (130 - 2 * (d - 1)) (inner .0)) → b₂ ≡ met seen₁ (inner .0) → Grown (r - (p + 5)) sums y
+        → Walking quoted s from e k d sums₀ seen₀ (bracketed y (130 - 2 * d)) b₂ r (m + 2) (c + 1)
     unfolding noted numbered met
     container-on {y = y} kd z q j i =
         let o = v .body .opened in

@@ -20,10 +20,12 @@ use Rattle.text_rules.specs.Texts.{empty}
 use Rattle.text_rules.specs.Escapes.{hasLetter, hasHex, textEscape, textBody}
 use Rattle.text_rules.specs.Words.{isStart, isPart, behindWord, isKeyword, resemblesSymbolId, resemblesVersionMarker, isIdentifier}
 use Rattle.text_rules.specs.WordSteps.{isBare, allPart}
-use Rattle.text_rules.specs.Text.{symbolText}
-use Rattle.text_rules.proofs.LaneTests.{part-word, word-part, other-marked, keyword-marked}
-use Rattle.text_rules.proofs.SymbolsText.{symbol-bare, symbol-marked}
+use Rattle.text_rules.specs.Text.{marked, symbolText}
+use Rattle.text_rules.proofs.EscapesLaws.{body-longer}
+use Rattle.text_rules.proofs.LaneTests.{identifier-part, part-word, word-part, other-marked, keyword-marked}
+use Rattle.text_rules.proofs.SymbolsText.{symbol-bare, symbol-always, symbol-marked}
 use Rattle.text_rules.proofs.WordsLaws.{same-long, part-small, no-keyword, starts-other, id-none, marker-none, identifier-other}
+use Rattle.measure.specs.Steps.{quotesOf, quoting}
 use Rattle.measure.proofs.EscapeLengths.{body-length-append, marked-length}
 
 -- ---- bytes of identifiers
@@ -90,17 +92,56 @@ module _ (s : List ℕ) (l : 0 < length s) (p : allPart s ≡ true) (h : isStart
   unfolding isBare
   dollar-bare d = rw (start-identifier s l p h, no-keyword s l (λ e. omega arith) (λ e. omega arith) (λ e. omega arith))
 
+-- ---- the setting, as the walk has it
+
+pub quotes-most : (quoted : Bool) → quotesOf quoted ≤ 2
+quotes-most true = omega arith
+quotes-most false = omega arith
+
+quotes-back : (quoted : Bool) → quoting (quotesOf quoted) ≡ quoted
+quotes-back true = refl
+quotes-back false = refl
+
+-- m marks stand for a setting
+module _ (quoted : Bool) (m : ℕ) (e : m ≡ quotesOf quoted) where
+  pub setting-is : quoting m ≡ quoted
+  setting-is = ap (λ (i : ℕ). quoting i) e ∙ quotes-back quoted
+
+  pub quotes-are : m ≡ quotesOf (quoting m)
+  quotes-are = e ∙ sym (ap (λ (q : Bool). quotesOf q) setting-is)
+
 -- ---- symbols
 
-pub quoted-length : (s : List ℕ) → isBare s ≡ false → length (symbolText s) ≡ length (textBody s) + 2
-quoted-length s h = ap length (symbol-marked s h) ∙ marked-length (byte "'") s
-
 -- quoted with no escapes
-pub plain-quoted : (s : List ℕ) → isBare s ≡ false → allPart s ≡ true → length (symbolText s) ≡ length s + 2
-plain-quoted s h p = quoted-length s h ∙ ap (λ (t : List ℕ). length t + 2) (part-raw s p)
+parts-marked : (s : List ℕ) → allPart s ≡ true → length (marked (byte "'") s) ≡ length s + 2
+parts-marked s p = marked-length (byte "'") s ∙ ap (λ (t : List ℕ). length t + 2) (part-raw s p)
 
-pub nothing-length : length (symbolText []) ≡ 2
-nothing-length = quoted-length [] (unfold isBare isIdentifier in refl) ∙ unfold textBody in refl
+module _ (quoted : Bool) where
+  pub quoted-length : (s : List ℕ) → isBare s ≡ false → length (symbolText quoted s) ≡ length (textBody s) + 2
+  quoted-length s h = ap length (symbol-marked quoted s h) ∙ marked-length (byte "'") s
+
+  pub plain-quoted : (s : List ℕ) → isBare s ≡ false → allPart s ≡ true → length (symbolText quoted s) ≡ length s + 2
+  plain-quoted s h p = ap length (symbol-marked quoted s h) ∙ parts-marked s p
+
+  pub nothing-length : length (symbolText quoted []) ≡ 2
+  nothing-length = quoted-length [] (unfold isBare isIdentifier in refl) ∙ unfold textBody in refl
+
+-- what could stand bare: no byte of an identifier is escaped
+bare-part : (s : List ℕ) → isBare s ≡ true → allPart s ≡ true
+unfolding isBare
+bare-part s h = identifier-part s (both (isIdentifier s) _ h .0)
+
+pub open-length : (quoted : Bool) (s : List ℕ) → isBare s ≡ true → length (symbolText quoted s) ≡ length s + quotesOf quoted
+open-length true s h = ap length (symbol-always s) ∙ parts-marked s (bare-part s h)
+open-length false s h = omega (arith, ap length (symbol-bare s h))
+
+-- what stands bare with the setting off could
+pub stands-open : (s : List ℕ) → symbolText false s ≡ s → isBare s ≡ true
+stands-open s e = go (isBare s) refl
+  where
+    go : (b : Bool) → isBare s ≡ b → isBare s ≡ true
+    go true h = h
+    go false h = absurd (omega (arith, quoted-length false s h, ap length e, body-longer s))
 
 -- ---- a text that starts with the lowest byte of a word, which is no `$`
 
@@ -113,17 +154,17 @@ first-part : (s : List ℕ) → 0 < length s → allPart s ≡ true → isPart (
 first-part [] l p = absurd (omega arith)
 first-part (c ∷ s) l p = both (isPart c) (allPart s) (sym (part-cons c s) ∙ p) .0
 
-module _ (s : List ℕ) (x : ℕ) (l : 0 < length s) (f : getD s 0 0 ≡ x % 256) (d : x % 256 ≡ byte "$" → ⊥) (p : allPart s ≡ true) where
+module _ (quoted : Bool) (s : List ℕ) (x : ℕ) (l : 0 < length s) (f : getD s 0 0 ≡ x % 256) (d : x % 256 ≡ byte "$" → ⊥) (p : allPart s ≡ true) where
   first-start : not (unmarkedBy letterMark (x % 256)) ≡ isStart (getD s 0 0)
   first-start =
       let q : isPart (x % 256) ≡ true = rw f at (first-part s l p) in
       rw f (rw (q, ne-eqb (x % 256) (byte "$") d) at (start-test (x % 256) (omega arith)))
 
-  letter-length : not (unmarkedBy letterMark (x % 256)) ≡ true → isKeyword s ≡ false → length (symbolText s) ≡ length s
-  letter-length m k = ap length (symbol-bare s (sym (letter-bare s l p (sym first-start ∙ m) (rw f d)) ∙ ap not k))
+  letter-length : not (unmarkedBy letterMark (x % 256)) ≡ true → isKeyword s ≡ false → length (symbolText quoted s) ≡ length s + quotesOf quoted
+  letter-length m k = open-length quoted s (sym (letter-bare s l p (sym first-start ∙ m) (rw f d)) ∙ ap not k)
 
-  digit-length : not (unmarkedBy letterMark (x % 256)) ≡ false → length (symbolText s) ≡ length s + 2
-  digit-length m = plain-quoted s (start-marked s l (sym first-start ∙ m)) p
+  digit-length : not (unmarkedBy letterMark (x % 256)) ≡ false → length (symbolText quoted s) ≡ length s + 2
+  digit-length m = plain-quoted quoted s (start-marked s l (sym first-start ∙ m)) p
 
 -- ---- a word
 
@@ -132,22 +173,22 @@ unfolding leBytes
 first-byte zero x l = absurd (omega arith)
 first-byte (suc n) x l = refl
 
-module _ (n x : ℕ) where
+module _ (quoted : Bool) (n x : ℕ) where
   module _ (l : 1 ≤ n) (d : x % 256 ≡ byte "$" → ⊥) (p : every (unmarkedBy noPart) (leBytes n x) ≡ true) where
     abbrev word-parts : allPart (leBytes n x) ≡ true
     word-parts = sym (part-word n x) ∙ p
 
-    pub keyword-length : isKeyword (leBytes n x) ≡ true → n + 2 ≡ length (symbolText (leBytes n x))
-    keyword-length k = omega (arith, plain-quoted (leBytes n x) (keyword-marked (leBytes n x) k) word-parts, length-le n x)
+    pub keyword-length : isKeyword (leBytes n x) ≡ true → n + 2 ≡ length (symbolText quoted (leBytes n x))
+    keyword-length k = omega (arith, plain-quoted quoted (leBytes n x) (keyword-marked (leBytes n x) k) word-parts, length-le n x)
 
-    pub bare-length : not (unmarkedBy letterMark (x % 256)) ≡ true → isKeyword (leBytes n x) ≡ false → n ≡ length (symbolText (leBytes n x))
-    bare-length m k = omega (arith, letter-length (leBytes n x) x (omega (arith, length-le n x)) (first-byte n x l) d word-parts m k, length-le n x)
+    pub bare-length : not (unmarkedBy letterMark (x % 256)) ≡ true → isKeyword (leBytes n x) ≡ false → n + quotesOf quoted ≡ length (symbolText quoted (leBytes n x))
+    bare-length m k = omega (arith, letter-length quoted (leBytes n x) x (omega (arith, length-le n x)) (first-byte n x l) d word-parts m k, length-le n x)
 
-    pub number-length : not (unmarkedBy letterMark (x % 256)) ≡ false → n + 2 ≡ length (symbolText (leBytes n x))
-    number-length m = omega (arith, digit-length (leBytes n x) x (omega (arith, length-le n x)) (first-byte n x l) d word-parts m, length-le n x)
+    pub number-length : not (unmarkedBy letterMark (x % 256)) ≡ false → n + 2 ≡ length (symbolText quoted (leBytes n x))
+    number-length m = omega (arith, digit-length quoted (leBytes n x) x (omega (arith, length-le n x)) (first-byte n x l) d word-parts m, length-le n x)
 
-  pub other-length : every (unmarkedBy noPart) (leBytes n x) ≡ false → length (symbolText (leBytes n x)) ≡ length (textBody (leBytes n x)) + 2
-  other-length p = quoted-length (leBytes n x) (other-marked (leBytes n x) (sym (part-word n x) ∙ p))
+  pub other-length : every (unmarkedBy noPart) (leBytes n x) ≡ false → length (symbolText quoted (leBytes n x)) ≡ length (textBody (leBytes n x)) + 2
+  other-length p = quoted-length quoted (leBytes n x) (other-marked (leBytes n x) (sym (part-word n x) ∙ p))
 
 -- ---- two words, the second behind eight bytes of the first
 
@@ -164,7 +205,7 @@ unfolding isKeyword
 long-keyword s h =
     rw (same-long (ascii "true") s (λ e. omega arith), same-long (ascii "false") s (λ e. omega arith), same-long (ascii "nan") s (λ e. omega arith), same-long (ascii "null") s (λ e. omega arith))
 
-module _ (n x y : ℕ) (l : 9 ≤ n) (h : n ≤ 16) where
+module _ (quoted : Bool) (n x y : ℕ) (l : 9 ≤ n) (h : n ≤ 16) where
   abbrev both-words : List ℕ
   both-words = leBytes 8 x ++ leBytes (n - 8) y
 
@@ -178,16 +219,16 @@ module _ (n x y : ℕ) (l : 9 ≤ n) (h : n ≤ 16) where
     words-parts : allPart both-words ≡ true
     words-parts = words-part ∙ rw (p, q)
 
-    pub words-bare : not (unmarkedBy letterMark (x % 256)) ≡ true → n ≡ length (symbolText both-words)
+    pub words-bare : not (unmarkedBy letterMark (x % 256)) ≡ true → n + quotesOf quoted ≡ length (symbolText quoted both-words)
     unfolding leBytes
-    words-bare m = omega (arith, letter-length both-words x (omega (arith, words-length)) refl d words-parts m (long-keyword both-words (omega (arith, words-length))), words-length)
+    words-bare m = omega (arith, letter-length quoted both-words x (omega (arith, words-length)) refl d words-parts m (long-keyword both-words (omega (arith, words-length))), words-length)
 
-    pub words-number : not (unmarkedBy letterMark (x % 256)) ≡ false → n + 2 ≡ length (symbolText both-words)
-    words-number m = omega (arith, digit-length both-words x (omega (arith, words-length)) (unfold leBytes in refl) d words-parts m, words-length)
+    pub words-number : not (unmarkedBy letterMark (x % 256)) ≡ false → n + 2 ≡ length (symbolText quoted both-words)
+    words-number m = omega (arith, digit-length quoted both-words x (omega (arith, words-length)) (unfold leBytes in refl) d words-parts m, words-length)
 
   pub words-other : every (unmarkedBy noPart) (leBytes 8 x) && every (unmarkedBy noPart) (leBytes (n - 8) y) ≡ false
-      → length (symbolText both-words) ≡ length (textBody (leBytes 8 x)) + length (textBody (leBytes (n - 8) y)) + 2
-  words-other p = omega (arith, quoted-length both-words (other-marked both-words (words-part ∙ p)), body-length-append (leBytes 8 x) (leBytes (n - 8) y))
+      → length (symbolText quoted both-words) ≡ length (textBody (leBytes 8 x)) + length (textBody (leBytes (n - 8) y)) + 2
+  words-other p = omega (arith, quoted-length quoted both-words (other-marked both-words (words-part ∙ p)), body-length-append (leBytes 8 x) (leBytes (n - 8) y))
 
 -- ---- many words
 

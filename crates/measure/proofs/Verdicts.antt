@@ -1,4 +1,4 @@
--- What measure_tape and text_length answer. Assumes nothing.
+-- What measure_tape and text_length_with answer. Assumes nothing.
 use Prim.Native.Nat.{ℕ, _+_, _≤_, _<_}
 use mathlib.Core.Path.{_≡_, refl, ap}
 use mathlib.Core.List.{List}
@@ -23,7 +23,7 @@ use Rattle.writer.specs.Outcome.{refusal}
 use Rattle.writer.proofs.Verdicts.{answered-refused}
 use Rattle.measure.specs.Sums.{contents, separators, lasts, indents, summed}
 use Rattle.measure.specs.Steps.{flagged, met}
-use Rattle.measure.specs.Outcome.{textLength}
+use Rattle.measure.specs.Outcome.{textLengthWith}
 use Rattle.measure.proofs.TextSums.{stream-sums, lasts-most}
 use Rattle.measure.proofs.Bound.{tape-most, tape-indents}
 
@@ -42,51 +42,51 @@ module _ (w : Walked) (f : ℕ) (z : f ≡ w .1) (seen : List ℕ) (e : f ≡ 0 
 -- ---- the sums of a tape, from nothing on
 
 -- the four sums of the tape t, and room for their own sum
-pub record Summed (t a : List ℕ) : Type 0 where
-  pub contents : getD a 0 0 ≡ contents (nodesOf t)
+pub record Summed (quoted : Bool) (t a : List ℕ) : Type 0 where
+  pub contents : getD a 0 0 ≡ contents quoted (nodesOf t)
   pub separators : getD a 1 0 ≡ separators Top (nodesOf t)
   pub lasts : getD a 2 0 ≡ lasts Top (nodesOf t)
   pub indents : getD a 3 0 ≡ indents 0 (nodesOf t)
   pub room : getD a 0 0 + getD a 1 0 + getD a 3 0 < limit
   pub fewer : getD a 2 0 ≤ getD a 1 0
 
-pub sums-told : (t : List ℕ) → Bytes t → verdict t ≡ 0 → (a : List ℕ) → a ≡ summed Top 0 (nodesOf t) → Summed t a
+pub sums-told : (quoted : Bool) (t : List ℕ) → Bytes t → verdict t ≡ 0 → (a : List ℕ) → a ≡ summed quoted Top 0 (nodesOf t) → Summed quoted t a
 unfolding summed
-sums-told t b v a e =
+sums-told quoted t b v a e =
     let c = ap (λ (l : List ℕ). getD l 0 0) e in
     let g = ap (λ (l : List ℕ). getD l 1 0) e in
     let l = ap (λ (l : List ℕ). getD l 2 0) e in
     let i = ap (λ (l : List ℕ). getD l 3 0) e in
     let most = verdict-told t v .most in
-    let p = tape-most t b v in
+    let p = tape-most quoted t b v in
     let q = tape-indents t b v in
     let r = lasts-most Top (nodesOf t) in
     record { contents = omega arith; separators = omega arith; lasts = omega arith; indents = omega arith; room = omega arith; fewer = omega arith }
 
 -- ---- answers
 
-pub refused-by : (y : ℕ) (t : List ℕ) (f : ℕ) → (f ≡ 0 → ⊥) → refusal y t ≡ f → refused f ≡ textLength y t
-unfolding textLength
-refused-by y t f nz e = rw e (answered-refused f nz _)
+pub refused-by : (quoted : Bool) (y : ℕ) (t : List ℕ) (f : ℕ) → (f ≡ 0 → ⊥) → refusal y t ≡ f → refused f ≡ textLengthWith quoted y t
+unfolding textLengthWith
+refused-by quoted y t f nz e = rw e (answered-refused f nz _)
 
-module _ (y : ℕ) (t a : List ℕ) (e : refusal y t ≡ 0) (z : noteds (bodyOf t .0) ≡ false) (s : Summed t a) where
-  pub counted-plain : (y ≡ 2 → ⊥) → counted (getD a 0 0 + getD a 1 0) ≡ textLength y t
-  unfolding textLength nodesOf
+module _ (quoted : Bool) (y : ℕ) (t a : List ℕ) (e : refusal y t ≡ 0) (z : noteds (bodyOf t .0) ≡ false) (s : Summed quoted t a) where
+  pub counted-plain : (y ≡ 2 → ⊥) → counted (getD a 0 0 + getD a 1 0) ≡ textLengthWith quoted y t
+  unfolding textLengthWith nodesOf
   counted-plain q =
-      let p : length (streamText y (nodesOf t)) ≡ contents (nodesOf t) + separators Top (nodesOf t) + 0 = rw (ne-eqb _ _ q) at (stream-sums y (nodesOf t) z) in
+      let p : length (streamText quoted y (nodesOf t)) ≡ contents quoted (nodesOf t) + separators Top (nodesOf t) + 0 = rw (ne-eqb _ _ q) at (stream-sums quoted y (nodesOf t) z) in
       let c = s .contents in
       let g = s .separators in
-      let l : getD a 0 0 + getD a 1 0 ≡ length (streamText y (nodesOf t)) = omega arith in
+      let l : getD a 0 0 + getD a 1 0 ≡ length (streamText quoted y (nodesOf t)) = omega arith in
       rw e (ap counted l)
 
-  pub counted-pretty : y ≡ 2 → counted (getD a 0 0 + getD a 1 0 + getD a 3 0) ≡ textLength y t
-  unfolding textLength nodesOf
+  pub counted-pretty : y ≡ 2 → counted (getD a 0 0 + getD a 1 0 + getD a 3 0) ≡ textLengthWith quoted y t
+  unfolding textLengthWith nodesOf
   counted-pretty q =
-      let p : length (streamText y (nodesOf t)) ≡ contents (nodesOf t) + separators Top (nodesOf t) + indents 0 (nodesOf t) = rw (eq-eqb _ _ q) at (stream-sums y (nodesOf t) z) in
+      let p : length (streamText quoted y (nodesOf t)) ≡ contents quoted (nodesOf t) + separators Top (nodesOf t) + indents 0 (nodesOf t) = rw (eq-eqb _ _ q) at (stream-sums quoted y (nodesOf t) z) in
       let c = s .contents in
       let g = s .separators in
       let i = s .indents in
-      let l : getD a 0 0 + getD a 1 0 + getD a 3 0 ≡ length (streamText y (nodesOf t)) = omega arith in
+      let l : getD a 0 0 + getD a 1 0 + getD a 3 0 ≡ length (streamText quoted y (nodesOf t)) = omega arith in
       rw e (ap counted l)
 
 -- ---- how long a text that is told is at most, in every layout
@@ -101,13 +101,13 @@ unrefused y t e = go (ltb 2 y) (noteds (nodesOf t)) e
     go false true e = let z = first-zero (verdict t) 5 e .1 in absurd (omega arith)
     go false false e = (first-zero (verdict t) 0 e .0, refl)
 
-pub length-small : (y : ℕ) (t : List ℕ) → Bytes t → refusal y t ≡ 0 → length (streamText y (nodesOf t)) < limit
-length-small y t b e =
+pub length-small : (quoted : Bool) (y : ℕ) (t : List ℕ) → Bytes t → refusal y t ≡ 0 → length (streamText quoted y (nodesOf t)) < limit
+length-small quoted y t b e =
     let u = unrefused y t e in
     let most = verdict-told t (u .0) .most in
-    let p = tape-most t b (u .0) in
+    let p = tape-most quoted t b (u .0) in
     let q = tape-indents t b (u .0) in
-    let s = stream-sums y (nodesOf t) (u .1) in
+    let s = stream-sums quoted y (nodesOf t) (u .1) in
     let i = some-indents (eqb y 2) in
     omega arith
   where

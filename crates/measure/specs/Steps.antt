@@ -1,4 +1,4 @@
--- What the contracts of the walk and its parts name: sums and flags that go on. Assumes nothing: these are definitions.
+-- What the contracts of the walk and its parts name: the setting as a number, and sums and flags that go on. Assumes nothing: these are definitions.
 use Prim.Native.Nat.{ℕ, zero, suc, _+_, _*_, _<_, _≤_}
 use mathlib.Core.List.{List, [], _∷_}
 use mathlib.Core.Bool.{Bool, true, _||_}
@@ -12,6 +12,14 @@ use Rattle.tape.specs.declared.Frame.{Frame}
 use Rattle.tape.specs.declared.check.Front.{Front}
 use Rattle.tape.specs.declared.check.Front.the-variants.{Bad, Whole}
 use Rattle.measure.specs.Sums.{separatorLength}
+
+-- how many quote marks there are around a symbol text that could stand bare: the walk's form of the setting
+abbrev pub quotesOf : Bool → ℕ
+quotesOf quoted = if quoted 2 0
+
+-- the setting of so many quote marks
+abbrev pub quoting : ℕ → Bool
+quoting quotes = eqb quotes 2
 
 -- number by number, four of them
 unfoldable pub plus : List ℕ → List ℕ → List ℕ

@@ -13,18 +13,19 @@ use Rattle.writer.specs.Steps.{isNil}
 
 -- ---- contents: scalars, markers, brackets, names with their `: `, annotations with their `::`
 
-abbrev pub frontLength : Head → ℕ
-frontLength h = length (nameText (h .0)) + length (notesText (h .1))
+module _ (quoted : Bool) where
+  abbrev pub frontLength : Head → ℕ
+  frontLength h = length (nameText quoted (h .0)) + length (notesText quoted (h .1))
 
-unfoldable mutual
-  pub contentsOf : Node → ℕ
-  contentsOf (scalar s) = length (scalarText s)
-  contentsOf (nest k ns) = length (opening k) + contents ns + length (closing k)
-  contentsOf marker = length (ascii "$ion_1_0")
+  unfoldable mutual
+    pub contentsOf : Node → ℕ
+    contentsOf (scalar s) = length (scalarText quoted s)
+    contentsOf (nest k ns) = length (opening k) + contents ns + length (closing k)
+    contentsOf marker = length (ascii "$ion_1_0")
 
-  pub contents : Nodes → ℕ
-  contents nil = 0
-  contents (more h n ns) = frontLength h + contentsOf n + contents ns
+    pub contents : Nodes → ℕ
+    contents nil = 0
+    contents (more h n ns) = frontLength h + contentsOf n + contents ns
 
 -- ---- separators: one behind each child, as long in one layout as in the others
 
@@ -66,13 +67,14 @@ unfoldable mutual
 
 -- ---- the four sums, as the walk has them
 
-unfoldable pub summed : Frame → ℕ → Nodes → List ℕ
-summed k w ns = contents ns ∷ separators k ns ∷ lasts k ns ∷ indents w ns ∷ []
+module _ (quoted : Bool) where
+  unfoldable pub summed : Frame → ℕ → Nodes → List ℕ
+  summed k w ns = contents quoted ns ∷ separators k ns ∷ lasts k ns ∷ indents w ns ∷ []
 
--- the length of the text of the scalar that the bytes l start with
-abbrev pub leafLength : List ℕ → ℕ
-leafLength l = length (reading (scalarOf l) [] (λ s n. scalarText s))
+  -- the length of the text of the scalar that the bytes l start with
+  abbrev pub leafLength : List ℕ → ℕ
+  leafLength l = length (reading (scalarOf l) [] (λ s n. scalarText quoted s))
 
--- the length of the text of the symbol that they start with
-abbrev pub symLength : List ℕ → ℕ
-symLength l = length (reading (symOf l) [] (λ s n. symText s))
+  -- the length of the text of the symbol that they start with
+  abbrev pub symLength : List ℕ → ℕ
+  symLength l = length (reading (symOf l) [] (λ s n. symText quoted s))

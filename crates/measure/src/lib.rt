@@ -1,7 +1,7 @@
 // The length of a tape's text, worked out in place of writing it.
 ghost use mathlib.Core.Path.{_≡_};
 ghost use Rattle.tape.specs.Answer.{outcome};
-ghost use Rattle.measure.specs.Outcome.{textLength};
+ghost use Rattle.measure.specs.Outcome.{textLength, textLengthWith};
 use tape::answer::Answer;
 
 pub mod blobs;
@@ -16,15 +16,15 @@ pub mod text_formatter;
 pub mod timestamp;
 pub mod walk;
 
-// The number of bytes that `write_stream` writes of a tape in a layout, in a buffer that is long enough; or its refusal, which is never 6.
-pub fn text_length(layout: u32, tape: &[u8]) -> Answer
-    ensures { λ r. ⌜ outcome r ≡ textLength layout (now (tape .entry)) ⌝ }
+// The number of bytes that `write_stream_with` writes of a tape in a layout under the same setting, in a buffer that is long enough; or its refusal, which is never 6.
+pub fn text_length_with(quoted: bool, layout: u32, tape: &[u8]) -> Answer
+    ensures { λ r. ⌜ outcome r ≡ textLengthWith quoted layout (now (tape .entry)) ⌝ }
 {
     if 2 < layout {
         return Answer::NoLayout;
     }
     let mut sums = [0usize; 4];
-    let c = walk::measure_tape(tape, &mut sums);
+    let c = walk::measure_tape(quoted, tape, &mut sums);
     if c.fault != 0 {
         return tape::answer::refusal_of(c.fault);
     }
@@ -36,4 +36,11 @@ pub fn text_length(layout: u32, tape: &[u8]) -> Answer
         return Answer::Count(n + sums[3]);
     }
     Answer::Count(n)
+}
+
+// The same with the setting off, that of `write_stream`.
+pub fn text_length(layout: u32, tape: &[u8]) -> Answer
+    ensures { λ r. ⌜ outcome r ≡ textLength layout (now (tape .entry)) ⌝ }
+{
+    text_length_with(false, layout, tape)
 }

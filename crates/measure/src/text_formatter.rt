@@ -8,6 +8,7 @@ ghost use Rattle.output.specs.Wrote.{leBytes};
 ghost use Rattle.text_rules.specs.Text.{symbolText, symbolIdText, stringText, nullText, boolText};
 ghost use Rattle.text_rules.specs.Words.{isStart};
 ghost use Rattle.text_rules.specs.WordSteps.{allPart, isBare};
+ghost use Rattle.measure.specs.Steps.{quotesOf, quoting};
 
 pub fn null_length(t: u8) -> usize
     ensures { λ r. ⌜ r ≡ length (nullText t) ⌝ }
@@ -51,12 +52,20 @@ pub fn string_length_at(s: &[u8], from: usize, n: usize) -> usize
     crate::escapes::escaped_text_body_length(s, from, n) + 2
 }
 
-// ---- symbols, by their bytes in words
+// ---- symbols, by their bytes in words. `quotes` is 2 where every symbol text is quoted and else 0: how many quote marks there are around one that could
+// stand bare. It stands for the setting, as adding a number takes less time than asking.
+
+pub fn quotes_of(quoted: bool) -> usize
+    ensures { λ r. ⌜ r ≡ quotesOf quoted ⌝ }
+{
+    if quoted { 2 } else { 0 }
+}
 
 // Of the n lowest bytes of x, eight at most; 0 where that is not told, as they start with `$`.
-pub fn short_symbol_length(x: u64, n: usize) -> usize
+pub fn short_symbol_length(x: u64, n: usize, quotes: usize) -> usize
+    requires { ⌜ quotes ≡ quotesOf (quoting quotes) ⌝ }
     requires { ⌜ (1 ≤ n) × (n ≤ 8) ⌝ }
-    ensures { λ r. ⌜ (0 < r → r ≡ length (symbolText (leBytes n x))) ⌝ }
+    ensures { λ r. ⌜ (0 < r → r ≡ length (symbolText (quoting quotes) (leBytes n x))) ⌝ }
 {
     if x % 256 == 0x24 {
         return 0;
@@ -66,7 +75,7 @@ pub fn short_symbol_length(x: u64, n: usize) -> usize
             if text_rules::short_words::is_keyword_word(x, n) {
                 return n + 2;
             }
-            return n;
+            return n + quotes;
         }
         return n + 2;
     }
@@ -74,9 +83,10 @@ pub fn short_symbol_length(x: u64, n: usize) -> usize
 }
 
 // Of the eight bytes of x and the n - 8 lowest of y, sixteen at most; 0 where that is not told, as they start with `$`.
-pub fn long_symbol_length(x: u64, y: u64, n: usize) -> usize
+pub fn long_symbol_length(x: u64, y: u64, n: usize, quotes: usize) -> usize
+    requires { ⌜ quotes ≡ quotesOf (quoting quotes) ⌝ }
     requires { ⌜ (9 ≤ n) × (n ≤ 16) ⌝ }
-    ensures { λ r. ⌜ (0 < r → r ≡ length (symbolText (leBytes 8 x ++ leBytes (n - 8) y))) ⌝ }
+    ensures { λ r. ⌜ (0 < r → r ≡ length (symbolText (quoting quotes) (leBytes 8 x ++ leBytes (n - 8) y))) ⌝ }
 {
     if x % 256 == 0x24 {
         return 0;
@@ -84,7 +94,7 @@ pub fn long_symbol_length(x: u64, y: u64, n: usize) -> usize
     if lanes::is_identifier_word(x, 8) {
         if lanes::is_identifier_word(y, n - 8) {
             if lanes::starts_with_letter(x) {
-                return n;
+                return n + quotes;
             }
             return n + 2;
         }
@@ -126,10 +136,11 @@ fn stands_bare(text: &[u8]) -> bool
 }
 
 // A symbol that is the n first bytes of s, behind which eight bytes stand.
-fn first_symbol_length(s: &[u8], n: usize) -> usize
+fn first_symbol_length(s: &[u8], n: usize, quotes: usize) -> usize
+    requires { ⌜ quotes ≡ quotesOf (quoting quotes) ⌝ }
     requires { ⌜ n + 8 ≤ length (now s) ⌝ }
     requires { ⌜ n < 2 ^ 32 ⌝ }
-    ensures { λ r. ⌜ r ≡ length (symbolText (take n (now (s .entry)))) ⌝ }
+    ensures { λ r. ⌜ r ≡ length (symbolText (quoting quotes) (take n (now (s .entry)))) ⌝ }
 {
     if n == 0 {
         return 2;
@@ -137,7 +148,7 @@ fn first_symbol_length(s: &[u8], n: usize) -> usize
     if text_rules::words::is_start(s[0]) {
         if is_word(s, n) {
             if stands_bare(&s[..n]) {
-                return n;
+                return n + quotes;
             }
             // no byte of these is escaped
             return n + 2;
@@ -147,11 +158,12 @@ fn first_symbol_length(s: &[u8], n: usize) -> usize
 }
 
 // The same from a place on. It does nothing but cut: then the compiler hands on where s starts, and not s, which would go through memory.
-pub fn symbol_length_at(s: &[u8], from: usize, n: usize) -> usize
+pub fn symbol_length_at(s: &[u8], from: usize, n: usize, quotes: usize) -> usize
+    requires { ⌜ quotes ≡ quotesOf (quoting quotes) ⌝ }
     requires { ⌜ from + n + 8 ≤ length (now s) ⌝ }
     requires { ⌜ n < 2 ^ 32 ⌝ }
-    ensures { λ r. ⌜ r ≡ length (symbolText (take n (drop from (now (s .entry))))) ⌝ }
+    ensures { λ r. ⌜ r ≡ length (symbolText (quoting quotes) (take n (drop from (now (s .entry))))) ⌝ }
 {
     let to = from + n + 8;
-    first_symbol_length(&s[from..to], n)
+    first_symbol_length(&s[from..to], n, quotes)
 }

@@ -9,7 +9,7 @@ ghost use Rattle.tape.specs.Tape.{walk, nodesOf};
 ghost use Rattle.tape.specs.Checked.{TapeChecks};
 ghost use Rattle.tape.specs.declared.Frame.the-variants.{Top};
 ghost use Rattle.measure.specs.Sums.{separatorLength, summed};
-ghost use Rattle.measure.specs.Steps.{plus, bodyOwn, met, SumsFit, Grown};
+ghost use Rattle.measure.specs.Steps.{quotesOf, quoting, plus, bodyOwn, met, SumsFit, Grown};
 use crate::parts;
 use tape::Frame;
 use tape::check;
@@ -44,7 +44,8 @@ fn add_body(sums: &mut [usize; 4], n: usize, count: usize, frame: Frame, width: 
 
 // The first problem among the nodes of a body, or 0, as `tape::check` has it. Without a problem, `sums` has their lengths added; of `seen` the first
 // number is set to 1 if there are annotations, the second if there is an identifier but 0, and the third to how many nodes stand side by side in this body.
-// A body is opened while `depth` more may be; at top level that is 65, so that in Pretty the children have 130 - 2 * depth blanks before them.
+// A body is opened while `depth` more may be; at top level that is 65, so that in Pretty the children have 130 - 2 * depth blanks before them. `quotes` is
+// the setting, as in `text_formatter`.
 fn measure_nodes(
     tape: &[u8],
     from: usize,
@@ -53,6 +54,7 @@ fn measure_nodes(
     depth: usize,
     sums: &mut [usize; 4],
     seen: &mut [usize; 3],
+    quotes: usize,
 ) -> u8
     requires { ⌜ from ≤ end ⌝ }
     requires { ⌜ end + 8 ≤ length (now tape) ⌝ }
@@ -60,9 +62,10 @@ fn measure_nodes(
     requires { ⌜ depth ≤ 65 ⌝ }
     requires { ⌜ length (now sums) ≡ 4 ⌝ }
     requires { ⌜ length (now seen) ≡ 3 ⌝ }
+    requires { ⌜ quotes ≡ quotesOf (quoting quotes) ⌝ }
     requires { ⌜ Grown from (replicate 4 0) (now sums) ⌝ }
     ensures fault { λ r. ⌜ r ≡ walk depth frame (part (now (tape .entry)) from end) .1 ⌝ }
-    ensures sums { λ r. ⌜ (r ≡ 0 → now (sums .exit) ≡ plus (now (sums .entry)) (summed frame (130 - 2 * depth) (walk depth frame (part (now (tape .entry)) from end) .0))) ⌝ }
+    ensures sums { λ r. ⌜ (r ≡ 0 → now (sums .exit) ≡ plus (now (sums .entry)) (summed (quoting quotes) frame (130 - 2 * depth) (walk depth frame (part (now (tape .entry)) from end) .0))) ⌝ }
     ensures seen { λ r. ⌜ (r ≡ 0 → now (seen .exit) ≡ met (now (seen .entry)) (walk depth frame (part (now (tape .entry)) from end) .0)) ⌝ }
     ensures grown { λ r. ⌜ (r ≡ 0 → Grown (end - from) (now (sums .entry)) (now (sums .exit))) ⌝ }
 {
@@ -78,13 +81,13 @@ fn measure_nodes(
         if q == end {
             return 2;
         }
-        n = n + parts::field_name_length(tape, at, end, frame);
+        n = n + parts::field_name_length(tape, at, end, frame, quotes);
         if check::name_number(tape, at, end, frame) {
             seen[1] = 1;
         }
         let mut p = q;
         if tape[q] == 13 {
-            let f = parts::notes_at(tape, q, end);
+            let f = parts::notes_at(tape, q, end, quotes);
             if f.at == 0 {
                 return 2;
             }
@@ -101,13 +104,13 @@ fn measure_nodes(
         count += 1;
         let k = tape[p];
         if k < 9 {
-            let l = parts::leaf_at(tape, p, end);
+            let l = parts::leaf_at(tape, p, end, quotes);
             if l.size < 2 {
                 return check::size_fault(l.size);
             }
             n = n + l.length;
             if l.length == 0 {
-                n = n + parts::untold_length(tape, p, end);
+                n = n + parts::untold_length(tape, p, end, quotes);
             }
             if check::is_number(tape, p, end) {
                 seen[1] = 1;
@@ -120,7 +123,7 @@ fn measure_nodes(
                     return 2;
                 }
                 if k == 9 {
-                    n = n + parts::untold_length(tape, p, end);
+                    n = n + parts::untold_length(tape, p, end, quotes);
                 } else {
                     let r = measure_nodes(
                         tape,
@@ -130,6 +133,7 @@ fn measure_nodes(
                         depth - 1,
                         sums,
                         seen,
+                        quotes,
                     );
                     if r != 0 {
                         return r;
@@ -165,11 +169,11 @@ fn measure_nodes(
     0
 }
 
-// What `tape::check::check_tape` says of a tape, and the four sums of its nodes.
-pub fn measure_tape(tape: &[u8], sums: &mut [usize; 4]) -> Checked
+// What `tape::check::check_tape` says of a tape, and the four sums of its nodes under a setting.
+pub fn measure_tape(quoted: bool, tape: &[u8], sums: &mut [usize; 4]) -> Checked
     requires { ⌜ now sums ≡ replicate 4 0 ⌝ }
     ensures checked { λ r. ⌜ TapeChecks (now (tape .entry)) r ⌝ }
-    ensures sums { λ r. ⌜ (r .fault ≡ 0 → now (sums .exit) ≡ summed Top 0 (nodesOf (now (tape .entry)))) ⌝ }
+    ensures sums { λ r. ⌜ (r .fault ≡ 0 → now (sums .exit) ≡ summed quoted Top 0 (nodesOf (now (tape .entry)))) ⌝ }
 {
     let n = tape.len();
     if n < 8 {
@@ -183,7 +187,8 @@ pub fn measure_tape(tape: &[u8], sums: &mut [usize; 4]) -> Checked
         return check::refused(1);
     }
     let mut seen = [0usize; 3];
-    let r = measure_nodes(tape, 0, end, Frame::Top, 65, sums, &mut seen);
+    let quotes = crate::text_formatter::quotes_of(quoted);
+    let r = measure_nodes(tape, 0, end, Frame::Top, 65, sums, &mut seen, quotes);
     let claimed = tape::u32_at(tape, end + 4) as usize;
     let f = check::first_of(r, check::count_fault(claimed, seen[2]));
     if f != 0 {

@@ -69,7 +69,7 @@ body-part s i k e g =
     ap textBody (sym j) ∙ body-append (take k (drop i s)) (drop (i + k) s) ∙ ap₂ (λ (u v : List ℕ). u ++ v) e g ∙ j
 
 -- an escape makes a text longer, so every part of a text that needs none needs none
-body-longer : (s : List ℕ) → length s ≤ length (textBody s)
+pub body-longer : (s : List ℕ) → length s ≤ length (textBody s)
 unfolding textBody
 body-longer [] = omega arith
 body-longer (c ∷ s) = omega (arith, escape-some c, body-longer s, length-append (textEscape c) (textBody s))

@@ -24,7 +24,7 @@ use Rattle.text_rules.specs.Digits.{isDigit}
 use Rattle.text_rules.specs.Escapes.{hasLetter, hasHex, textEscape, textBody}
 use Rattle.text_rules.specs.Words.{isStart, isPart, behindWord, isKeyword, resemblesSymbolId, resemblesVersionMarker, isIdentifier}
 use Rattle.text_rules.specs.WordSteps.{isLetterOrUnderscore, isBare, allPart}
-use Rattle.text_rules.specs.Text.{symbolText}
+use Rattle.text_rules.specs.Text.{marked, symbolText}
 use Rattle.lanes.proofs.Table.{same as agree}
 use Rattle.text_rules.proofs.SymbolsText.{symbol-bare, symbol-marked}
 use Rattle.text_rules.proofs.WordsLaws.{same-long, same-is}
@@ -106,7 +106,7 @@ letters-bare (b ∷ s) l h k =
     letter-bare b s (p .0) (letters-part s (p .1)) k
 
 -- the n lowest bytes are letters and `_`, and no keyword
-pub letters-word : (n x : ℕ) → 1 ≤ n → every (unmarkedBy noLetter) (leBytes n x) ≡ true → isKeyword (leBytes n x) ≡ false → symbolText (leBytes n x) ≡ leBytes n x
+pub letters-word : (n x : ℕ) → 1 ≤ n → every (unmarkedBy noLetter) (leBytes n x) ≡ true → isKeyword (leBytes n x) ≡ false → symbolText false (leBytes n x) ≡ leBytes n x
 letters-word n x l h k =
     symbol-bare _ (letters-bare (leBytes n x) (omega (arith, length-le n x)) (sym (every-same (unmarkedBy noLetter) isLetterOrUnderscore letter-test n x) ∙ h) k)
 
@@ -142,9 +142,13 @@ keyword-marked s h = rw h (go (isIdentifier s))
     go true = refl
     go false = refl
 
--- a text that is not bare and needs no escape, quoted
-pub symbol-quoted : (s : List ℕ) → isBare s ≡ false → textBody s ≡ s → symbolText s ≡ byte "'" ∷ (s ++ (byte "'" ∷ []))
-symbol-quoted s h e = symbol-marked s h ∙ ap (λ (t : List ℕ). byte "'" ∷ (t ++ (byte "'" ∷ []))) e
+-- a text that needs no escape, quoted
+pub marked-raw : (s : List ℕ) → textBody s ≡ s → marked (byte "'") s ≡ byte "'" ∷ (s ++ (byte "'" ∷ []))
+marked-raw s e = ap (λ (t : List ℕ). byte "'" ∷ (t ++ (byte "'" ∷ []))) e
+
+-- one that is not bare
+pub symbol-quoted : (quoted : Bool) (s : List ℕ) → isBare s ≡ false → textBody s ≡ s → symbolText quoted s ≡ byte "'" ∷ (s ++ (byte "'" ∷ []))
+symbol-quoted quoted s h e = symbol-marked quoted s h ∙ marked-raw s e
 
 -- n bytes of a word of eight at a place
 pub word-part : (s : List ℕ) (i n x : ℕ) → n ≤ 8 → leBytes 8 x ≡ take 8 (drop i s) → leBytes n x ≡ take n (drop i s)

@@ -44,15 +44,30 @@ choice false false false true a b = refl
 choice true false false false a b = refl
 choice false false false false a b = refl
 
-symbol-choice : (s : List ℕ) → symbolText s ≡ if (isBare s) s (marked (byte "'") s)
+symbol-choice : (s : List ℕ) → symbolText false s ≡ if (isBare s) s (marked (byte "'") s)
 unfolding symbolText isBare
 symbol-choice s = choice (isIdentifier s) (isKeyword s) (resemblesSymbolId s) (resemblesVersionMarker s) s (marked (byte "'") s)
 
-pub symbol-bare : (s : List ℕ) → isBare s ≡ true → symbolText s ≡ s
+pub symbol-bare : (s : List ℕ) → isBare s ≡ true → symbolText false s ≡ s
 symbol-bare s h = rw (symbol-choice s, h)
 
-pub symbol-marked : (s : List ℕ) → isBare s ≡ false → symbolText s ≡ marked (byte "'") s
-symbol-marked s h = rw (symbol-choice s, h)
+-- "every symbol text is quoted"
+pub symbol-always : (s : List ℕ) → symbolText true s ≡ marked (byte "'") s
+unfolding symbolText
+symbol-always s = refl
+
+pub symbol-marked : (quoted : Bool) (s : List ℕ) → isBare s ≡ false → symbolText quoted s ≡ marked (byte "'") s
+symbol-marked true s h = symbol-always s
+symbol-marked false s h = rw (symbol-choice s, h)
+
+-- what holds of a text if it is bare, and of it quoted, holds of its symbol text under either setting
+pub symbol-either : (P : List ℕ → Type 0) (quoted : Bool) (s : List ℕ) → (isBare s ≡ true → P s) → P (marked (byte "'") s) → P (symbolText quoted s)
+symbol-either P true s b m = rw (symbol-always s) m
+symbol-either P false s b m = go (isBare s) refl
+  where
+    go : (i : Bool) → isBare s ≡ i → P (symbolText false s)
+    go true e = rw (symbol-bare s e) (b e)
+    go false e = rw (symbol-marked false s e) m
 
 -- an identifier that starts with no byte of a quoted-only spelling is bare
 pub plain-bare : (s : List ℕ) → isIdentifier s ≡ true → special (getD s 0 0) ≡ false → isBare s ≡ true

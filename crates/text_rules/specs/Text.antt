@@ -18,10 +18,11 @@ pub data Sym : Type 0 where
 abbrev pub marked : ℕ → List ℕ → List ℕ
 marked q s = q ∷ (textBody s ++ (q ∷ []))
 
--- Text is quoted if it is true, false, nan or null, or `$` and digits, or `$ion_` digits `_` digits; else bare if it is an identifier; else quoted
-unfoldable pub symbolText : List ℕ → List ℕ
-symbolText s =
-    if (isKeyword s || resemblesSymbolId s || resemblesVersionMarker s) (marked (byte "'") s)
+-- "A setting … under which every symbol text is quoted". With it off, text is quoted if it is true, false, nan or null, or `$` and digits, or `$ion_` digits
+-- `_` digits; else bare if it is an identifier; else quoted
+unfoldable pub symbolText : Bool → List ℕ → List ℕ
+symbolText quoted s =
+    if (quoted || isKeyword s || resemblesSymbolId s || resemblesVersionMarker s) (marked (byte "'") s)
     (if (isIdentifier s) s (marked (byte "'") s))
 
 -- an identifier prints `$` and its number

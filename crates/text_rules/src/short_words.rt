@@ -56,10 +56,10 @@ pub fn is_keyword_word(x: u64, n: usize) -> bool
     false
 }
 
-// The n lowest bytes are letters and `_`, and no keyword: as a symbol they stand bare.
+// The n lowest bytes are letters and `_`, and no keyword: as a symbol they stand bare, unless every symbol text is quoted.
 pub fn is_plain(x: u64, n: usize) -> bool
     requires { ⌜ (1 ≤ n) × (n ≤ 8) ⌝ }
-    ensures { λ r. ⌜ (r ≡ true → symbolText (leBytes n x) ≡ leBytes n x) ⌝ }
+    ensures { λ r. ⌜ (r ≡ true → symbolText false (leBytes n x) ≡ leBytes n x) ⌝ }
 {
     if !lanes::is_letter_word(x, n) {
         return false;

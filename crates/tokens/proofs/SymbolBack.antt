@@ -23,7 +23,7 @@ use Rattle.text_rules.specs.declared.words.Kind.{Kind}
 use Rattle.text_rules.specs.declared.words.Kind.the-variants.{Number, Text}
 use Rattle.text_rules.proofs.DigitLaws.{never, Digits, digits-digits, digits-some, digit-range, past-digits, number-digits, whole-digits}
 use Rattle.text_rules.proofs.WordsLaws.{kind-bare, dollar-number}
-use Rattle.text_rules.proofs.SymbolsText.{bare-is, symbol-bare, symbol-marked}
+use Rattle.text_rules.proofs.SymbolsText.{bare-is, symbol-either}
 use Rattle.tokens.proofs.QuotedBack.{quoted-back}
 use Rattle.text_rules.proofs.WordsBack.{identifier-word, Stops, stops, word-back, behind-back, behind-digits, identifier-parts, start-part, unlike}
 
@@ -88,12 +88,10 @@ marked-back : (old : Bool) (s r : List ℕ) → valid s ≡ true → symbol (raw
 unfolding symbol starts quotedSymbol
 marked-back old s r h = rw (append-assoc (textBody s) (byte "'" ∷ []) r, quoted-back old symbolMark s r h)
 
-pub symbol-back : (old : Bool) (s r : List ℕ) → valid s ≡ true → ended r ≡ true → symbol (rawRule old) (symbolText s ++ r) ≡ some (Sym.text s, r)
-symbol-back old s r h e = go (isBare s) refl
-  where
-    go : (b : Bool) → isBare s ≡ b → symbol (rawRule old) (symbolText s ++ r) ≡ some (Sym.text s, r)
-    go true i = rw (symbol-bare s i) (bare-back (rawRule old) s r i e)
-    go false i = rw (symbol-marked s i) (marked-back old s r h)
+-- under either setting of the writer
+pub symbol-back : (quoted old : Bool) (s r : List ℕ) → valid s ≡ true → ended r ≡ true → symbol (rawRule old) (symbolText quoted s ++ r) ≡ some (Sym.text s, r)
+symbol-back quoted old s r h e =
+    symbol-either (λ t. symbol (rawRule old) (t ++ r) ≡ some (Sym.text s, r)) quoted s (λ i. bare-back (rawRule old) s r i e) (marked-back old s r h)
 
 -- ---- the words and first bytes of what is written, which tell a symbol from other tokens
 
@@ -110,8 +108,9 @@ pub record Begins (t : List ℕ) : Type 0 where
   pub is : t ≡ first ∷ rest
   pub tells : eqb first (byte "'") || isStart first ≡ true
 
-pub symbol-begins : (s : List ℕ) → Begins (symbolText s)
-symbol-begins s = go (isBare s) refl
+pub symbol-begins : (quoted : Bool) (s : List ℕ) → Begins (symbolText quoted s)
+symbol-begins quoted s =
+    symbol-either Begins quoted s (bare-begins s) record { first = byte "'"; rest = textBody s ++ (byte "'" ∷ []); is = refl; tells = refl }
   where
     or-right : (a b : Bool) → b ≡ true → a || b ≡ true
     or-right true b h = refl
@@ -120,10 +119,6 @@ symbol-begins s = go (isBare s) refl
     bare-begins : (s : List ℕ) → isBare s ≡ true → Begins s
     bare-begins [] h = never (sym (let b = bare-is [] h in unfold isIdentifier in b .identifier))
     bare-begins (c ∷ w) h = record { first = c; rest = w; is = refl; tells = or-right (eqb c (byte "'")) (isStart c) (identifier-parts c w (bare-is (c ∷ w) h .identifier) .0) }
-
-    go : (b : Bool) → isBare s ≡ b → Begins (symbolText s)
-    go true i = rw (symbol-bare s i) (bare-begins s i)
-    go false i = rw (symbol-marked s i) record { first = byte "'"; rest = textBody s ++ (byte "'" ∷ []); is = refl; tells = refl }
 
 pub id-begins : (n : ℕ) → Begins (symbolIdText n)
 unfolding symbolIdText isStart

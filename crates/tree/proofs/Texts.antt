@@ -2,7 +2,7 @@
 use Prim.Native.Nat.{ℕ, zero, suc}
 use mathlib.Core.Path.{_≡_, refl, ap, _∙_}
 use mathlib.Core.List.{List, [], _++_, append-assoc, append-nil}
-use mathlib.Core.Bool.{true, false}
+use mathlib.Core.Bool.{Bool, true, false}
 use native.Mathlib.Omega.{arith}
 use Rattle.text_rules.specs.Text.{Sym}
 use Rattle.tape.specs.Tree.{Node, Nodes, scalar, nest, marker, nil, more, size}
@@ -22,12 +22,12 @@ separator-lead Sexp i = refl
 separator-lead Struct i = refl
 
 -- the separator before a child is the one behind the child before it
-ending-lead : (k : Frame) (ns : Nodes) → Inner k → ending 3 k (isNil ns) ++ elements false k ns ≡ elements true k ns
+ending-lead : (quoted : Bool) (k : Frame) (ns : Nodes) → Inner k → ending 3 k (isNil ns) ++ elements quoted false k ns ≡ elements quoted true k ns
 unfolding ending elements lead
-ending-lead k nil i = refl
-ending-lead k (more h n ns) i =
-    ap (λ (x : List ℕ). x ++ elements false k (more h n ns)) (separator-lead k i)
-    ∙ glue (lead true k) (nameText (h .0)) (notesText (h .1)) (element n) (elements true k ns)
+ending-lead quoted k nil i = refl
+ending-lead quoted k (more h n ns) i =
+    ap (λ (x : List ℕ). x ++ elements quoted false k (more h n ns)) (separator-lead k i)
+    ∙ glue (lead true k) (nameText quoted (h .0)) (notesText quoted (h .1)) (element quoted n) (elements quoted true k ns)
   where
     glue : (s a b c d : List ℕ) → s ++ ((a ++ b ++ c) ++ d) ≡ (s ++ a ++ b ++ c) ++ d
     glue s a b c d = simp append-assoc
@@ -38,28 +38,28 @@ glue-child a b c e d = simp append-assoc
 mutual
   unfolding item items element elements front broken deeper lead Fine Fines
 
-  item-element : (d : ℕ) (k : Frame) (ss : List Sym) (n : Node) → Fine d k ss n → item 3 0 n ≡ element n
-  item-element d k ss (scalar s) f = refl
-  item-element zero k ss (nest g ns) f = absurd f
-  item-element (suc d) k ss (nest g ns) f =
-      ap (λ (x : List ℕ). opening g ++ x ++ items 3 g 0 ns ++ closing g) refl
-      ∙ ap (λ (x : List ℕ). x ++ items 3 g 0 ns ++ closing g) (append-nil (opening g))
-      ∙ ap (λ (x : List ℕ). opening g ++ x ++ closing g) (items-elements d g ns (f .2) (f .0))
-  item-element d k ss marker f = refl
+  item-element : (quoted : Bool) (d : ℕ) (k : Frame) (ss : List Sym) (n : Node) → Fine d k ss n → item quoted 3 0 n ≡ element quoted n
+  item-element quoted d k ss (scalar s) f = refl
+  item-element quoted zero k ss (nest g ns) f = absurd f
+  item-element quoted (suc d) k ss (nest g ns) f =
+      ap (λ (x : List ℕ). opening g ++ x ++ items quoted 3 g 0 ns ++ closing g) refl
+      ∙ ap (λ (x : List ℕ). x ++ items quoted 3 g 0 ns ++ closing g) (append-nil (opening g))
+      ∙ ap (λ (x : List ℕ). opening g ++ x ++ closing g) (items-elements quoted d g ns (f .2) (f .0))
+  item-element quoted d k ss marker f = refl
 
-  items-elements : (d : ℕ) (k : Frame) (ns : Nodes) → Fines d k ns → Inner k → items 3 k 0 ns ≡ elements false k ns
-  items-elements d k nil f i = refl
-  items-elements d k (more h n ns) f i =
-      ap (λ (x : List ℕ). (nameText (h .0) ++ notesText (h .1) ++ (item 3 0 n ++ ending 3 k (isNil ns))) ++ x) (items-elements d k ns (f .2) i)
-      ∙ ap (λ (x : List ℕ). (nameText (h .0) ++ notesText (h .1) ++ (x ++ ending 3 k (isNil ns))) ++ elements false k ns) (item-element d k (h .1) n (f .1))
-      ∙ glue-child (nameText (h .0)) (notesText (h .1)) (element n) (ending 3 k (isNil ns)) (elements false k ns)
-      ∙ ap (λ (x : List ℕ). (nameText (h .0) ++ notesText (h .1) ++ element n) ++ x) (ending-lead k ns i)
+  items-elements : (quoted : Bool) (d : ℕ) (k : Frame) (ns : Nodes) → Fines d k ns → Inner k → items quoted 3 k 0 ns ≡ elements quoted false k ns
+  items-elements quoted d k nil f i = refl
+  items-elements quoted d k (more h n ns) f i =
+      ap (λ (x : List ℕ). (nameText quoted (h .0) ++ notesText quoted (h .1) ++ (item quoted 3 0 n ++ ending 3 k (isNil ns))) ++ x) (items-elements quoted d k ns (f .2) i)
+      ∙ ap (λ (x : List ℕ). (nameText quoted (h .0) ++ notesText quoted (h .1) ++ (x ++ ending 3 k (isNil ns))) ++ elements quoted false k ns) (item-element quoted d k (h .1) n (f .1))
+      ∙ glue-child (nameText quoted (h .0)) (notesText quoted (h .1)) (element quoted n) (ending 3 k (isNil ns)) (elements quoted false k ns)
+      ∙ ap (λ (x : List ℕ). (nameText quoted (h .0) ++ notesText quoted (h .1) ++ element quoted n) ++ x) (ending-lead quoted k ns i)
 
 -- one node at top level
-pub items-tree : (d : ℕ) (ns : Nodes) → Fines d Top ns → size ns ≡ 1 → items 3 Top 0 ns ≡ treeText ns
+pub items-tree : (quoted : Bool) (d : ℕ) (ns : Nodes) → Fines d Top ns → size ns ≡ 1 → items quoted 3 Top 0 ns ≡ treeText quoted ns
 unfolding items elements front lead ending treeText size Fines
-items-tree d nil f s = absurd (omega arith)
-items-tree d (more h n nil) f s =
-    ap (λ (x : List ℕ). (nameText (h .0) ++ notesText (h .1) ++ (x ++ [])) ++ []) (item-element d Top (h .1) n (f .1))
-    ∙ ap (λ (x : List ℕ). (nameText (h .0) ++ notesText (h .1) ++ x) ++ []) (append-nil (element n))
-items-tree d (more h n (more g m ns)) f s = absurd (omega arith)
+items-tree quoted d nil f s = absurd (omega arith)
+items-tree quoted d (more h n nil) f s =
+    ap (λ (x : List ℕ). (nameText quoted (h .0) ++ notesText quoted (h .1) ++ (x ++ [])) ++ []) (item-element quoted d Top (h .1) n (f .1))
+    ∙ ap (λ (x : List ℕ). (nameText quoted (h .0) ++ notesText quoted (h .1) ++ x) ++ []) (append-nil (element quoted n))
+items-tree quoted d (more h n (more g m ns)) f s = absurd (omega arith)

@@ -36,7 +36,7 @@ use Rattle.measure.proofs.TextSums.{tree-sums}
 use Rattle.measure.proofs.Bound.{tape-most}
 use Rattle.measure.proofs.Verdicts.{Summed}
 use Rattle.tree.specs.Text.{treeText}
-use Rattle.tree.specs.Outcome.{isMarker, unsuited, refusal, written, leaves, treeLength}
+use Rattle.tree.specs.Outcome.{isMarker, unsuited, refusal, writtenWith, leavesWith, treeLengthWith}
 use Rattle.tree.proofs.Texts.{items-tree}
 
 -- ---- the first node is the marker exactly where the first byte is 14
@@ -180,54 +180,54 @@ module _ (t : List ℕ) where
 
 -- ---- answers and buffers
 
-module _ (t : List ℕ) (f : ℕ) (nz : f ≡ 0 → ⊥) (e : refusal t ≡ f) where
-  pub refused-by : (n : ℕ) → refused f ≡ written t n
-  unfolding written
+module _ (quoted : Bool) (t : List ℕ) (f : ℕ) (nz : f ≡ 0 → ⊥) (e : refusal t ≡ f) where
+  pub refused-by : (n : ℕ) → refused f ≡ writtenWith quoted t n
+  unfolding writtenWith
   refused-by n = rw e (answered-refused f nz _)
 
-  pub kept-by : (b : List ℕ) → b ≡ leaves t b
-  unfolding leaves
+  pub kept-by : (b : List ℕ) → b ≡ leavesWith quoted t b
+  unfolding leavesWith
   kept-by b = rw e (left-kept f nz _ b)
 
-module _ (t b b′ : List ℕ) (r : ℕ) (m : Bytes t) (v : verdict t ≡ 0) (o : size (bodyOf t .0) ≡ 1) (e : refusal t ≡ 0) (w : Wrote b b′ 0 r (items 3 Top 0 (walk 65 Top (part t 0 (length t - 8)) .0))) where
-  whole : Wrote b b′ 0 r (treeText (nodesOf t))
+module _ (quoted : Bool) (t b b′ : List ℕ) (r : ℕ) (m : Bytes t) (v : verdict t ≡ 0) (o : size (bodyOf t .0) ≡ 1) (e : refusal t ≡ 0) (w : Wrote b b′ 0 r (items quoted 3 Top 0 (walk 65 Top (part t 0 (length t - 8)) .0))) where
+  whole : Wrote b b′ 0 r (treeText quoted (nodesOf t))
   unfolding nodesOf
-  whole = subst (Wrote b b′ 0 r) (ap (items 3 Top 0) (nodes-walked t) ∙ items-tree 64 (nodesOf t) (tape-fine t m v) o) w
+  whole = subst (Wrote b b′ 0 r) (ap (items quoted 3 Top 0) (nodes-walked t) ∙ items-tree quoted 64 (nodesOf t) (tape-fine t m v) o) w
 
-  pub laid-by : b′ ≡ leaves t b
-  unfolding leaves
+  pub laid-by : b′ ≡ leavesWith quoted t b
+  unfolding leavesWith
   laid-by = rw e (wrote-laid whole)
 
-  pub counted-by : r ≤ length b → counted r ≡ written t (length b)
-  unfolding written
+  pub counted-by : r ≤ length b → counted r ≡ writtenWith quoted t (length b)
+  unfolding writtenWith
   counted-by h = rw e (wrote-counted whole h)
 
-  pub clipped-by : length b < r → refused 6 ≡ written t (length b)
-  unfolding written
+  pub clipped-by : length b < r → refused 6 ≡ writtenWith quoted t (length b)
+  unfolding writtenWith
   clipped-by h = rw e (wrote-clipped whole h)
 
 -- ---- lengths
 
-pub length-refused : (t : List ℕ) (f : ℕ) → (f ≡ 0 → ⊥) → refusal t ≡ f → refused f ≡ treeLength t
-unfolding treeLength
-length-refused t f nz e = rw e (answered-refused f nz _)
+pub length-refused : (quoted : Bool) (t : List ℕ) (f : ℕ) → (f ≡ 0 → ⊥) → refusal t ≡ f → refused f ≡ treeLengthWith quoted t
+unfolding treeLengthWith
+length-refused quoted t f nz e = rw e (answered-refused f nz _)
 
 -- the text has its contents, and its separators but those behind the last child of a body
-text-long : (t : List ℕ) → Bytes t → verdict t ≡ 0 → size (nodesOf t) ≡ 1 → length (treeText (nodesOf t)) + lasts Top (nodesOf t) ≡ contents (nodesOf t) + separators Top (nodesOf t)
-text-long t m v o =
-    let w = ap (λ (l : List ℕ). length l) (items-tree 64 (nodesOf t) (tape-fine t m v) o) in
-    let n = tree-sums (nodesOf t) in
+text-long : (quoted : Bool) (t : List ℕ) → Bytes t → verdict t ≡ 0 → size (nodesOf t) ≡ 1 → length (treeText quoted (nodesOf t)) + lasts Top (nodesOf t) ≡ contents quoted (nodesOf t) + separators Top (nodesOf t)
+text-long quoted t m v o =
+    let w = ap (λ (l : List ℕ). length l) (items-tree quoted 64 (nodesOf t) (tape-fine t m v) o) in
+    let n = tree-sums quoted (nodesOf t) in
     omega arith
 
-pub length-counted : (t a : List ℕ) → Bytes t → verdict t ≡ 0 → size (bodyOf t .0) ≡ 1 → refusal t ≡ 0 → Summed t a → counted (getD a 0 0 + (getD a 1 0 - getD a 2 0)) ≡ treeLength t
-unfolding treeLength nodesOf
-length-counted t a m v o e s =
-    let n = text-long t m v o in
+pub length-counted : (quoted : Bool) (t a : List ℕ) → Bytes t → verdict t ≡ 0 → size (bodyOf t .0) ≡ 1 → refusal t ≡ 0 → Summed quoted t a → counted (getD a 0 0 + (getD a 1 0 - getD a 2 0)) ≡ treeLengthWith quoted t
+unfolding treeLengthWith nodesOf
+length-counted quoted t a m v o e s =
+    let n = text-long quoted t m v o in
     let c = s .contents in
     let g = s .separators in
     let b = s .lasts in
     let f = s .fewer in
-    let l : getD a 0 0 + (getD a 1 0 - getD a 2 0) ≡ length (treeText (nodesOf t)) = omega arith in
+    let l : getD a 0 0 + (getD a 1 0 - getD a 2 0) ≡ length (treeText quoted (nodesOf t)) = omega arith in
     rw e (ap counted l)
 
 -- a suited tape has one node
@@ -238,11 +238,11 @@ suited (more h n nil) e = refl
 suited (more h n (more g m ns)) e = absurd (omega arith)
 
 -- a text that is told is not too long
-pub length-small : (t : List ℕ) → Bytes t → refusal t ≡ 0 → length (treeText (nodesOf t)) < limit
+pub length-small : (quoted : Bool) (t : List ℕ) → Bytes t → refusal t ≡ 0 → length (treeText quoted (nodesOf t)) < limit
 unfolding refusal
-length-small t m e =
+length-small quoted t m e =
     let z = first-zero (verdict t) (if (unsuited (nodesOf t)) 5 0) e in
-    let n = text-long t m (z .0) (suited (nodesOf t) (z .1)) in
-    let p = tape-most t m (z .0) in
+    let n = text-long quoted t m (z .0) (suited (nodesOf t) (z .1)) in
+    let p = tape-most quoted t m (z .0) in
     let most = verdict-told t (z .0) .most in
     omega arith

@@ -1,4 +1,5 @@
--- What `write_tree` and `tree_length` answer, and what `write_tree` leaves in the buffer, for every tape and buffer. Assumes nothing: these are definitions.
+-- What `write_tree_with`, `write_tree`, `tree_length_with` and `tree_length` answer, and what the first two leave in the buffer, for every tape and
+-- buffer. Assumes nothing: these are definitions.
 use Prim.Native.Nat.{ℕ}
 use mathlib.Core.List.{List}
 use lib.ListN.{length}
@@ -28,14 +29,26 @@ unsuited (more h n (more h′ n′ ns)) = true
 unfoldable pub refusal : List ℕ → ℕ
 refusal t = first (verdict t) (if (unsuited (nodesOf t)) 5 0)
 
--- the answer, for a buffer of n bytes: the text's length, or 6 where it is longer than the buffer
-unfoldable pub written : List ℕ → ℕ → Outcome
-written t n = answered (refusal t) (measured (treeText (nodesOf t)) n)
+-- "A setting … under which every symbol text is quoted"
+module _ (quoted : Bool) where
+  -- the answer, for a buffer of n bytes: the text's length, or 6 where it is longer than the buffer
+  unfoldable pub writtenWith : List ℕ → ℕ → Outcome
+  writtenWith t n = answered (refusal t) (measured (treeText quoted (nodesOf t)) n)
 
--- the whole buffer after the call: untouched where a refusal comes before measuring, else the text laid at its start
-unfoldable pub leaves : List ℕ → List ℕ → List ℕ
-leaves t b = left (refusal t) (laid (treeText (nodesOf t)) b) b
+  -- the whole buffer after the call: untouched where a refusal comes before measuring, else the text laid at its start
+  unfoldable pub leavesWith : List ℕ → List ℕ → List ℕ
+  leavesWith t b = left (refusal t) (laid (treeText quoted (nodesOf t)) b) b
 
--- "the exact number of bytes the text will have"; "a tape that the writer would turn down gives the number the writer gives, except that 6 cannot occur"
-unfoldable pub treeLength : List ℕ → Outcome
-treeLength t = answered (refusal t) (counted (length (treeText (nodesOf t))))
+  -- "the exact number of bytes the text will have"; "a tape that the writer would turn down gives the number the writer gives, except that 6 cannot occur"
+  unfoldable pub treeLengthWith : List ℕ → Outcome
+  treeLengthWith t = answered (refusal t) (counted (length (treeText quoted (nodesOf t))))
+
+-- "with the setting off the bytes are those of before"
+abbrev pub written : List ℕ → ℕ → Outcome
+written = writtenWith false
+
+abbrev pub leaves : List ℕ → List ℕ → List ℕ
+leaves = leavesWith false
+
+abbrev pub treeLength : List ℕ → Outcome
+treeLength = treeLengthWith false

@@ -17,18 +17,20 @@ lead true ListF = ascii ", "
 lead true Sexp = ascii " "
 lead true Struct = ascii ", "
 
--- `[1, 2]`, `(1 2)`, `{a: 1}`. A marker is refused by 5, so its text is never asked for
-unfoldable mutual
-  pub element : Node → List ℕ
-  element (scalar s) = scalarText s
-  element (nest k ns) = opening k ++ elements false k ns ++ closing k
-  element marker = ascii "$ion_1_0"
+-- `quoted`: every symbol text is quoted
+module _ (quoted : Bool) where
+  -- `[1, 2]`, `(1 2)`, `{a: 1}`. A marker is refused by 5, so its text is never asked for
+  unfoldable mutual
+    pub element : Node → List ℕ
+    element (scalar s) = scalarText quoted s
+    element (nest k ns) = opening k ++ elements false k ns ++ closing k
+    element marker = ascii "$ion_1_0"
 
-  -- the children from one on; b: another stands before it
-  pub elements : Bool → Frame → Nodes → List ℕ
-  elements b k nil = []
-  elements b k (more h n ns) = (lead b k ++ nameText (h .0) ++ notesText (h .1) ++ element n) ++ elements true k ns
+    -- the children from one on; b: another stands before it
+    pub elements : Bool → Frame → Nodes → List ℕ
+    elements b k nil = []
+    elements b k (more h n ns) = (lead b k ++ nameText quoted (h .0) ++ notesText quoted (h .1) ++ element n) ++ elements true k ns
 
--- the tree text of a tape's nodes, of which there is one
-unfoldable pub treeText : Nodes → List ℕ
-treeText ns = elements false Top ns
+  -- the tree text of a tape's nodes, of which there is one
+  unfoldable pub treeText : Nodes → List ℕ
+  treeText ns = elements false Top ns

@@ -60,33 +60,33 @@ module _ (n : ℕ) where
   mutual
     unfolding text texts broken deeper
 
-    moved-text : (m : Node) (w v : ℕ) → 1 ≤ w → v ≡ n + w → Moved false false (text 2 w m) (text 2 v m)
-    moved-text (scalar s) w v h e = moved-inside (scalarText s) (unbroken-scalar s)
-    moved-text (nest k ns) w v h e =
+    moved-text : (quoted : Bool) (m : Node) (w v : ℕ) → 1 ≤ w → v ≡ n + w → Moved false false (text quoted 2 w m) (text quoted 2 v m)
+    moved-text quoted (scalar s) w v h e = moved-inside (scalarText quoted s) (unbroken-scalar quoted s)
+    moved-text quoted (nest k ns) w v h e =
         moved-then
         (moved-then
-        (moved-then (moved-then (moved-inside (opening k) (unbroken-opening k)) moved-break) (moved-texts ns k (w + 2) (v + 2) (omega arith) (omega arith)))
+        (moved-then (moved-then (moved-inside (opening k) (unbroken-opening k)) moved-break) (moved-texts quoted ns k (w + 2) (v + 2) (omega arith) (omega arith)))
         (moved-blanks w v h e))
         (moved-inside (closing k) (unbroken-closing k))
-    moved-text marker w v h e = moved-inside (ascii "$ion_1_0") unbroken-marker
+    moved-text quoted marker w v h e = moved-inside (ascii "$ion_1_0") unbroken-marker
 
-    moved-texts : (ns : Nodes) (k : Frame) (w v : ℕ) → 1 ≤ w → v ≡ n + w → Moved true true (texts 2 k w ns) (texts 2 k v ns)
-    moved-texts nil k w v h e = record { moves = λ t. refl }
-    moved-texts (more x m ns) k w v h e =
+    moved-texts : (quoted : Bool) (ns : Nodes) (k : Frame) (w v : ℕ) → 1 ≤ w → v ≡ n + w → Moved true true (texts quoted 2 k w ns) (texts quoted 2 k v ns)
+    moved-texts quoted nil k w v h e = record { moves = λ t. refl }
+    moved-texts quoted (more x m ns) k w v h e =
         moved-then
         (moved-then
-        (moved-then (moved-then (moved-blanks w v h e) (moved-inside (nameText (x .0)) (unbroken-name (x .0)))) (moved-text m w v h e))
+        (moved-then (moved-then (moved-blanks w v h e) (moved-inside (nameText quoted (x .0)) (unbroken-name quoted (x .0)))) (moved-text quoted m w v h e))
         (moved-separator k))
-        (moved-texts ns k w v h e)
+        (moved-texts quoted ns k w v h e)
 
 -- in every frame, the top level's included
-pub indented-texts : (w : ℕ) (k : Frame) (ns : Nodes) → 2 ≤ w → texts 2 k w ns ≡ indented (w - 2) (texts 2 k 2 ns)
+pub indented-texts : (quoted : Bool) (w : ℕ) (k : Frame) (ns : Nodes) → 2 ≤ w → texts quoted 2 k w ns ≡ indented (w - 2) (texts quoted 2 k 2 ns)
 unfolding indented indentedFrom
-indented-texts w k ns h =
-    sym (append-nil (texts 2 k w ns))
-    ∙ sym (moved-texts (w - 2) ns k 2 w (omega arith) (omega arith) .moves [])
-    ∙ ap (indentedFrom true (w - 2)) (append-nil (texts 2 k 2 ns))
+indented-texts quoted w k ns h =
+    sym (append-nil (texts quoted 2 k w ns))
+    ∙ sym (moved-texts (w - 2) quoted ns k 2 w (omega arith) (omega arith) .moves [])
+    ∙ ap (indentedFrom true (w - 2)) (append-nil (texts quoted 2 k 2 ns))
 
 -- and so is what the walk writes
-pub wrote-moved : {b b′ : List ℕ} {p r : ℕ} (y w : ℕ) (k : Frame) (ns : Nodes) → Wrote b b′ p r (items y k w ns) → y ≡ 2 → 2 ≤ w → Wrote b b′ p r (indented (w - 2) (texts 2 k 2 ns))
-wrote-moved y w k ns h e m = rw (ap (λ (x : ℕ). items x k w ns) e ∙ items-texts 2 refl k w ns ∙ indented-texts w k ns m) at h
+pub wrote-moved : {b b′ : List ℕ} {p r : ℕ} (quoted : Bool) (y w : ℕ) (k : Frame) (ns : Nodes) → Wrote b b′ p r (items quoted y k w ns) → y ≡ 2 → 2 ≤ w → Wrote b b′ p r (indented (w - 2) (texts quoted 2 k 2 ns))
+wrote-moved quoted y w k ns h e m = rw (ap (λ (x : ℕ). items quoted x k w ns) e ∙ items-texts quoted 2 refl k w ns ∙ indented-texts quoted w k ns m) at h

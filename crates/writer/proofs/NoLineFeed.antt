@@ -13,7 +13,6 @@ use borrow.Author.Tests.{eqb-true, ne-eqb}
 use Rattle.output.specs.Logic.{if, byte, ascii}
 use Rattle.text_rules.specs.Digits.{isDigit, digits, pad}
 use Rattle.text_rules.specs.Words.{isStart, isPart, behindWord}
-use Rattle.text_rules.specs.WordSteps.{isBare}
 use Rattle.text_rules.specs.Escapes.{hasLetter, letterOf, hexDigit, hexEscape, hasHex, textEscape, textBody, clobEscape, clobBody}
 use Rattle.text_rules.specs.Base64.{alphabet, base64Character, characters24, base64}
 use Rattle.text_rules.specs.Text.{Sym, marked, symbolText, symbolIdText, stringText, clobText, blobText, typeName, nullText, boolText}
@@ -28,7 +27,7 @@ use Rattle.tape.specs.declared.Frame.the-variants.{Top, List as ListF, Sexp, St
 use Rattle.writer.specs.Text.{symText, scalarText, nameText, opening, closing, blanks, unbroken}
 use Rattle.text_rules.proofs.DigitLaws.{never, Digits, digit-range, digits-take, digits-drop, digits-zeros, digits-pad, digits-digits}
 use Rattle.text_rules.proofs.WordsBack.{word-all, identifier-word, unlike}
-use Rattle.text_rules.proofs.SymbolsText.{bare-is, symbol-bare, symbol-marked}
+use Rattle.text_rules.proofs.SymbolsText.{bare-is, symbol-either}
 use Rattle.floats.proofs.WholeBytes.{whole-all}
 
 -- ---- texts without LF
@@ -173,22 +172,18 @@ unbroken-base64 (a ∷ b ∷ c ∷ s) = unbroken-character _ (unbroken-character
 
 -- ---- symbols, strings, clobs, blobs
 
-unbroken-symbol : (s : List ℕ) → Unbroken (symbolText s)
-unbroken-symbol s = go (isBare s) refl
-  where
-    go : (b : Bool) → isBare s ≡ b → Unbroken (symbolText s)
-    go true i = rw (symbol-bare s i) (unbroken-word s (identifier-word s (bare-is s i .identifier)))
-    go false i = rw (symbol-marked s i) (unbroken-marked (byte "'") s refl)
+unbroken-symbol : (quoted : Bool) (s : List ℕ) → Unbroken (symbolText quoted s)
+unbroken-symbol quoted s = symbol-either Unbroken quoted s (λ i. unbroken-word s (identifier-word s (bare-is s i .identifier))) (unbroken-marked (byte "'") s refl)
 
-unbroken-sym : (s : Sym) → Unbroken (symText s)
+unbroken-sym : (quoted : Bool) (s : Sym) → Unbroken (symText quoted s)
 unfolding symText symbolIdText
-unbroken-sym (Sym.text s) = unbroken-symbol s
-unbroken-sym (Sym.id n) = unbroken-byte (byte "$") refl (unbroken-number n)
+unbroken-sym quoted (Sym.text s) = unbroken-symbol quoted s
+unbroken-sym quoted (Sym.id n) = unbroken-byte (byte "$") refl (unbroken-number n)
 
-pub unbroken-name : (x : Option Sym) → Unbroken (nameText x)
+pub unbroken-name : (quoted : Bool) (x : Option Sym) → Unbroken (nameText quoted x)
 unfolding nameText unbroken
-unbroken-name none = unbroken-nil
-unbroken-name (some s) = unbroken-both (unbroken-sym s) record { told = refl }
+unbroken-name quoted none = unbroken-nil
+unbroken-name quoted (some s) = unbroken-both (unbroken-sym quoted s) record { told = refl }
 
 unbroken-clob : (s : List ℕ) → Unbroken (clobText s)
 unfolding clobText unbroken
@@ -314,18 +309,18 @@ unbroken-timestamp x =
     (unbroken-fraction (x .digits) (x .fraction))) (unbroken-offset (x .offset))))))
 
 -- no scalar is written with an LF
-pub unbroken-scalar : (s : Scalar) → Unbroken (scalarText s)
+pub unbroken-scalar : (quoted : Bool) (s : Scalar) → Unbroken (scalarText quoted s)
 unfolding scalarText stringText
-unbroken-scalar (null t) = unbroken-null t
-unbroken-scalar (bool b) = unbroken-bool b
-unbroken-scalar (int n) = unbroken-int n
-unbroken-scalar (float x) = unbroken-float x
-unbroken-scalar (decimal neg m e) = unbroken-decimal neg m e
-unbroken-scalar (timestamp x) = unbroken-timestamp x
-unbroken-scalar (symbol s) = unbroken-sym s
-unbroken-scalar (string s) = unbroken-marked (byte "\"") s refl
-unbroken-scalar (clob s) = unbroken-clob s
-unbroken-scalar (blob s) = unbroken-blob s
+unbroken-scalar quoted (null t) = unbroken-null t
+unbroken-scalar quoted (bool b) = unbroken-bool b
+unbroken-scalar quoted (int n) = unbroken-int n
+unbroken-scalar quoted (float x) = unbroken-float x
+unbroken-scalar quoted (decimal neg m e) = unbroken-decimal neg m e
+unbroken-scalar quoted (timestamp x) = unbroken-timestamp x
+unbroken-scalar quoted (symbol s) = unbroken-sym quoted s
+unbroken-scalar quoted (string s) = unbroken-marked (byte "\"") s refl
+unbroken-scalar quoted (clob s) = unbroken-clob s
+unbroken-scalar quoted (blob s) = unbroken-blob s
 
 -- ---- blanks, brackets, the marker
 

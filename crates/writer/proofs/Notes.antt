@@ -32,21 +32,21 @@ both {A} {a} e = (ap (λ (o : Option (A × ℕ)). reading o a (λ v i. v)) e, ap
 -- ---- annotations
 
 -- one symbol of those that end at v, and the others
-record Split (s : List ℕ) (from e v : ℕ) (ss : List Sym) (x : Sym) (n : ℕ) : Type 0 where
+record Split (quoted : Bool) (s : List ℕ) (from e v : ℕ) (ss : List Sym) (x : Sym) (n : ℕ) : Type 0 where
   count : ℕ
   rest : List Sym
   read : symsOf count (part s (from + n) e) ≡ some (rest, v - (from + n))
   fits : from + n ≤ v
-  text : notesText ss ≡ symText x ++ ascii "::" ++ notesText rest
+  text : notesText quoted ss ≡ symText quoted x ++ ascii "::" ++ notesText quoted rest
 
-module _ (s : List ℕ) (from e v : ℕ) where
-  split : (c : ℕ) (ss : List Sym) → symsOf c (part s from e) ≡ some (ss, v - from) → from < v → (x : Sym) (n : ℕ) → some (x, n) ≡ symOf (part s from e) → Split s from e v ss x n
+module _ (quoted : Bool) (s : List ℕ) (from e v : ℕ) where
+  split : (c : ℕ) (ss : List Sym) → symsOf c (part s from e) ≡ some (ss, v - from) → from < v → (x : Sym) (n : ℕ) → some (x, n) ≡ symOf (part s from e) → Split quoted s from e v ss x n
   unfolding symsOf notesText
   split zero ss r h x n m = let y : 0 ≡ v - from = both r .1 in absurd (omega arith)
   split (suc c) ss r h x n m =
       go (symsOf c (drop n (part s from e))) refl (ap (λ (o : Option (Sym × ℕ)). reading {B = Option (List Sym × ℕ)} o none (λ x n. reading (symsOf c (drop n (part s from e))) none (λ ts j. some (x ∷ ts, n + j)))) m ∙ r)
     where
-      go : (o : Option (List Sym × ℕ)) → symsOf c (drop n (part s from e)) ≡ o → reading {B = Option (List Sym × ℕ)} o none (λ ts j. some (x ∷ ts, n + j)) ≡ some (ss, v - from) → Split s from e v ss x n
+      go : (o : Option (List Sym × ℕ)) → symsOf c (drop n (part s from e)) ≡ o → reading {B = Option (List Sym × ℕ)} o none (λ ts j. some (x ∷ ts, n + j)) ≡ some (ss, v - from) → Split quoted s from e v ss x n
       go none q r = let y : _≡_ {A = ℕ} 0 1 = cc in absurd (omega arith)
       go (some (ts, j)) q r =
           let y : n + j ≡ v - from = both r .1 in
@@ -56,7 +56,7 @@ module _ (s : List ℕ) (from e v : ℕ) where
             rest = ts;
             read = ap (symsOf c) (sym (part-drop s from e n)) ∙ q ∙ ap (λ (k : ℕ). some (ts, k)) i;
             fits = omega arith;
-            text = sym (ap notesText (both r .0));
+            text = sym (ap (notesText quoted) (both r .0));
           }
 
   unsplit : (c : ℕ) (ss : List Sym) → symsOf c (part s from e) ≡ some (ss, v - from) → from < v → none ≡ symOf (part s from e) → ⊥
@@ -82,29 +82,29 @@ syms-nothing (suc c) l ss r = go (symOf l) (sym-long l) r
     go (some (x, n)) (long h) r = inner x n h (symsOf c (drop n l)) r
 
 -- Annotations are being written: those before `from` are, those from there to v are left
-pub record Noting (a b : List ℕ) (pos p : ℕ) (whole s : List ℕ) (from e v : ℕ) : Type 0 where
+pub record Noting (quoted : Bool) (a b : List ℕ) (pos p : ℕ) (whole s : List ℕ) (from e v : ℕ) : Type 0 where
   pub count : ℕ
   pub notes : List Sym
   pub read : symsOf count (part s from e) ≡ some (notes, v - from)
   pub before : from ≤ v
-  pub progress : Progress a b pos p whole (notesText notes)
+  pub progress : Progress a b pos p whole (notesText quoted notes)
 
-module _ {a b : List ℕ} {pos p : ℕ} {whole s : List ℕ} {from e v : ℕ} (g : Noting a b pos p whole s from e v) where
+module _ {quoted : Bool} {a b : List ℕ} {pos p : ℕ} {whole s : List ℕ} {from e v : ℕ} (g : Noting quoted a b pos p whole s from e v) where
   pub notes-done : v ≤ from → Wrote a b pos p whole
   unfolding notesText
   notes-done h =
       let y : v - from ≡ 0 = omega arith in
-      finish (g .progress) (ap notesText (syms-nothing (g .count) (part s from e) (g .notes) (g .read ∙ ap (λ (i : ℕ). some (g .notes, i)) y)))
+      finish (g .progress) (ap (notesText quoted) (syms-nothing (g .count) (part s from e) (g .notes) (g .read ∙ ap (λ (i : ℕ). some (g .notes, i)) y)))
 
   pub note-bad : from < v → none ≡ symOf (part s from e) → ⊥
-  note-bad h m = unsplit s from e v (g .count) (g .notes) (g .read) h m
+  note-bad h m = unsplit quoted s from e v (g .count) (g .notes) (g .read) h m
 
   pub note-fits : from < v → (x : Sym) (n : ℕ) → some (x, n) ≡ symOf (part s from e) → from + n ≤ v
-  note-fits h x n m = split s from e v (g .count) (g .notes) (g .read) h x n m .fits
+  note-fits h x n m = split quoted s from e v (g .count) (g .notes) (g .read) h x n m .fits
 
-  pub note-written : from < v → (x : Sym) (n : ℕ) → some (x, n) ≡ symOf (part s from e) → {c : List ℕ} {q : ℕ} → Wrote b c p q (symText x ++ ascii "::") → Noting a c pos q whole s (from + n) e v
+  pub note-written : from < v → (x : Sym) (n : ℕ) → some (x, n) ≡ symOf (part s from e) → {c : List ℕ} {q : ℕ} → Wrote b c p q (symText quoted x ++ ascii "::") → Noting quoted a c pos q whole s (from + n) e v
   note-written h x n m w =
-      let i = split s from e v (g .count) (g .notes) (g .read) h x n m in
+      let i = split quoted s from e v (g .count) (g .notes) (g .read) h x n m in
       record { count = i .count; notes = i .rest; read = i .read; before = i .fits; progress = further (g .progress) w (i .text) }
 
 -- annotations, behind the kind byte and their number; or none
@@ -149,18 +149,18 @@ notes-nothing l ss =
     go none e = let y : _≡_ {A = ℕ} 0 1 = cc in absurd (omega arith)
     go (some (ts, j)) e = let y : 2 + j ≡ 0 = both e .1 in absurd (omega arith)
 
-module _ (s : List ℕ) (at e v : ℕ) (z : placeOf at (notesOf (part s at e)) ≡ At v) where
-  pub notes-absent : at ≡ v → notesText (notesIn (part s at e)) ≡ []
+module _ (quoted : Bool) (s : List ℕ) (at e v : ℕ) (z : placeOf at (notesOf (part s at e)) ≡ At v) where
+  pub notes-absent : at ≡ v → notesText quoted (notesIn (part s at e)) ≡ []
   unfolding notesText
   notes-absent h =
       let y : v - at ≡ 0 = omega arith in
       let r = place-read [] at v (notesOf (part s at e)) z .1 in
-      ap notesText (notes-nothing (part s at e) (notesIn (part s at e)) (r ∙ ap (λ (i : ℕ). some (notesIn (part s at e), i)) y))
+      ap (notesText quoted) (notes-nothing (part s at e) (notesIn (part s at e)) (r ∙ ap (λ (i : ℕ). some (notesIn (part s at e), i)) y))
 
   pub notes-room : at ≤ e → e ≤ length s → v ≤ e
   notes-room h i = place-within encodeNotes s at e v (notesOf (part s at e)) h i (notes-sound (part s at e)) z .1
 
-  pub notes-start : (at ≡ v → ⊥) → (b : List ℕ) (pos : ℕ) → pos ≤ limit → length b < limit → Noting b b pos pos (notesText (notesIn (part s at e))) s (at + 2) e v
+  pub notes-start : (at ≡ v → ⊥) → (b : List ℕ) (pos : ℕ) → pos ≤ limit → length b < limit → Noting quoted b b pos pos (notesText quoted (notesIn (part s at e))) s (at + 2) e v
   notes-start h b pos i j =
       let r = place-read [] at v (notesOf (part s at e)) z in
       let m = r .0 in
@@ -194,13 +194,13 @@ notes-head k s at e q h m z r = go (nameOf k (part s at e)) z r
         ap (λ (i : ℕ). notesIn (part s i e)) (sym y) ∙ ap notesIn (sym (part-drop s at e n)) ∙ behind a n (notesOf (drop n (part s at e))) r
 
 -- a head is written in three parts
-pub front-parts : (y w : ℕ) (k : Frame) (s : List ℕ) (at e q v : ℕ) → placeOf at (nameOf k (part s at e)) ≡ At q → placeOf at (headOf k (part s at e)) ≡ At v
-    → front y w (headAt k (part s at e)) ≡ blanks w ++ nameText (nameIn k (part s at e)) ++ if (eqb y 3) (notesText (notesIn (part s q e))) []
+pub front-parts : (quoted : Bool) (y w : ℕ) (k : Frame) (s : List ℕ) (at e q v : ℕ) → placeOf at (nameOf k (part s at e)) ≡ At q → placeOf at (headOf k (part s at e)) ≡ At v
+    → front quoted y w (headAt k (part s at e)) ≡ blanks w ++ nameText quoted (nameIn k (part s at e)) ++ if (eqb y 3) (notesText quoted (notesIn (part s q e))) []
 unfolding front
-front-parts y w k s at e q v n z =
+front-parts quoted y w k s at e q v n z =
     let r = place-read (none, []) at v (headOf k (part s at e)) z .1 in
-    ap (λ (a : Option Sym). blanks w ++ nameText a ++ if (eqb y 3) (notesText (headAt k (part s at e) .1)) []) (sym (name-head k _ _ _ r))
-    ∙ ap (λ (ss : List Sym). blanks w ++ nameText (nameIn k (part s at e)) ++ if (eqb y 3) (notesText ss) []) (sym (notes-head k s at e q _ _ (sym n) r))
+    ap (λ (a : Option Sym). blanks w ++ nameText quoted a ++ if (eqb y 3) (notesText quoted (headAt k (part s at e) .1)) []) (sym (name-head k _ _ _ r))
+    ∙ ap (λ (ss : List Sym). blanks w ++ nameText quoted (nameIn k (part s at e)) ++ if (eqb y 3) (notesText quoted ss) []) (sym (notes-head k s at e q _ _ (sym n) r))
 
 -- a head is there, and its name ends at q
 module _ (k : Frame) (s : List ℕ) (at e : ℕ) (r : headOf k (part s at e) ≡ some (headAt k (part s at e), sizeTaken (headOf k (part s at e)))) where
@@ -233,13 +233,13 @@ module _ (k : Frame) (s : List ℕ) (at e : ℕ) (r : headOf k (part s at e) ≡
           let x : q + 0 ≡ at + sizeTaken (headOf k (part s at e)) = cc in
           omega arith
 
-      pub bare-front : (y w : ℕ) → front y w (headAt k (part s at e)) ≡ blanks w ++ nameText (nameIn k (part s at e))
+      pub bare-front : (quoted : Bool) (y w : ℕ) → front quoted y w (headAt k (part s at e)) ≡ blanks w ++ nameText quoted (nameIn k (part s at e))
       unfolding notesText
-      bare-front y w =
-          front-parts y w k s at e q (at + sizeTaken (headOf k (part s at e))) name-placed (ap (placeOf at) r)
-          ∙ ap (λ (o : Option (List Sym × ℕ)). blanks w ++ nameText (nameIn k (part s at e)) ++ if (eqb y 3) (notesText (reading o [] (λ ss n. ss))) []) noteless
+      bare-front quoted y w =
+          front-parts quoted y w k s at e q (at + sizeTaken (headOf k (part s at e))) name-placed (ap (placeOf at) r)
+          ∙ ap (λ (o : Option (List Sym × ℕ)). blanks w ++ nameText quoted (nameIn k (part s at e)) ++ if (eqb y 3) (notesText quoted (reading o [] (λ ss n. ss))) []) noteless
           ∙ go (eqb y 3)
         where
-          go : (b : Bool) → blanks w ++ nameText (nameIn k (part s at e)) ++ if b [] [] ≡ blanks w ++ nameText (nameIn k (part s at e))
+          go : (b : Bool) → blanks w ++ nameText quoted (nameIn k (part s at e)) ++ if b [] [] ≡ blanks w ++ nameText quoted (nameIn k (part s at e))
           go true = append-nil _
           go false = append-nil _

@@ -2,6 +2,7 @@
 use Prim.Native.Nat.{ℕ, _+_, _-_, _≤_}
 use mathlib.Core.Path.{_≡_, sym, ap, _∙_}
 use mathlib.Core.List.{List}
+use mathlib.Core.Bool.{Bool}
 use mathlib.Core.Option.{Option, none, some}
 use native.Mathlib.Omega.{arith}
 use lib.ListN.{length, take, drop}
@@ -29,14 +30,14 @@ module _ (s : List ℕ) (from n x : ℕ) (h : leBytes 8 x ≡ take 8 (drop from 
   pub word-bytes : n ≤ 8 → leBytes n x ≡ take n (drop from s)
   word-bytes m = sym (take-le n 8 x m) ∙ ap (take n) h ∙ take-take n 8 (drop from s) m
 
-  pub plain-word : n ≤ 8 → from + 8 ≤ length s → symbolText (leBytes n x) ≡ leBytes n x → Plain s from n
-  plain-word m r b = record { most = m; room = r; bare = sym (ap symbolText (word-bytes m)) ∙ b ∙ word-bytes m }
+  pub plain-word : (quoted : Bool) → n ≤ 8 → from + 8 ≤ length s → symbolText quoted (leBytes n x) ≡ leBytes n x → Plain quoted s from n
+  plain-word quoted m r b = record { most = m; room = r; bare = sym (ap (symbolText quoted) (word-bytes m)) ∙ b ∙ word-bytes m }
 
   -- a symbol that stands bare, as the code writes it
-  pub plain-text : (at e : ℕ) → from ≡ at + 5 → at + (5 + n) ≤ e → Plain s from n → symbolText (take n (drop 5 (part s at e))) ≡ leBytes n x
-  plain-text at e f g p =
+  pub plain-text : (quoted : Bool) (at e : ℕ) → from ≡ at + 5 → at + (5 + n) ≤ e → Plain quoted s from n → symbolText quoted (take n (drop 5 (part s at e))) ≡ leBytes n x
+  plain-text quoted at e f g p =
       let t : take n (drop 5 (part s at e)) ≡ take n (drop from s) = part-text s at e n (omega arith) ∙ ap (λ (i : ℕ). take n (drop i s)) (sym f) in
-      ap symbolText t ∙ p .bare ∙ sym (word-bytes (p .most))
+      ap (symbolText quoted) t ∙ p .bare ∙ sym (word-bytes (p .most))
 
 -- ---- names
 

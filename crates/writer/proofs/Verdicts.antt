@@ -19,7 +19,7 @@ use Rattle.tape.proofs.CodeFacts.{first-inner}
 use Rattle.tape.proofs.Verdicts.{nodes-walked}
 use Rattle.writer.specs.Text.{streamText}
 use Rattle.writer.specs.Steps.{items}
-use Rattle.writer.specs.Outcome.{laid, refusal, measured, answered, left, streamed, leaves}
+use Rattle.writer.specs.Outcome.{laid, refusal, measured, answered, left, streamedWith, leavesWith}
 use Rattle.writer.proofs.Items.{items-texts}
 
 -- ---- the refusal that comes before measuring
@@ -86,28 +86,28 @@ module _ {s b b′ : List ℕ} {r : ℕ} (w : Wrote b b′ 0 r s) where
 
 -- ---- of a streaming text
 
-module _ (y : ℕ) (t : List ℕ) (f : ℕ) (nz : f ≡ 0 → ⊥) (e : refusal y t ≡ f) where
-  pub refused-by : (n : ℕ) → refused f ≡ streamed y t n
-  unfolding streamed
+module _ (quoted : Bool) (y : ℕ) (t : List ℕ) (f : ℕ) (nz : f ≡ 0 → ⊥) (e : refusal y t ≡ f) where
+  pub refused-by : (n : ℕ) → refused f ≡ streamedWith quoted y t n
+  unfolding streamedWith
   refused-by n = rw e (answered-refused f nz _)
 
-  pub kept-by : (b : List ℕ) → b ≡ leaves y t b
-  unfolding leaves
+  pub kept-by : (b : List ℕ) → b ≡ leavesWith quoted y t b
+  unfolding leavesWith
   kept-by b = rw e (left-kept f nz _ b)
 
-module _ (y : ℕ) (t b b′ : List ℕ) (r : ℕ) (l : y ≤ 2) (e : refusal y t ≡ 0) (w : Wrote b b′ 0 r (items y Top 0 (walk 65 Top (part t 0 (length t - 8)) .0))) where
-  stream : Wrote b b′ 0 r (streamText y (nodesOf t))
+module _ (quoted : Bool) (y : ℕ) (t b b′ : List ℕ) (r : ℕ) (l : y ≤ 2) (e : refusal y t ≡ 0) (w : Wrote b b′ 0 r (items quoted y Top 0 (walk 65 Top (part t 0 (length t - 8)) .0))) where
+  stream : Wrote b b′ 0 r (streamText quoted y (nodesOf t))
   unfolding streamText
-  stream = subst (Wrote b b′ 0 r) (ap (items y Top 0) (nodes-walked t) ∙ items-texts y (ne-eqb y 3 (λ q. omega arith)) Top 0 (nodesOf t)) w
+  stream = subst (Wrote b b′ 0 r) (ap (items quoted y Top 0) (nodes-walked t) ∙ items-texts quoted y (ne-eqb y 3 (λ q. omega arith)) Top 0 (nodesOf t)) w
 
-  pub laid-by : b′ ≡ leaves y t b
-  unfolding leaves
+  pub laid-by : b′ ≡ leavesWith quoted y t b
+  unfolding leavesWith
   laid-by = rw e (wrote-laid stream)
 
-  pub counted-by : r ≤ length b → counted r ≡ streamed y t (length b)
-  unfolding streamed
+  pub counted-by : r ≤ length b → counted r ≡ streamedWith quoted y t (length b)
+  unfolding streamedWith
   counted-by h = rw e (wrote-counted stream h)
 
-  pub clipped-by : length b < r → refused 6 ≡ streamed y t (length b)
-  unfolding streamed
+  pub clipped-by : length b < r → refused 6 ≡ streamedWith quoted y t (length b)
+  unfolding streamedWith
   clipped-by h = rw e (wrote-clipped stream h)

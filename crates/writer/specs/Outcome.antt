@@ -1,6 +1,8 @@
--- What `write_stream` answers and what it leaves in the buffer, for every layout number, tape and buffer. Assumes nothing: these are definitions.
+-- What `write_stream_with` and `write_stream` answer and what they leave in the buffer, for every layout number, tape and buffer. Assumes nothing: these
+-- are definitions.
 use Prim.Native.Nat.{ℕ, zero, suc}
 use mathlib.Core.List.{List, _++_}
+use mathlib.Core.Bool.{Bool, false}
 use lib.ListN.{length, take, drop}
 use lib.Dec.{leb, ltb}
 use Rattle.output.specs.Logic.{if}
@@ -31,10 +33,19 @@ abbrev pub left : ℕ → List ℕ → List ℕ → List ℕ
 left zero b′ b = b′
 left (suc n) b′ b = b
 
--- the answer, for a buffer of n bytes
-unfoldable pub streamed : ℕ → List ℕ → ℕ → Outcome
-streamed y t n = answered (refusal y t) (measured (streamText y (nodesOf t)) n)
+-- "A setting … under which every symbol text is quoted"
+module _ (quoted : Bool) where
+  -- the answer, for a buffer of n bytes
+  unfoldable pub streamedWith : ℕ → List ℕ → ℕ → Outcome
+  streamedWith y t n = answered (refusal y t) (measured (streamText quoted y (nodesOf t)) n)
 
--- the whole buffer after the call: untouched where a refusal comes before measuring, else the text laid at its start
-unfoldable pub leaves : ℕ → List ℕ → List ℕ → List ℕ
-leaves y t b = left (refusal y t) (laid (streamText y (nodesOf t)) b) b
+  -- the whole buffer after the call: untouched where a refusal comes before measuring, else the text laid at its start
+  unfoldable pub leavesWith : ℕ → List ℕ → List ℕ → List ℕ
+  leavesWith y t b = left (refusal y t) (laid (streamText quoted y (nodesOf t)) b) b
+
+-- "with the setting off the bytes are those of before"
+abbrev pub streamed : ℕ → List ℕ → ℕ → Outcome
+streamed = streamedWith false
+
+abbrev pub leaves : ℕ → List ℕ → List ℕ → List ℕ
+leaves = leavesWith false

@@ -40,14 +40,14 @@ abbrev pub notesIn : List ℕ → List Sym
 notesIn l = reading (notesOf l) [] (λ ss n. ss)
 
 -- the n bytes of s from a place on are a symbol that stands bare, and eight bytes stand there
-pub record Plain (s : List ℕ) (from n : ℕ) : Type 0 where
+pub record Plain (quoted : Bool) (s : List ℕ) (from n : ℕ) : Type 0 where
   pub most : n ≤ 8
   pub room : from + 8 ≤ length s
-  pub bare : symbolText (take n (drop from s)) ≡ take n (drop from s)
+  pub bare : symbolText quoted (take n (drop from s)) ≡ take n (drop from s)
 
 -- what stands before a value: blanks, its name, and in the tree text its annotations
-unfoldable pub front : ℕ → ℕ → Head → List ℕ
-front y w h = blanks w ++ nameText (h .0) ++ if (eqb y 3) (notesText (h .1)) []
+unfoldable pub front : Bool → ℕ → ℕ → Head → List ℕ
+front quoted y w h = blanks w ++ nameText quoted (h .0) ++ if (eqb y 3) (notesText quoted (h .1)) []
 
 -- the bytes of a separator, as the code keeps it
 unfoldable pub separating : Separator → List ℕ
@@ -61,13 +61,14 @@ abbrev pub isNil : Nodes → Bool
 isNil nil = true
 isNil (more h n ns) = false
 
--- the text of a node before which w blanks stand, and that of the nodes of a body
-unfoldable mutual
-  pub item : ℕ → ℕ → Node → List ℕ
-  item y w (scalar s) = scalarText s
-  item y w (nest k ns) = (opening k ++ broken y) ++ items y k (deeper y w) ns ++ (blanks w ++ closing k)
-  item y w marker = ascii "$ion_1_0"
+module _ (quoted : Bool) where
+  -- the text of a node before which w blanks stand, and that of the nodes of a body
+  unfoldable mutual
+    pub item : ℕ → ℕ → Node → List ℕ
+    item y w (scalar s) = scalarText quoted s
+    item y w (nest k ns) = (opening k ++ broken y) ++ items y k (deeper y w) ns ++ (blanks w ++ closing k)
+    item y w marker = ascii "$ion_1_0"
 
-  pub items : ℕ → Frame → ℕ → Nodes → List ℕ
-  items y k w nil = []
-  items y k w (more h n ns) = (front y w h ++ (item y w n ++ ending y k (isNil ns))) ++ items y k w ns
+    pub items : ℕ → Frame → ℕ → Nodes → List ℕ
+    items y k w nil = []
+    items y k w (more h n ns) = (front quoted y w h ++ (item y w n ++ ending y k (isNil ns))) ++ items y k w ns

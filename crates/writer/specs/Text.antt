@@ -16,33 +16,34 @@ use Rattle.tape.specs.Tree.{Scalar, Node, Nodes, null, bool, int, float, decima
 use Rattle.tape.specs.declared.Frame.{Frame}
 use Rattle.tape.specs.declared.Frame.the-variants.{Top, List as ListF, Sexp, Struct}
 
--- ---- values: the same text in every layout
+-- ---- values: the same text in every layout. `quoted`: every symbol text is quoted, as value, name and annotation
 
-unfoldable pub symText : Sym → List ℕ
-symText (Sym.text s) = symbolText s
-symText (Sym.id n) = symbolIdText n
+module _ (quoted : Bool) where
+  unfoldable pub symText : Sym → List ℕ
+  symText (Sym.text s) = symbolText quoted s
+  symText (Sym.id n) = symbolIdText n
 
-unfoldable pub scalarText : Scalar → List ℕ
-scalarText (null t) = nullText t
-scalarText (bool b) = boolText b
-scalarText (int n) = intText n
-scalarText (float x) = floatText x
-scalarText (decimal neg m e) = decimalText neg m e
-scalarText (timestamp x) = timestampText x
-scalarText (symbol s) = symText s
-scalarText (string s) = stringText s
-scalarText (clob s) = clobText s
-scalarText (blob s) = blobText s
+  unfoldable pub scalarText : Scalar → List ℕ
+  scalarText (null t) = nullText t
+  scalarText (bool b) = boolText b
+  scalarText (int n) = intText n
+  scalarText (float x) = floatText x
+  scalarText (decimal neg m e) = decimalText neg m e
+  scalarText (timestamp x) = timestampText x
+  scalarText (symbol s) = symText s
+  scalarText (string s) = stringText s
+  scalarText (clob s) = clobText s
+  scalarText (blob s) = blobText s
 
--- field names end in `: `
-unfoldable pub nameText : Option Sym → List ℕ
-nameText none = []
-nameText (some s) = symText s ++ ascii ": "
+  -- field names end in `: `
+  unfoldable pub nameText : Option Sym → List ℕ
+  nameText none = []
+  nameText (some s) = symText s ++ ascii ": "
 
--- annotations `a::`, in the tree text alone
-unfoldable pub notesText : List Sym → List ℕ
-notesText [] = []
-notesText (s ∷ ss) = symText s ++ ascii "::" ++ notesText ss
+  -- annotations `a::`, in the tree text alone
+  unfoldable pub notesText : List Sym → List ℕ
+  notesText [] = []
+  notesText (s ∷ ss) = symText s ++ ascii "::" ++ notesText ss
 
 unfoldable pub opening : Frame → List ℕ
 opening Top = []
@@ -91,18 +92,19 @@ indentedFrom starts n (c ∷ s) = if starts (blanks n) [] ++ (c ∷ indentedFrom
 unfoldable pub indented : ℕ → List ℕ → List ℕ
 indented n s = indentedFrom true n s
 
--- The text of a node before which w blanks stand: a struct value has no indentation before it, its name has, so the blanks are the child's.
--- Every closing bracket is indented at its container's level. Annotations have no place here: they are refused by 5.
-unfoldable mutual
-  pub text : ℕ → ℕ → Node → List ℕ
-  text y w (scalar s) = scalarText s
-  text y w (nest k ns) = opening k ++ broken y ++ texts y k (deeper y w) ns ++ blanks w ++ closing k
-  text y w marker = ascii "$ion_1_0"
+module _ (quoted : Bool) where
+  -- The text of a node before which w blanks stand: a struct value has no indentation before it, its name has, so the blanks are the child's.
+  -- Every closing bracket is indented at its container's level. Annotations have no place here: they are refused by 5.
+  unfoldable mutual
+    pub text : ℕ → ℕ → Node → List ℕ
+    text y w (scalar s) = scalarText quoted s
+    text y w (nest k ns) = opening k ++ broken y ++ texts y k (deeper y w) ns ++ blanks w ++ closing k
+    text y w marker = ascii "$ion_1_0"
 
-  pub texts : ℕ → Frame → ℕ → Nodes → List ℕ
-  texts y k w nil = []
-  texts y k w (more h n ns) = (blanks w ++ nameText (h .0) ++ text y w n ++ separator y k) ++ texts y k w ns
+    pub texts : ℕ → Frame → ℕ → Nodes → List ℕ
+    texts y k w nil = []
+    texts y k w (more h n ns) = (blanks w ++ nameText quoted (h .0) ++ text y w n ++ separator y k) ++ texts y k w ns
 
--- the streaming text of a tape's nodes
-unfoldable pub streamText : ℕ → Nodes → List ℕ
-streamText y ns = texts y Top 0 ns
+  -- the streaming text of a tape's nodes
+  unfoldable pub streamText : ℕ → Nodes → List ℕ
+  streamText y ns = texts y Top 0 ns

@@ -6,7 +6,7 @@ ghost use lib.ListN.{length, getD, take, drop};
 ghost use Rattle.output.specs.Wrote.{Wrote, limit};
 ghost use Rattle.tape.specs.Bytes.{part};
 ghost use mathlib.Core.Option.{some};
-ghost use mathlib.Core.Bool.{true, false, not};
+ghost use mathlib.Core.Bool.{Bool, true, false, not};
 ghost use lib.Dec.{eqb};
 ghost use mathlib.Core.List.{[]};
 ghost use Rattle.tape.specs.Tape.{reading, nameOf, notesOf, headOf, scalarOf, walk};
@@ -44,13 +44,14 @@ fn write_symbol_text(
     at: usize,
     n: usize,
     end: usize,
+    quoted: bool,
 ) -> usize
     requires { ⌜ pos ≤ limit ⌝ }
     requires { ⌜ at + (5 + n) ≤ end ⌝ }
     requires { ⌜ end ≤ length (now tape) ⌝ }
-    ensures { λ r. ⌜ Wrote (now (buf .entry)) (now (buf .exit)) pos r (symbolText (take n (drop 5 (part (now (tape .entry)) at end)))) ⌝ }
+    ensures { λ r. ⌜ Wrote (now (buf .entry)) (now (buf .exit)) pos r (symbolText quoted (take n (drop 5 (part (now (tape .entry)) at end)))) ⌝ }
 {
-    text_formatter::format_symbol_at(buf, pos, tape, at + 5, n)
+    text_formatter::format_symbol_at(buf, pos, tape, at + 5, n, quoted)
 }
 
 fn write_string(buf: &mut [u8], pos: usize, tape: &[u8], at: usize, n: usize, end: usize) -> usize
@@ -91,7 +92,7 @@ fn write_scalar(buf: &mut [u8], pos: usize, tape: &[u8], at: usize, end: usize, 
     requires { ⌜ at + sizeOf s ≤ end ⌝ }
     requires { ⌜ end ≤ length (now tape) ⌝ }
     requires { ⌜ Rare s ⌝ }
-    ensures text { λ r. ⌜ Wrote (now (buf .entry)) (now (buf .exit)) pos (r .pos) (scalarText (meantScalar s (part (now (tape .entry)) at end))) ⌝ }
+    ensures text { λ r. ⌜ ((quoted : Bool) → Wrote (now (buf .entry)) (now (buf .exit)) pos (r .pos) (scalarText quoted (meantScalar s (part (now (tape .entry)) at end)))) ⌝ }
     ensures place { λ r. ⌜ r .at ≡ at + sizeOf s ⌝ }
 {
     match s {
@@ -134,10 +135,13 @@ fn write_colon(buf: &mut [u8], pos: usize) -> usize
 }
 
 // True only where the n bytes of the tape from a place on are a symbol that stands bare. It may say no too often.
-fn plain_at(tape: &[u8], from: usize, n: usize) -> bool
+fn plain_at(tape: &[u8], from: usize, n: usize, quoted: bool) -> bool
     requires { ⌜ from + 8 ≤ length (now tape) ⌝ }
-    ensures { λ r. ⌜ (r ≡ true → Plain (now (tape .entry)) from n) ⌝ }
+    ensures { λ r. ⌜ (r ≡ true → Plain quoted (now (tape .entry)) from n) ⌝ }
 {
+    if quoted {
+        return false;
+    }
     if 1 <= n {
         if n <= 8 {
             return text_rules::short_words::is_plain(output::word_at(tape, from), n);
@@ -147,18 +151,25 @@ fn plain_at(tape: &[u8], from: usize, n: usize) -> bool
 }
 
 // The symbol at a place, which is text, and `: `.
-fn write_text_name(buf: &mut [u8], pos: usize, tape: &[u8], at: usize, end: usize) -> Step
+fn write_text_name(
+    buf: &mut [u8],
+    pos: usize,
+    tape: &[u8],
+    at: usize,
+    end: usize,
+    quoted: bool,
+) -> Step
     requires { ⌜ pos ≤ limit ⌝ }
     requires { ⌜ at ≤ end ⌝ }
     requires { ⌜ end + 8 ≤ length (now tape) ⌝ }
     requires { ⌜ nameOf Struct (part (now tape) at end) ≡ some (nameIn Struct (part (now tape) at end), sizeTaken (nameOf Struct (part (now tape) at end))) ⌝ }
     requires { ⌜ getD (now tape) at 0 < 7 ⌝ }
-    ensures text { λ r. ⌜ Wrote (now (buf .entry)) (now (buf .exit)) pos (r .pos) (nameText (nameIn Struct (part (now (tape .entry)) at end))) ⌝ }
+    ensures text { λ r. ⌜ Wrote (now (buf .entry)) (now (buf .exit)) pos (r .pos) (nameText quoted (nameIn Struct (part (now (tape .entry)) at end))) ⌝ }
     ensures place { λ r. ⌜ r .at ≡ at + sizeTaken (nameOf Struct (part (now (tape .entry)) at end)) ⌝ }
 {
     let n = tape::u32_at(tape, at + 1) as usize;
     let from = at + 5;
-    if plain_at(tape, from, n) {
+    if plain_at(tape, from, n, quoted) {
         let p = output::put_le(buf, pos, output::word_at(tape, from), n);
         let q = write_colon(buf, p);
         return Step {
@@ -166,7 +177,7 @@ fn write_text_name(buf: &mut [u8], pos: usize, tape: &[u8], at: usize, end: usiz
             at: from + n,
         };
     }
-    let p = write_symbol_text(buf, pos, tape, at, n, end);
+    let p = write_symbol_text(buf, pos, tape, at, n, end, quoted);
     let q = write_colon(buf, p);
     Step {
         pos: q,
@@ -175,17 +186,17 @@ fn write_text_name(buf: &mut [u8], pos: usize, tape: &[u8], at: usize, end: usiz
 }
 
 // The symbol at a place, and `: `.
-fn write_name(buf: &mut [u8], pos: usize, tape: &[u8], at: usize, end: usize) -> Step
+fn write_name(buf: &mut [u8], pos: usize, tape: &[u8], at: usize, end: usize, quoted: bool) -> Step
     requires { ⌜ pos ≤ limit ⌝ }
     requires { ⌜ at ≤ end ⌝ }
     requires { ⌜ end + 8 ≤ length (now tape) ⌝ }
     requires { ⌜ nameOf Struct (part (now tape) at end) ≡ some (nameIn Struct (part (now tape) at end), sizeTaken (nameOf Struct (part (now tape) at end))) ⌝ }
-    ensures text { λ r. ⌜ Wrote (now (buf .entry)) (now (buf .exit)) pos (r .pos) (nameText (nameIn Struct (part (now (tape .entry)) at end))) ⌝ }
+    ensures text { λ r. ⌜ Wrote (now (buf .entry)) (now (buf .exit)) pos (r .pos) (nameText quoted (nameIn Struct (part (now (tape .entry)) at end))) ⌝ }
     ensures place { λ r. ⌜ r .at ≡ at + sizeTaken (nameOf Struct (part (now (tape .entry)) at end)) ⌝ }
 {
     // 6 is text, 7 an identifier
     if tape[at] < 7 {
-        return write_text_name(buf, pos, tape, at, end);
+        return write_text_name(buf, pos, tape, at, end, quoted);
     }
     let i = tape::u32_at(tape, at + 1);
     let p = text_formatter::format_symbol_id(buf, pos, i as u32);
@@ -201,16 +212,17 @@ fn encode_field_name(
     at: usize,
     end: usize,
     frame: Frame,
+    quoted: bool,
 ) -> Step
     requires { ⌜ pos ≤ limit ⌝ }
     requires { ⌜ at ≤ end ⌝ }
     requires { ⌜ end + 8 ≤ length (now tape) ⌝ }
     requires { ⌜ nameOf frame (part (now tape) at end) ≡ some (nameIn frame (part (now tape) at end), sizeTaken (nameOf frame (part (now tape) at end))) ⌝ }
-    ensures text { λ r. ⌜ Wrote (now (buf .entry)) (now (buf .exit)) pos (r .pos) (nameText (nameIn frame (part (now (tape .entry)) at end))) ⌝ }
+    ensures text { λ r. ⌜ Wrote (now (buf .entry)) (now (buf .exit)) pos (r .pos) (nameText quoted (nameIn frame (part (now (tape .entry)) at end))) ⌝ }
     ensures place { λ r. ⌜ r .at ≡ at + sizeTaken (nameOf frame (part (now (tape .entry)) at end)) ⌝ }
 {
     match frame {
-        Frame::Struct => write_name(buf, pos, tape, at, end),
+        Frame::Struct => write_name(buf, pos, tape, at, end, quoted),
         Frame::Top => Step { pos, at },
         Frame::List => Step { pos, at },
         Frame::Sexp => Step { pos, at },
@@ -233,12 +245,13 @@ fn write_notes(
     at: usize,
     end: usize,
     value: usize,
+    quoted: bool,
 ) -> usize
     requires { ⌜ pos ≤ limit ⌝ }
     requires { ⌜ at ≤ end ⌝ }
     requires { ⌜ end ≤ length (now tape) ⌝ }
     requires { ⌜ placeOf at (notesOf (part (now tape) at end)) ≡ At value ⌝ }
-    ensures { λ r. ⌜ Wrote (now (buf .entry)) (now (buf .exit)) pos r (notesText (notesIn (part (now (tape .entry)) at end))) ⌝ }
+    ensures { λ r. ⌜ Wrote (now (buf .entry)) (now (buf .exit)) pos r (notesText quoted (notesIn (part (now (tape .entry)) at end))) ⌝ }
 {
     if at == value {
         return pos;
@@ -252,7 +265,7 @@ fn write_notes(
                 return p;
             }
             Symbol::Text(n) => {
-                p = text_formatter::format_symbol_at(buf, p, tape, from + 5, n);
+                p = text_formatter::format_symbol_at(buf, p, tape, from + 5, n, quoted);
                 p = write_colons(buf, p);
                 from = from + (5 + n);
             }
@@ -276,17 +289,18 @@ fn write_front(
     frame: Frame,
     layout: u32,
     width: usize,
+    quoted: bool,
 ) -> Step
     requires { ⌜ pos ≤ limit ⌝ }
     requires { ⌜ at ≤ end ⌝ }
     requires { ⌜ end + 8 ≤ length (now tape) ⌝ }
     requires { ⌜ headOf frame (part (now tape) at end) ≡ some (headAt frame (part (now tape) at end), sizeTaken (headOf frame (part (now tape) at end))) ⌝ }
     requires { ⌜ at + sizeTaken (headOf frame (part (now tape) at end)) < end ⌝ }
-    ensures text { λ r. ⌜ Wrote (now (buf .entry)) (now (buf .exit)) pos (r .pos) (front layout width (headAt frame (part (now (tape .entry)) at end))) ⌝ }
+    ensures text { λ r. ⌜ Wrote (now (buf .entry)) (now (buf .exit)) pos (r .pos) (front quoted layout width (headAt frame (part (now (tape .entry)) at end))) ⌝ }
     ensures place { λ r. ⌜ r .at ≡ at + sizeTaken (headOf frame (part (now (tape .entry)) at end)) ⌝ }
 {
     let o = whitespace_config::write_blanks(buf, pos, width);
-    let n = encode_field_name(buf, o, tape, at, end, frame);
+    let n = encode_field_name(buf, o, tape, at, end, frame, quoted);
     let from = n.at;
     if tape[from] != 13 {
         return n;
@@ -295,7 +309,7 @@ fn write_front(
         return n;
     };
     if layout == 3 {
-        let q = write_notes(buf, n.pos, tape, from, end, value);
+        let q = write_notes(buf, n.pos, tape, from, end, value, quoted);
         return Step { pos: q, at: value };
     }
     Step {
@@ -319,25 +333,32 @@ fn write_ending(buf: &mut [u8], pos: usize, layout: u32, s: Separator, more: boo
 }
 
 // The symbol at a place, which is text.
-fn write_symbol(buf: &mut [u8], pos: usize, tape: &[u8], at: usize, end: usize) -> Step
+fn write_symbol(
+    buf: &mut [u8],
+    pos: usize,
+    tape: &[u8],
+    at: usize,
+    end: usize,
+    quoted: bool,
+) -> Step
     requires { ⌜ pos ≤ limit ⌝ }
     requires { ⌜ at ≤ end ⌝ }
     requires { ⌜ end + 8 ≤ length (now tape) ⌝ }
     requires { ⌜ 0 < sizeTaken (scalarOf (part (now tape) at end)) ⌝ }
     requires { ⌜ getD (now tape) at 0 ≡ 6 ⌝ }
-    ensures text { λ r. ⌜ Wrote (now (buf .entry)) (now (buf .exit)) pos (r .pos) (reading (scalarOf (part (now (tape .entry)) at end)) [] (λ s n. scalarText s)) ⌝ }
+    ensures text { λ r. ⌜ Wrote (now (buf .entry)) (now (buf .exit)) pos (r .pos) (reading (scalarOf (part (now (tape .entry)) at end)) [] (λ s n. scalarText quoted s)) ⌝ }
     ensures place { λ r. ⌜ r .at ≡ at + sizeTaken (scalarOf (part (now (tape .entry)) at end)) ⌝ }
 {
     let n = tape::u32_at(tape, at + 1) as usize;
     let from = at + 5;
-    if plain_at(tape, from, n) {
+    if plain_at(tape, from, n, quoted) {
         let p = output::put_le(buf, pos, output::word_at(tape, from), n);
         return Step {
             pos: p,
             at: from + n,
         };
     }
-    let p = write_symbol_text(buf, pos, tape, at, n, end);
+    let p = write_symbol_text(buf, pos, tape, at, n, end, quoted);
     Step {
         pos: p,
         at: from + n,
@@ -345,12 +366,12 @@ fn write_symbol(buf: &mut [u8], pos: usize, tape: &[u8], at: usize, end: usize) 
 }
 
 // The scalar at a place. The frequent kinds are written straight from the tape, the others through `Scalar`.
-fn write_leaf(buf: &mut [u8], pos: usize, tape: &[u8], at: usize, end: usize) -> Step
+fn write_leaf(buf: &mut [u8], pos: usize, tape: &[u8], at: usize, end: usize, quoted: bool) -> Step
     requires { ⌜ pos ≤ limit ⌝ }
     requires { ⌜ at ≤ end ⌝ }
     requires { ⌜ end + 8 ≤ length (now tape) ⌝ }
     requires { ⌜ 0 < sizeTaken (scalarOf (part (now tape) at end)) ⌝ }
-    ensures text { λ r. ⌜ Wrote (now (buf .entry)) (now (buf .exit)) pos (r .pos) (reading (scalarOf (part (now (tape .entry)) at end)) [] (λ s n. scalarText s)) ⌝ }
+    ensures text { λ r. ⌜ Wrote (now (buf .entry)) (now (buf .exit)) pos (r .pos) (reading (scalarOf (part (now (tape .entry)) at end)) [] (λ s n. scalarText quoted s)) ⌝ }
     ensures place { λ r. ⌜ r .at ≡ at + sizeTaken (scalarOf (part (now (tape .entry)) at end)) ⌝ }
 {
     let k = tape[at];
@@ -375,7 +396,7 @@ fn write_leaf(buf: &mut [u8], pos: usize, tape: &[u8], at: usize, end: usize) ->
         };
     }
     if k == 6 {
-        return write_symbol(buf, pos, tape, at, end);
+        return write_symbol(buf, pos, tape, at, end, quoted);
     }
     if k == 8 {
         let n = tape::u32_at(tape, at + 1) as usize;
@@ -398,7 +419,7 @@ fn write_blob_node(buf: &mut [u8], pos: usize, tape: &[u8], at: usize, end: usiz
     requires { ⌜ end + 8 ≤ length (now tape) ⌝ }
     requires { ⌜ 0 < sizeTaken (scalarOf (part (now tape) at end)) ⌝ }
     requires { ⌜ getD (now tape) at 0 ≡ 15 ⌝ }
-    ensures text { λ r. ⌜ Wrote (now (buf .entry)) (now (buf .exit)) pos (r .pos) (reading (scalarOf (part (now (tape .entry)) at end)) [] (λ s n. scalarText s)) ⌝ }
+    ensures text { λ r. ⌜ ((quoted : Bool) → Wrote (now (buf .entry)) (now (buf .exit)) pos (r .pos) (reading (scalarOf (part (now (tape .entry)) at end)) [] (λ s n. scalarText quoted s))) ⌝ }
     ensures place { λ r. ⌜ r .at ≡ at + sizeTaken (scalarOf (part (now (tape .entry)) at end)) ⌝ }
 {
     let n = tape::u32_at(tape, at + 1) as usize;
@@ -439,6 +460,7 @@ fn write_container(
     depth: usize,
     layout: u32,
     width: usize,
+    quoted: bool,
     buf: &mut [u8],
     pos: usize,
 ) -> Step
@@ -448,7 +470,7 @@ fn write_container(
     requires { ⌜ 2 * depth + width ≤ 256 ⌝ }
     requires { ⌜ problemAt depth (part (now tape) at end) ≡ 0 ⌝ }
     requires { ⌜ (10 ≤ getD (now tape) at 0) × (getD (now tape) at 0 ≡ 14 → ⊥) × (getD (now tape) at 0 ≡ 15 → ⊥) ⌝ }
-    ensures text { λ r. ⌜ Wrote (now (buf .entry)) (now (buf .exit)) pos (r .pos) (item layout width (nodeAt depth (part (now (tape .entry)) at end))) ⌝ }
+    ensures text { λ r. ⌜ Wrote (now (buf .entry)) (now (buf .exit)) pos (r .pos) (item quoted layout width (nodeAt depth (part (now (tape .entry)) at end))) ⌝ }
     ensures place { λ r. ⌜ r .at ≡ at + sizeAt (part (now (tape .entry)) at end) ⌝ }
 {
     let inner = tape::check::frame_of(tape[at]);
@@ -456,7 +478,18 @@ fn write_container(
     let stop = start + tape::u32_at(tape, at + 1) as usize;
     let p = whitespace_config::write_start(buf, pos, layout, inner);
     let deeper = whitespace_config::indentation(layout, width);
-    let q = write_nodes(tape, start, stop, inner, depth, layout, deeper, buf, p);
+    let q = write_nodes(
+        tape,
+        start,
+        stop,
+        inner,
+        depth,
+        layout,
+        deeper,
+        quoted,
+        buf,
+        p,
+    );
     let r = write_close(buf, q, width, inner);
     Step { pos: r, at: stop }
 }
@@ -469,6 +502,7 @@ fn write_value(
     depth: usize,
     layout: u32,
     width: usize,
+    quoted: bool,
     buf: &mut [u8],
     pos: usize,
 ) -> Step
@@ -477,12 +511,12 @@ fn write_value(
     requires { ⌜ pos ≤ limit ⌝ }
     requires { ⌜ 2 * depth + width ≤ 256 ⌝ }
     requires { ⌜ problemAt depth (part (now tape) at end) ≡ 0 ⌝ }
-    ensures text { λ r. ⌜ Wrote (now (buf .entry)) (now (buf .exit)) pos (r .pos) (item layout width (nodeAt depth (part (now (tape .entry)) at end))) ⌝ }
+    ensures text { λ r. ⌜ Wrote (now (buf .entry)) (now (buf .exit)) pos (r .pos) (item quoted layout width (nodeAt depth (part (now (tape .entry)) at end))) ⌝ }
     ensures place { λ r. ⌜ r .at ≡ at + sizeAt (part (now (tape .entry)) at end) ⌝ }
 {
     let k = tape[at];
     if k < 10 {
-        return write_leaf(buf, pos, tape, at, end);
+        return write_leaf(buf, pos, tape, at, end, quoted);
     }
     if k == 14 {
         let p = write_marker(buf, pos);
@@ -491,7 +525,7 @@ fn write_value(
     if k == 15 {
         return write_blob_node(buf, pos, tape, at, end);
     }
-    write_container(tape, at, end, depth, layout, width, buf, pos)
+    write_container(tape, at, end, depth, layout, width, quoted, buf, pos)
 }
 
 // The nodes of a body, with `width` blanks before each. This body and those inside it are `depth` at most. Eight bytes stand behind every body,
@@ -505,6 +539,7 @@ pub fn write_nodes(
     depth: usize,
     layout: u32,
     width: usize,
+    quoted: bool,
     buf: &mut [u8],
     pos: usize,
 ) -> usize
@@ -513,8 +548,8 @@ pub fn write_nodes(
     requires { ⌜ pos ≤ limit ⌝ }
     requires { ⌜ 2 * depth + width ≤ 258 ⌝ }
     requires { ⌜ walk depth frame (part (now tape) from end) .1 ≡ 0 ⌝ }
-    ensures text { λ r. ⌜ Wrote (now (buf .entry)) (now (buf .exit)) pos r (items layout frame width (walk depth frame (part (now (tape .entry)) from end) .0)) ⌝ }
-    ensures moved { λ r. ⌜ (layout ≡ 2 → 2 ≤ width → Wrote (now (buf .entry)) (now (buf .exit)) pos r (indented (width - 2) (texts 2 frame 2 (walk depth frame (part (now (tape .entry)) from end) .0)))) ⌝ }
+    ensures text { λ r. ⌜ Wrote (now (buf .entry)) (now (buf .exit)) pos r (items quoted layout frame width (walk depth frame (part (now (tape .entry)) from end) .0)) ⌝ }
+    ensures moved { λ r. ⌜ (layout ≡ 2 → 2 ≤ width → Wrote (now (buf .entry)) (now (buf .exit)) pos r (indented (width - 2) (texts quoted 2 frame 2 (walk depth frame (part (now (tape .entry)) from end) .0)))) ⌝ }
 {
     if depth == 0 {
         return pos;
@@ -523,8 +558,18 @@ pub fn write_nodes(
     let mut at = from;
     let mut p = pos;
     while at < end {
-        let f = write_front(buf, p, tape, at, end, frame, layout, width);
-        let v = write_value(tape, f.at, end, depth - 1, layout, width, buf, f.pos);
+        let f = write_front(buf, p, tape, at, end, frame, layout, width, quoted);
+        let v = write_value(
+            tape,
+            f.at,
+            end,
+            depth - 1,
+            layout,
+            width,
+            quoted,
+            buf,
+            f.pos,
+        );
         p = write_ending(buf, v.pos, layout, s, v.at < end);
         at = v.at;
     }

@@ -2,19 +2,24 @@
 
 use crate::check::*;
 use crate::index::check_index;
+use crate::quoted::QUOTED;
 use crate::tapes::*;
 use lechuqta::*;
 
 /// A writer, and the length of its text.
 type Writer = (fn(&[u8], &mut [u8]) -> Result<usize, Refusal>, fn(&[u8]) -> Result<usize, Refusal>);
 
-const STREAMS: [Writer; 3] = [
+/// With always-quoted symbols they refuse the same.
+const STREAMS: [Writer; 6] = [
     (|t, out| write(Layout::Compact, t, out), |t| length(Layout::Compact, t)),
     (|t, out| write(Layout::Lines, t, out), |t| length(Layout::Lines, t)),
     (|t, out| write(Layout::Pretty, t, out), |t| length(Layout::Pretty, t)),
+    (|t, out| QUOTED.write(Layout::Compact, t, out), |t| QUOTED.length(Layout::Compact, t)),
+    (|t, out| QUOTED.write(Layout::Lines, t, out), |t| QUOTED.length(Layout::Lines, t)),
+    (|t, out| QUOTED.write(Layout::Pretty, t, out), |t| QUOTED.length(Layout::Pretty, t)),
 ];
 
-const TREE: [Writer; 1] = [(write_tree, tree_length)];
+const TREE: [Writer; 2] = [(write_tree, tree_length), (|t, out| QUOTED.write_tree(t, out), |t| QUOTED.tree_length(t))];
 
 /// These writers refuse the tape, in buffers of any length, and touch no byte; and so do the lengths of their texts.
 fn refused(writers: &[Writer], tape: &[u8], refusal: Refusal) {

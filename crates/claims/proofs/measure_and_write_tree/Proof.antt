@@ -17,8 +17,8 @@ use borrow.Author.Needs.{needs}
 use Rattle.claims.proofs.measure_and_write_tree.Statement.{statement}
 use Rattle.claims.proofs.measure_and_write_tree.Tie as tie
 
-tree-length-requires : tie.Need-tree-length-requires
-tree-length-requires c κs = search needs
+tree-length-with-requires : tie.Need-tree-length-with-requires
+tree-length-with-requires c κs = search needs
 
 enum-known-a : tie.Need-enum-known-a
 enum-known-a c = search needs
@@ -26,33 +26,33 @@ enum-known-a c = search needs
 returns : tie.Need-returns
 returns c =
     let a = c .before .before .before .before .args in
-    let l = c .before .tree-length in
-    let h = handed (a .less) (l .result) (c .match .keys2) (treeText (nodesOf (now (a .tape)))) (now (a .out)) in
-    (sym (h .0) ∙ ap (λ x. reservedAnswer (a .less) x (length (now (a .out)))) (l .ensures), sym (h .1) ∙ ap (λ x. reservedLeaves (a .less) x (treeText (nodesOf (now (a .tape)))) (now (a .out))) (l .ensures))
+    let l = c .before .tree-length-with in
+    let h = handed (a .less) (l .result) (c .match .keys2) (treeText (a .quoted) (nodesOf (now (a .tape)))) (now (a .out)) in
+    (sym (h .0) ∙ ap (λ x. reservedAnswer (a .less) x (length (now (a .out)))) (l .ensures), sym (h .1) ∙ ap (λ x. reservedLeaves (a .less) x (treeText (a .quoted) (nodesOf (now (a .tape)))) (now (a .out))) (l .ensures))
 
 returns-2 : tie.Need-returns-2
 returns-2 c =
     let s = c .before .before .before .before .before .before .before in
-    let e = sym (c .before .before .before .before .tree-length .ensures) ∙ ap outcome (c .before .before .a .given .1) in
-    too-few (tree-length (now (s .args .tape))) (now (s .args .out)) _ (s .args .less) e (c .if1 .taken)
+    let e = sym (c .before .before .before .before .tree-length-with .ensures) ∙ ap outcome (c .before .before .a .given .1) in
+    too-few (tree-length (s .args .quoted) (now (s .args .tape))) (now (s .args .out)) _ (s .args .less) e (c .if1 .taken)
 
 room-for-requires : tie.Need-room-for-requires
 room-for-requires c κs = search needs
 
-slice-relend-prefix-write-tree : tie.Need-slice-relend-prefix-write-tree
-slice-relend-prefix-write-tree c =
+slice-relend-prefix-write-tree-with : tie.Need-slice-relend-prefix-write-tree-with
+slice-relend-prefix-write-tree-with c =
     let q = room-most (c .before .before .before .before .before .before .before .before .args .less) (c .before .before .before .a .given .0 .0) in
     let l = c .before .if1 .left in
     omega (arith, c .room-for .ensures)
 
-slice-aggregate-write-tree : tie.Need-slice-aggregate-write-tree
-slice-aggregate-write-tree c =
+slice-aggregate-write-tree-with : tie.Need-slice-aggregate-write-tree-with
+slice-aggregate-write-tree-with c =
     let q = room-most (c .before .before .before .before .before .before .before .before .before .args .less) (c .before .before .before .before .a .given .0 .0) in
     let l = c .before .before .if1 .left in
     sym (length-take-le _ _ (omega (arith, c .before .room-for .ensures)))
 
-write-tree-requires : tie.Need-write-tree-requires
-write-tree-requires c κs = search needs
+write-tree-with-requires : tie.Need-write-tree-with-requires
+write-tree-with-requires c κs = search needs
 
 same-length : tie.Need-same-length
 same-length c = search needs
@@ -60,23 +60,23 @@ same-length c = search needs
 returns-3 : tie.Need-returns-3
 returns-3 c =
     let s = c .before .before .before .before .before .before .before .before .before .before .before .before in
-    let e = sym (c .before .before .before .before .before .before .before .before .before .tree-length .ensures) ∙ ap outcome (c .before .before .before .before .before .before .before .a .given .1) in
-    let w = c .before .before .write-tree .ensures in
+    let e = sym (c .before .before .before .before .before .before .before .before .before .tree-length-with .ensures) ∙ ap outcome (c .before .before .before .before .before .before .before .a .given .1) in
+    let w = c .before .before .write-tree-with .ensures in
     let l = c .before .before .before .before .before .if1 .left in
     let r = c .before .before .before .before .room-for .ensures in
-    (w .0 ∙ reserved-answer (tree-length (now (s .args .tape))) (now (s .args .out)) _ (s .args .less) e (omega arith) _ r, ap (λ (x : List ℕ). x ++ drop (c .before .before .before .before .room-for .result) (now (s .args .out))) (w .1) ∙ reserved-leaves (tree-length (now (s .args .tape))) (now (s .args .out)) _ (s .args .less) e (omega arith) _ r)
+    (w .0 ∙ reserved-answer (tree-length (s .args .quoted) (now (s .args .tape))) (now (s .args .out)) _ (s .args .less) e (omega arith) _ r, ap (λ (x : List ℕ). x ++ drop (c .before .before .before .before .room-for .result) (now (s .args .out))) (w .1) ∙ reserved-leaves (tree-length (s .args .quoted) (now (s .args .tape))) (now (s .args .out)) _ (s .args .less) e (omega arith) _ r)
 
 pub measure-and-write-tree-spec : {M : Type 1} → statement M
 measure-and-write-tree-spec =
     tie.close
     (tie.spec
-    tree-length-requires
+    tree-length-with-requires
     enum-known-a
     returns
     returns-2
     room-for-requires
-    slice-relend-prefix-write-tree
-    slice-aggregate-write-tree
-    write-tree-requires
+    slice-relend-prefix-write-tree-with
+    slice-aggregate-write-tree-with
+    write-tree-with-requires
     same-length
     returns-3)

@@ -202,10 +202,17 @@ returns-12 c =
     let c1 = c2 .before .before .before in
     rw (← c1 .before .same-word .ensures, c1 .if1 .left, ← c2 .before .same-word2 .ensures, c2 .if2 .left, ← c3 .before .same-word3 .ensures, c3 .if3 .left, ← c4 .before .same-word4 .ensures, c4 .if4 .left, ← c5 .before .same-word5 .ensures, c5 .if5 .left, ← c6 .before .same-word6 .ensures, c6 .if6 .left, ← c7 .before .same-word7 .ensures, c7 .if7 .left, ← c8 .before .same-word8 .ensures, c8 .if8 .left, ← c9 .before .same-word9 .ensures, c9 .if9 .left, ← c10 .before .same-word10 .ensures, c10 .if10 .left, ← c11 .before .same-word11 .ensures, c11 .if11 .left, ← c .before .same-word12 .ensures, c .if12 .taken)
 
+slice-aggregate-same-word-13 : tie.Need-slice-aggregate-same-word-13
+slice-aggregate-same-word-13 c = search needs
+
+same-word-requires-13 : tie.Need-same-word-requires-13
+same-word-requires-13 c κs = search needs
+
 returns-13 : tie.Need-returns-13
 unfolding commandOf
 returns-13 c =
-    let c11 = c .before .before .before in
+    let c12 = c .before .before .before in
+    let c11 = c12 .before .before .before in
     let c10 = c11 .before .before .before in
     let c9 = c10 .before .before .before in
     let c8 = c9 .before .before .before in
@@ -216,7 +223,24 @@ returns-13 c =
     let c3 = c4 .before .before .before in
     let c2 = c3 .before .before .before in
     let c1 = c2 .before .before .before in
-    rw (← c1 .before .same-word .ensures, c1 .if1 .left, ← c2 .before .same-word2 .ensures, c2 .if2 .left, ← c3 .before .same-word3 .ensures, c3 .if3 .left, ← c4 .before .same-word4 .ensures, c4 .if4 .left, ← c5 .before .same-word5 .ensures, c5 .if5 .left, ← c6 .before .same-word6 .ensures, c6 .if6 .left, ← c7 .before .same-word7 .ensures, c7 .if7 .left, ← c8 .before .same-word8 .ensures, c8 .if8 .left, ← c9 .before .same-word9 .ensures, c9 .if9 .left, ← c10 .before .same-word10 .ensures, c10 .if10 .left, ← c11 .before .same-word11 .ensures, c11 .if11 .left, ← c .before .same-word12 .ensures, c .if12 .left)
+    rw (← c1 .before .same-word .ensures, c1 .if1 .left, ← c2 .before .same-word2 .ensures, c2 .if2 .left, ← c3 .before .same-word3 .ensures, c3 .if3 .left, ← c4 .before .same-word4 .ensures, c4 .if4 .left, ← c5 .before .same-word5 .ensures, c5 .if5 .left, ← c6 .before .same-word6 .ensures, c6 .if6 .left, ← c7 .before .same-word7 .ensures, c7 .if7 .left, ← c8 .before .same-word8 .ensures, c8 .if8 .left, ← c9 .before .same-word9 .ensures, c9 .if9 .left, ← c10 .before .same-word10 .ensures, c10 .if10 .left, ← c11 .before .same-word11 .ensures, c11 .if11 .left, ← c12 .before .same-word12 .ensures, c12 .if12 .left, ← c .before .same-word13 .ensures, c .if13 .taken)
+
+returns-14 : tie.Need-returns-14
+unfolding commandOf
+returns-14 c =
+    let c12 = c .before .before .before in
+    let c11 = c12 .before .before .before in
+    let c10 = c11 .before .before .before in
+    let c9 = c10 .before .before .before in
+    let c8 = c9 .before .before .before in
+    let c7 = c8 .before .before .before in
+    let c6 = c7 .before .before .before in
+    let c5 = c6 .before .before .before in
+    let c4 = c5 .before .before .before in
+    let c3 = c4 .before .before .before in
+    let c2 = c3 .before .before .before in
+    let c1 = c2 .before .before .before in
+    rw (← c1 .before .same-word .ensures, c1 .if1 .left, ← c2 .before .same-word2 .ensures, c2 .if2 .left, ← c3 .before .same-word3 .ensures, c3 .if3 .left, ← c4 .before .same-word4 .ensures, c4 .if4 .left, ← c5 .before .same-word5 .ensures, c5 .if5 .left, ← c6 .before .same-word6 .ensures, c6 .if6 .left, ← c7 .before .same-word7 .ensures, c7 .if7 .left, ← c8 .before .same-word8 .ensures, c8 .if8 .left, ← c9 .before .same-word9 .ensures, c9 .if9 .left, ← c10 .before .same-word10 .ensures, c10 .if10 .left, ← c11 .before .same-word11 .ensures, c11 .if11 .left, ← c12 .before .same-word12 .ensures, c12 .if12 .left, ← c .before .same-word13 .ensures, c .if13 .left)
 
 pub word-of-spec : {M : Type 1} → statement M
 word-of-spec =
@@ -258,4 +282,7 @@ word-of-spec =
     slice-aggregate-same-word-12
     same-word-requires-12
     returns-12
-    returns-13)
+    slice-aggregate-same-word-13
+    same-word-requires-13
+    returns-13
+    returns-14)

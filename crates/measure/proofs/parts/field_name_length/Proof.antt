@@ -12,7 +12,7 @@ enum-told c = search needs
 name-length-requires : tie.Need-name-length-requires
 name-length-requires c κs =
     let s = c .before .before .before in
-    (s .pre .0, (s .pre .1 .0, rw (c .enum-told .given .1) at (s .pre .1 .1)))
+    (s .pre .0, (s .pre .1 .0, (rw (c .enum-told .given .1) at (s .pre .1 .1 .0), s .pre .1 .1 .1)))
 
 enum-told-2 : tie.Need-enum-told-2
 enum-told-2 c = search needs

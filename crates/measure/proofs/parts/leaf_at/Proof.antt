@@ -9,7 +9,7 @@ use mir.Val.{SFits}
 use mir.ValLaws.{toZ-ofZ}
 use Rattle.tape.proofs.Parts.{trailed}
 use Rattle.tape.proofs.CodeFacts.{six-on}
-use Rattle.measure.specs.Steps.{isUntold}
+use Rattle.measure.specs.Steps.{quoting, isUntold}
 use Rattle.measure.proofs.PartLaws.{null-told, bool-told, int-told, float-told, decimal-refused, decimal-room, decimal-told, timestamp-refused, timestamp-room, timestamp-told, id-told, string-told}
 use borrow.Author.Needs.{needs}
 use Rattle.measure.proofs.parts.leaf_at.Statement.{statement}
@@ -61,7 +61,7 @@ returns : tie.Need-returns
 returns c =
     let s = c .before .before .before .before .before in
     let a = s .args in
-    decimal-refused (now (a .tape)) (a .at) (a .end) (s .pre .0) (trailed (s .pre .1 .0)) _ (c .before .before .match .keys5) (c .before .decimal-size .ensures) (c .if1 .taken)
+    decimal-refused (quoting (a .quotes)) (now (a .tape)) (a .at) (a .end) (s .pre .0) (trailed (s .pre .1 .0)) _ (c .before .before .match .keys5) (c .before .decimal-size .ensures) (c .if1 .taken)
 
 add-decimal-length : tie.Need-add-decimal-length
 add-decimal-length c = search needs
@@ -73,7 +73,7 @@ magnitude-of-requires : tie.Need-magnitude-of-requires
 magnitude-of-requires c κs =
     let s = c .before .before .before .before .before .before in
     let a = s .args in
-    let r = decimal-room (now (a .tape)) (a .at) (a .end) (s .pre .0) (trailed (s .pre .1 .0)) _ (c .before .before .before .match .keys5) (c .before .before .decimal-size .ensures) (c .before .if1 .left) in
+    let r = decimal-room (quoting (a .quotes)) (now (a .tape)) (a .at) (a .end) (s .pre .0) (trailed (s .pre .1 .0)) _ (c .before .before .before .match .keys5) (c .before .before .decimal-size .ensures) (c .before .if1 .left) in
     let k = s .pre .1 .0 in
     omega arith
 
@@ -81,7 +81,7 @@ exponent-of-requires : tie.Need-exponent-of-requires
 exponent-of-requires c κs =
     let s = c .before .before .before .before .before .before .before in
     let a = s .args in
-    let r = decimal-room (now (a .tape)) (a .at) (a .end) (s .pre .0) (trailed (s .pre .1 .0)) _ (c .before .before .before .before .match .keys5) (c .before .before .before .decimal-size .ensures) (c .before .before .if1 .left) in
+    let r = decimal-room (quoting (a .quotes)) (now (a .tape)) (a .at) (a .end) (s .pre .0) (trailed (s .pre .1 .0)) _ (c .before .before .before .before .match .keys5) (c .before .before .before .decimal-size .ensures) (c .before .before .if1 .left) in
     let k = s .pre .1 .0 in
     omega arith
 
@@ -95,13 +95,13 @@ returns-2 : tie.Need-returns-2
 returns-2 c =
     let s = c .before .before .before .before .before in
     let a = s .args in
-    timestamp-refused (now (a .tape)) (a .at) (a .end) (s .pre .0) (trailed (s .pre .1 .0)) _ (c .before .before .match .keys6) (c .before .timestamp-size .ensures) (c .if2 .taken)
+    timestamp-refused (quoting (a .quotes)) (now (a .tape)) (a .at) (a .end) (s .pre .0) (trailed (s .pre .1 .0)) _ (c .before .before .match .keys6) (c .before .timestamp-size .ensures) (c .if2 .taken)
 
 timestamp-of-requires : tie.Need-timestamp-of-requires
 timestamp-of-requires c κs =
     let s = c .before .before .before .before .before in
     let a = s .args in
-    let r = timestamp-room (now (a .tape)) (a .at) (a .end) (s .pre .0) (trailed (s .pre .1 .0)) _ (c .before .before .match .keys6) (c .before .timestamp-size .ensures) (c .if2 .left) in
+    let r = timestamp-room (quoting (a .quotes)) (now (a .tape)) (a .at) (a .end) (s .pre .0) (trailed (s .pre .1 .0)) _ (c .before .before .match .keys6) (c .before .timestamp-size .ensures) (c .if2 .left) in
     let k = s .pre .1 .0 in
     omega arith
 
@@ -133,13 +133,13 @@ returns-3 : tie.Need-returns-3
 returns-3 c =
     let s = c .before .before .before .before .before .before in
     let a = s .args in
-    null-told (now (a .tape)) (a .at) (a .end) (s .pre .0) (trailed (s .pre .1 .0)) _ _ (c .before .before .before .match .keys1) (c .before .before .null-size .ensures) (c .null-length .ensures)
+    null-told (quoting (a .quotes)) (now (a .tape)) (a .at) (a .end) (s .pre .0) (trailed (s .pre .1 .0)) _ _ (c .before .before .before .match .keys1) (c .before .before .null-size .ensures) (c .null-length .ensures)
 
 returns-4 : tie.Need-returns-4
 returns-4 c =
     let s = c .before .before .before .before .before .before in
     let a = s .args in
-    bool-told (now (a .tape)) (a .at) (a .end) (s .pre .0) (trailed (s .pre .1 .0)) _ _ (c .before .before .before .match .keys2) (c .before .before .bool-size .ensures) (c .bool-length .ensures)
+    bool-told (quoting (a .quotes)) (now (a .tape)) (a .at) (a .end) (s .pre .0) (trailed (s .pre .1 .0)) _ _ (c .before .before .before .match .keys2) (c .before .before .bool-size .ensures) (c .bool-length .ensures)
 
 returns-5 : tie.Need-returns-5
 returns-5 c =
@@ -147,13 +147,13 @@ returns-5 c =
     let a = s .args in
     let z = c .before .int-of .result in
     let k : SFits w64 z = search needs in
-    int-told (now (a .tape)) (a .at) (a .end) (s .pre .0) (trailed (s .pre .1 .0)) _ _ (c .before .before .before .match .keys3) (c .before .before .int-size .ensures) (rw (toZ-ofZ w64 z k, c .before .int-of .ensures) at (c .integer-length .ensures .0))
+    int-told (quoting (a .quotes)) (now (a .tape)) (a .at) (a .end) (s .pre .0) (trailed (s .pre .1 .0)) _ _ (c .before .before .before .match .keys3) (c .before .before .int-size .ensures) (rw (toZ-ofZ w64 z k, c .before .int-of .ensures) at (c .integer-length .ensures .0))
 
 returns-6 : tie.Need-returns-6
 returns-6 c =
     let s = c .before .before .before .before in
     let a = s .args in
-    float-told (now (a .tape)) (a .at) (a .end) (s .pre .0) (trailed (s .pre .1 .0)) _ (c .before .match .keys4) (c .float-size .ensures)
+    float-told (quoting (a .quotes)) (now (a .tape)) (a .at) (a .end) (s .pre .0) (trailed (s .pre .1 .0)) _ (c .before .match .keys4) (c .float-size .ensures)
 
 returns-7 : tie.Need-returns-7
 returns-7 c =
@@ -161,13 +161,13 @@ returns-7 c =
     let a = s .args in
     let z = c .before .exponent-of .result in
     let k : SFits w32 z = search needs in
-    decimal-told (now (a .tape)) (a .at) (a .end) (s .pre .0) (trailed (s .pre .1 .0)) _ (c .before .before .before .before .before .before .match .keys5) (c .before .before .before .before .before .decimal-size .ensures) _ (rw (toZ-ofZ w32 z k, c .before .exponent-of .ensures, c .before .before .magnitude-of .ensures) at (c .decimal-length .ensures))
+    decimal-told (quoting (a .quotes)) (now (a .tape)) (a .at) (a .end) (s .pre .0) (trailed (s .pre .1 .0)) _ (c .before .before .before .before .before .before .match .keys5) (c .before .before .before .before .before .decimal-size .ensures) _ (rw (toZ-ofZ w32 z k, c .before .exponent-of .ensures, c .before .before .magnitude-of .ensures) at (c .decimal-length .ensures))
 
 returns-8 : tie.Need-returns-8
 returns-8 c =
     let s = c .before .before .before .before .before .before .before in
     let a = s .args in
-    timestamp-told (now (a .tape)) (a .at) (a .end) (s .pre .0) (trailed (s .pre .1 .0)) _ (c .before .before .before .before .match .keys6) (c .before .before .before .timestamp-size .ensures) _ (rw (c .before .timestamp-of .ensures) at (c .timestamp-length .ensures))
+    timestamp-told (quoting (a .quotes)) (now (a .tape)) (a .at) (a .end) (s .pre .0) (trailed (s .pre .1 .0)) _ (c .before .before .before .before .match .keys6) (c .before .before .before .timestamp-size .ensures) _ (rw (c .before .timestamp-of .ensures) at (c .timestamp-length .ensures))
 
 returns-9 : tie.Need-returns-9
 returns-9 c = (c .symbol-leaf .ensures .0, (c .symbol-leaf .ensures .1, λ h p. ap (λ (j : ℕ). isUntold j) (c .before .match .keys7)))
@@ -176,20 +176,20 @@ returns-10 : tie.Need-returns-10
 returns-10 c =
     let s = c .before .before .before .before .before .before in
     let a = s .args in
-    id-told (now (a .tape)) (a .at) (a .end) (s .pre .0) (trailed (s .pre .1 .0)) _ _ _ (c .before .before .before .match .keys8) (c .before .before .sym-size .ensures) (c .before .u32-at .ensures .0) (c .symbol-id-length .ensures)
+    id-told (quoting (a .quotes)) (now (a .tape)) (a .at) (a .end) (s .pre .0) (trailed (s .pre .1 .0)) _ _ _ (c .before .before .before .match .keys8) (c .before .before .sym-size .ensures) (c .before .u32-at .ensures .0) (c .symbol-id-length .ensures)
 
 -- the last arm is for strings
 eight : (k : ℕ) → 6 ≤ k → (k ≡ 6 → ⊥) → (k ≡ 7 → ⊥) → k < 9 → k ≡ 8
 eight k h a b m = omega arith
 
 string : (c : tie.At-match-rest) → let a = c .before .before .before .args in getD (now (a .tape)) (a .at) 0 ≡ 8
-string c = let r = c .match .rest in eight _ (six-on _ (r .0 .0 .0 .0 .0 .0 .0 .1) (r .0 .0 .0 .0 .0 .0 .1) (r .0 .0 .0 .0 .0 .1) (r .0 .0 .0 .0 .1) (r .0 .0 .0 .1) (r .0 .0 .1)) (r .0 .1) (r .1) (c .before .before .before .pre .1 .1)
+string c = let r = c .match .rest in eight _ (six-on _ (r .0 .0 .0 .0 .0 .0 .0 .1) (r .0 .0 .0 .0 .0 .0 .1) (r .0 .0 .0 .0 .0 .1) (r .0 .0 .0 .0 .1) (r .0 .0 .0 .1) (r .0 .0 .1)) (r .0 .1) (r .1) (c .before .before .before .pre .1 .1 .0)
 
 returns-11 : tie.Need-returns-11
 returns-11 c =
     let s = c .before .before .before .before in
     let a = s .args in
-    string-told (now (a .tape)) (a .at) (a .end) (s .pre .0) (trailed (s .pre .1 .0)) _ (string (c .before)) (c .text-size .ensures)
+    string-told (quoting (a .quotes)) (now (a .tape)) (a .at) (a .end) (s .pre .0) (trailed (s .pre .1 .0)) _ (string (c .before)) (c .text-size .ensures)
 
 pub leaf-at-spec : {M : Type 1} → statement M
 leaf-at-spec =

@@ -7,6 +7,7 @@ use Rattle.tape.specs.Bytes.{part}
 use Rattle.tape.specs.CheckSteps.{notesFront}
 use Rattle.tape.proofs.Parts.{trailed, part-length, part-first, part-byte}
 use Rattle.tape.proofs.CodeReading.{notes-short, notes-few, notes-many}
+use Rattle.measure.specs.Steps.{quoting}
 use Rattle.measure.proofs.PartLaws.{notes-front, notes-length}
 use borrow.Author.Needs.{needs}
 use Rattle.measure.proofs.parts.notes_at.Statement.{statement}
@@ -27,7 +28,7 @@ returns c =
     let f = part-first (now (a .tape)) (a .at) (a .end) (s .pre .0) in
     let y = c .no-notes .ensures in
     let t = c .before .if1 .taken in
-    (rw y (sym (ap (notesFront (a .at) true false) (notes-short l (f ∙ s .pre .1 .1 .1) (omega arith)))), λ h. absurd (omega arith))
+    (rw y (sym (ap (notesFront (a .at) true false) (notes-short l (f ∙ s .pre .1 .1 .1 .0) (omega arith)))), λ h. absurd (omega arith))
 
 add-n : tie.Need-add-n
 add-n c = search needs
@@ -48,7 +49,7 @@ returns-2 c =
     let b = part-byte (now (a .tape)) (a .at) (a .end) 1 (omega arith) in
     let y = c .no-notes2 .ensures in
     let t = c .before .if2 .taken in
-    (rw y (sym (ap (notesFront (a .at) true false) (notes-few l (f ∙ s .pre .1 .1 .1) (omega arith)))), λ h. absurd (omega arith))
+    (rw y (sym (ap (notesFront (a .at) true false) (notes-few l (f ∙ s .pre .1 .1 .1 .0) (omega arith)))), λ h. absurd (omega arith))
 
 no-notes-requires-3 : tie.Need-no-notes-requires-3
 no-notes-requires-3 c κs = search needs
@@ -63,7 +64,7 @@ returns-3 c =
     let b = part-byte (now (a .tape)) (a .at) (a .end) 1 (omega arith) in
     let y = c .no-notes3 .ensures in
     let t = c .before .if3 .taken in
-    (rw y (sym (ap (notesFront (a .at) true false) (notes-many l (f ∙ s .pre .1 .1 .1) (omega arith)))), λ h. absurd (omega arith))
+    (rw y (sym (ap (notesFront (a .at) true false) (notes-many l (f ∙ s .pre .1 .1 .1 .0) (omega arith)))), λ h. absurd (omega arith))
 
 add-notes-from : tie.Need-add-notes-from
 add-notes-from c = search needs
@@ -78,8 +79,8 @@ returns-4 c =
     let q = c .before .before .before .before .if1 .left in
     let few = c .before .before .if2 .left in
     let many = c .before .if3 .left in (
-      rw (← notes-front (now (a .tape)) (a .at) (a .end) (omega arith) (s .pre .1 .1 .1) few many) (c .notes-from .ensures .0),
-      λ h. c .notes-from .ensures .1 h ∙ notes-length (now (a .tape)) (a .at) (a .end) (omega arith) (s .pre .1 .1 .1) few many,
+      rw (← notes-front (now (a .tape)) (a .at) (a .end) (omega arith) (s .pre .1 .1 .1 .0) few many) (c .notes-from .ensures .0),
+      λ h. c .notes-from .ensures .1 h ∙ notes-length (now (a .tape)) (a .at) (a .end) (omega arith) (s .pre .1 .1 .1 .0) few many (quoting (a .quotes)),
     )
 
 pub notes-at-spec : {M : Type 1} → statement M

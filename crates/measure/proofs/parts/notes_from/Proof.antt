@@ -13,19 +13,20 @@ use Rattle.tape.specs.CheckSteps.{symsFront, numberIn}
 use Rattle.tape.proofs.CodeFacts.{front-end, front-stop, front-step}
 use Rattle.tape.proofs.Parts.{trailed}
 use Rattle.measure.specs.Sums.{symLength}
+use Rattle.measure.specs.Steps.{quoting}
 use Rattle.measure.proofs.PartLaws.{sym-room, sym-length-most, flag-set, flag-left, notedFrom, noted-all, noted-end, noted-step}
 use borrow.Author.Needs.{needs}
 use Rattle.measure.proofs.parts.notes_from.Statement.{statement}
 use Rattle.measure.proofs.parts.notes_from.Tie as tie
 
 abbrev Inv-loop : tie.InvT-loop
-Inv-loop tape at end n p₀ left₀ length₀ numbered₀ p left len numbered =
+Inv-loop tape at end n quotes p₀ left₀ length₀ numbered₀ p left len numbered =
     ((1 ≤ p) × (p ≤ end) × (left ≤ n) × (len + 4200000 * left ≤ 4200000 * n))
     × (symsFront p numbered (symsOf left (part tape p end)) ≡ symsFront at false (symsOf n (part tape at end)))
-    × (notedFrom len (symsOf left (part tape p end)) ≡ notedFrom 0 (symsOf n (part tape at end)))
+    × (notedFrom (quoting quotes) len (symsOf left (part tape p end)) ≡ notedFrom (quoting quotes) 0 (symsOf n (part tape at end)))
 
 abbrev μ-loop : tie.MeasureT-loop
-μ-loop tape at end n p₀ left₀ length₀ numbered₀ p left len numbered = left
+μ-loop tape at end n quotes p₀ left₀ length₀ numbered₀ p left len numbered = left
 
 loop-holds : tie.Need-loop-holds Inv-loop μ-loop
 loop-holds c = ((c .before .pre .0 .0, c .before .pre .0 .1, omega arith, omega arith), refl, refl)
@@ -53,21 +54,21 @@ room c =
     sym-room (now (a .tape)) (l .p) (a .end) (l .inv .0 .1) (trailed (s .pre .1 .0)) _ (c .before .sym-size .ensures) (omega arith)
 
 -- and is not long
-most : (c : tie.Else1 Inv-loop μ-loop) → let a = c .before .before .before .before .before .args in symLength (part (now (a .tape)) (c .before .before .before .loop .p) (a .end)) + 2 ≤ 4200000
+most : (c : tie.Else1 Inv-loop μ-loop) → let a = c .before .before .before .before .before .args in symLength (quoting (a .quotes)) (part (now (a .tape)) (c .before .before .before .loop .p) (a .end)) + 2 ≤ 4200000
 most c =
     let s = c .before .before .before .before .before in
     let a = s .args in
     let l = c .before .before .before .loop in
     let z = c .if1 .left in
     let h = s .pre .1 .0 in
-    let g = s .pre .1 .1 in
-    sym-length-most (now (a .tape)) (l .p) (a .end) (l .inv .0 .1) (trailed (s .pre .1 .0)) _ (c .before .sym-size .ensures) (omega arith) (omega arith)
+    let g = s .pre .1 .1 .0 in
+    sym-length-most (now (a .tape)) (l .p) (a .end) (l .inv .0 .1) (trailed (s .pre .1 .0)) _ (c .before .sym-size .ensures) (omega arith) (quoting (a .quotes)) (omega arith)
 
 sym-length-requires : tie.Need-sym-length-requires Inv-loop μ-loop
 sym-length-requires c κs =
     let s = c .before .before .before .before .before in
     let z = c .if1 .left in
-    (c .before .before .before .loop .inv .0 .1, (s .pre .1 .0, (s .pre .1 .1, (c .before .sym-size .ensures, omega arith))))
+    (c .before .before .before .loop .inv .0 .1, (s .pre .1 .0, (s .pre .1 .1 .0, ((c .before .sym-size .ensures, omega arith), s .pre .1 .1 .1))))
 
 add-length : tie.Need-add-length Inv-loop μ-loop
 add-length c = let m = most (c .before) in let r = c .sym-length .ensures in record { fits = omega arith }
@@ -99,7 +100,7 @@ add-p c =
     let w = room (c .before .before .before) in
     let s = c .before .before .before .before .before .before .before .before in
     let h = s .pre .1 .0 in
-    let g = s .pre .1 .1 in
+    let g = s .pre .1 .1 .0 in
     record { fits = omega arith }
 
 sub-left : tie.Need-sub-left Inv-loop μ-loop
@@ -121,7 +122,7 @@ loop-again c =
     let m = most (c .before .before .before) in
     let i = l .inv .0 in
     let f = sym (front-step (now (a .tape)) (l .p) (a .end) (l .numbered) (l .left) _ t z y) ∙ l .inv .1 in
-    let d = sym (noted-step (now (a .tape)) (l .p) (a .end) (l .inv .0 .1) (trailed (s .pre .1 .0)) _ z (omega arith) (l .length) (l .left) t) ∙ l .inv .2 in
+    let d = sym (noted-step (quoting (a .quotes)) (now (a .tape)) (l .p) (a .end) (l .inv .0 .1) (trailed (s .pre .1 .0)) _ z (omega arith) (l .length) (l .left) t) ∙ l .inv .2 in
     ((omega arith, w, omega arith, omega arith), rw (flag c) f, rw r d)
 
 returns-2 : tie.Need-returns-2 Inv-loop μ-loop
@@ -130,8 +131,8 @@ returns-2 c =
     let l = c .before .loop in
     let e = front-end (l .p) (l .numbered) (l .left) (part (now (a .tape)) (l .p) (a .end)) (c .loop-test .left) in
     let q = l .inv .0 .0 in
-    let d = noted-end (l .length) (l .left) (part (now (a .tape)) (l .p) (a .end)) (c .loop-test .left) in
-    (rw (ne-eqb (l .p) 0 (λ y. omega arith)) (e ∙ l .inv .1), λ h. sym d ∙ l .inv .2 ∙ noted-all (symsOf (a .n) (part (now (a .tape)) (a .at) (a .end))))
+    let d = noted-end (quoting (a .quotes)) (l .length) (l .left) (part (now (a .tape)) (l .p) (a .end)) (c .loop-test .left) in
+    (rw (ne-eqb (l .p) 0 (λ y. omega arith)) (e ∙ l .inv .1), λ h. sym d ∙ l .inv .2 ∙ noted-all (quoting (a .quotes)) (symsOf (a .n) (part (now (a .tape)) (a .at) (a .end))))
 
 pub notes-from-spec : {M : Type 1} → statement M
 notes-from-spec =

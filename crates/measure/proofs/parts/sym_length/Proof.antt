@@ -8,6 +8,8 @@ use Rattle.text_rules.specs.Text.{symbolText}
 use Rattle.tape.specs.Bytes.{part}
 use Rattle.tape.proofs.Parts.{trailed}
 use Rattle.measure.specs.Sums.{symLength}
+use Rattle.measure.specs.Steps.{quoting}
+use Rattle.measure.proofs.SymbolLengths.{quotes-most}
 use Rattle.measure.proofs.PartLaws.{sym-room, sym-text-length, sym-id-length}
 use borrow.Author.Needs.{needs}
 use Rattle.measure.proofs.parts.sym_length.Statement.{statement}
@@ -15,14 +17,14 @@ use Rattle.measure.proofs.parts.sym_length.Tie as tie
 
 -- it ends within the part
 room : (c : tie.Start) → let a = c .args in a .at + a .size ≤ a .end
-room c = let a = c .args in sym-room (now (a .tape)) (a .at) (a .end) (c .pre .0) (trailed (c .pre .1 .0)) (a .size) (c .pre .1 .1 .1 .0) (c .pre .1 .1 .1 .1)
+room c = let a = c .args in sym-room (now (a .tape)) (a .at) (a .end) (c .pre .0) (trailed (c .pre .1 .0)) (a .size) (c .pre .1 .1 .1 .0 .0) (c .pre .1 .1 .1 .0 .1)
 
 -- what it is, where it is text
-text : (c : tie.Then1) → let a = c .before .before .before .args in (5 ≤ a .size) × (symLength (part (now (a .tape)) (a .at) (a .end)) ≡ length (symbolText (take (a .size - 5) (drop (a .at + 5) (now (a .tape))))))
+text : (c : tie.Then1) → let a = c .before .before .before .args in (5 ≤ a .size) × (symLength (quoting (a .quotes)) (part (now (a .tape)) (a .at) (a .end)) ≡ length (symbolText (quoting (a .quotes)) (take (a .size - 5) (drop (a .at + 5) (now (a .tape))))))
 text c =
     let s = c .before .before .before in
     let a = s .args in
-    sym-text-length (now (a .tape)) (a .at) (a .end) (s .pre .0) (trailed (s .pre .1 .0)) (a .size) (s .pre .1 .1 .1 .0) (s .pre .1 .1 .1 .1) (c .if1 .taken)
+    sym-text-length (now (a .tape)) (a .at) (a .end) (s .pre .0) (trailed (s .pre .1 .0)) (a .size) (s .pre .1 .1 .1 .0 .0) (s .pre .1 .1 .1 .0 .1) (quoting (a .quotes)) (c .if1 .taken)
 
 shared-slice-read-if1 : tie.Need-shared-slice-read-if1
 shared-slice-read-if1 c = search needs
@@ -40,8 +42,20 @@ plain-at-requires c κs =
     let e = c .before .before .before .pre .1 .0 in
     omega arith
 
+add-result : tie.Need-add-result
+add-result c =
+    let s = c .before .before .before .before .before in
+    let r = room s in
+    let e = s .pre .1 in
+    record { fits = omega (arith, quotes-most (quoting (s .args .quotes))) }
+
 returns : tie.Need-returns
-returns c = sym (c .before .plain-at .ensures (c .if2 .taken)) ∙ sym (text (c .before .before) .1)
+returns c =
+    let s = c .before .before .before .before .before in
+    let p = c .before .plain-at .ensures (c .if2 .taken) (quoting (s .args .quotes)) in
+    let t = text (c .before .before) .1 in
+    let m = s .pre .1 .1 .1 .1 in
+    omega arith
 
 add-symbol-length : tie.Need-add-symbol-length
 add-symbol-length c = search needs
@@ -50,8 +64,8 @@ symbol-length-requires : tie.Need-symbol-length-requires
 symbol-length-requires c κs =
     let t = text (c .before .before) .0 in
     let r = room (c .before .before .before .before .before) in
-    let e = c .before .before .before .before .before .pre .1 .0 in
-    omega arith
+    let e = c .before .before .before .before .before .pre .1 in
+    (omega arith, (omega arith, e .1 .1 .1))
 
 returns-2 : tie.Need-returns-2
 returns-2 c = c .symbol-length .ensures ∙ sym (text (c .before .before .before) .1)
@@ -73,7 +87,7 @@ returns-3 c =
     let s = c .before .before .before .before .before in
     let a = s .args in
     c .symbol-id-length .ensures
-    ∙ sym (sym-id-length (now (a .tape)) (a .at) (a .end) (s .pre .0) (trailed (s .pre .1 .0)) (a .size) (s .pre .1 .1 .1 .0) (s .pre .1 .1 .1 .1) _ (c .before .u32-at .ensures .0) (c .before .before .if1 .left) .1)
+    ∙ sym (sym-id-length (now (a .tape)) (a .at) (a .end) (s .pre .0) (trailed (s .pre .1 .0)) (a .size) (s .pre .1 .1 .1 .0 .0) (s .pre .1 .1 .1 .0 .1) (quoting (a .quotes)) _ (c .before .u32-at .ensures .0) (c .before .before .if1 .left) .1)
 
 pub sym-length-spec : {M : Type 1} → statement M
 sym-length-spec =
@@ -83,6 +97,7 @@ sym-length-spec =
     sub-n
     add-plain-at
     plain-at-requires
+    add-result
     returns
     add-symbol-length
     symbol-length-requires

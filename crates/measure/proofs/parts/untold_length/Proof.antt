@@ -19,6 +19,7 @@ use Rattle.tape.proofs.Scalar.{the-type}
 use Rattle.tape.proofs.Parts.{trailed}
 use Rattle.writer.specs.Text.{scalarText}
 use Rattle.writer.proofs.Leaves.{LeafAt, symbol-leaf, string-leaf}
+use Rattle.measure.specs.Steps.{quoting}
 use Rattle.measure.proofs.PartLaws.{stands, untold-clob, symbol-length-is, string-length-is, clob-length-is, float-read, clob-leaf, kind-is}
 use borrow.Author.Needs.{needs}
 use Rattle.measure.proofs.parts.untold_length.Statement.{statement}
@@ -63,7 +64,7 @@ clob-here : (c : tie.Else3) → let a = c .before .before .before .before .befor
 clob-here c =
     let s = c .before .before .before .before .before .before in
     let a = s .args in
-    clob-leaf (now (a .tape)) (a .at) (a .end) (s .pre .0) (trailed (s .pre .1 .0)) (s .pre .1 .1 .0) _ (c .before .before .u32-at .ensures .0) (untold-clob _ (s .pre .1 .1 .1) (c .before .before .before .if1 .left) (c .before .if2 .left) (c .if3 .left))
+    clob-leaf (now (a .tape)) (a .at) (a .end) (s .pre .0) (trailed (s .pre .1 .0)) (s .pre .1 .1 .0) _ (c .before .before .u32-at .ensures .0) (untold-clob _ (s .pre .1 .1 .1 .0) (c .before .before .before .if1 .left) (c .before .if2 .left) (c .if3 .left))
 
 shared-slice-read-k : tie.Need-shared-slice-read-k
 shared-slice-read-k c = search needs
@@ -127,11 +128,12 @@ add-from c = search needs
 symbol-length-at-requires : tie.Need-symbol-length-at-requires
 symbol-length-at-requires c κs =
     let r = symbol-here c .room in
-    let k = c .before .before .before .before .before .pre .1 .0 in
-    omega arith
+    let p = c .before .before .before .before .before .pre .1 in
+    let k = p .0 in
+    (p .1 .1 .1, (omega arith, omega arith))
 
 returns-4 : tie.Need-returns-4
-returns-4 c = c .symbol-length-at .ensures ∙ sym (symbol-length-is _ (symbol-here (c .before)))
+returns-4 c = c .symbol-length-at .ensures ∙ sym (symbol-length-is _ _ (symbol-here (c .before)))
 
 string-length-at-requires : tie.Need-string-length-at-requires
 string-length-at-requires c κs =
@@ -140,7 +142,7 @@ string-length-at-requires c κs =
     omega arith
 
 returns-5 : tie.Need-returns-5
-returns-5 c = c .string-length-at .ensures ∙ sym (string-length-is _ (string-here (c .before)))
+returns-5 c = c .string-length-at .ensures ∙ sym (string-length-is _ _ (string-here (c .before)))
 
 add-to : tie.Need-add-to
 add-to c = search needs
@@ -165,7 +167,7 @@ returns-6 c =
     let a = c .before .before .before .before .before .before .before .before .args in
     let n = c .before .before .before .before .u32-at .result in
     let e : a .at + 5 + n - (a .at + 5) ≡ n = omega arith in
-    rw e at (c .clob-length .ensures) ∙ sym (clob-length-is n (clob-here (c .before .before)))
+    rw e at (c .clob-length .ensures) ∙ sym (clob-length-is (quoting (a .quotes)) n (clob-here (c .before .before)))
 
 pub untold-length-spec : {M : Type 1} → statement M
 untold-length-spec =

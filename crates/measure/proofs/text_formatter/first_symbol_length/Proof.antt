@@ -3,20 +3,20 @@ use mathlib.Core.Path.{_≡_, sym, ap, _∙_}
 use mathlib.Core.Bool.{true, false}
 use mathlib.Core.Logic.{⊎-elim}
 use native.Mathlib.Omega.{arith}
-use lib.ListN.{length, take, length-take}
+use lib.ListN.{take, length-take}
 use lib.Seq.{getD-take, length-take-le}
 use Rattle.text_rules.specs.Words.{isStart}
 use Rattle.text_rules.specs.WordSteps.{isBare, allPart}
 use Rattle.text_rules.proofs.EscapesLaws.{text-body-most}
 use Rattle.text_rules.proofs.LaneTests.{other-marked}
-use Rattle.text_rules.proofs.SymbolsText.{symbol-bare}
-use Rattle.measure.proofs.SymbolLengths.{nothing-length, start-marked, plain-quoted, quoted-length}
+use Rattle.measure.specs.Steps.{quoting}
+use Rattle.measure.proofs.SymbolLengths.{quotes-most, nothing-length, start-marked, plain-quoted, open-length, quoted-length}
 use borrow.Author.Needs.{needs}
 use Rattle.measure.proofs.text_formatter.first_symbol_length.Statement.{statement}
 use Rattle.measure.proofs.text_formatter.first_symbol_length.Tie as tie
 
 returns : tie.Need-returns
-returns c = rw (c .if1 .taken) (sym nothing-length)
+returns c = rw (c .if1 .taken) (sym (nothing-length _))
 
 shared-slice-read-is-start : tie.Need-shared-slice-read-is-start
 shared-slice-read-is-start c = search needs
@@ -47,18 +47,23 @@ bare c =
     let h = ap isStart (getD-take (a .n) (a .s .now) 0 0 (omega arith)) ∙ sym (c .before .before .before .before .before .is-start .ensures) ∙ c .before .before .before .before .if2 .taken in
     c .stands-bare .ensures (parts c) h
 
+add-result : tie.Need-add-result
+add-result c =
+    let a = c .before .before .before .before .before .before .before .before .before .before in
+    record { fits = omega (arith, quotes-most (quoting (a .args .quotes)), a .pre) }
+
 returns-2 : tie.Need-returns-2
 returns-2 c =
     let a = c .before .before .before .before .before .before .before .before .before .before in
-    omega (arith, ap length (symbol-bare _ (sym (bare (c .before)) ∙ c .if4 .taken)), length-take (a .args .n) (a .args .s .now), a .pre)
+    omega (arith, open-length (quoting (a .args .quotes)) _ (sym (bare (c .before)) ∙ c .if4 .taken), length-take (a .args .n) (a .args .s .now), a .pre)
 
-add-result : tie.Need-add-result
-add-result c = search needs
+add-result-2 : tie.Need-add-result-2
+add-result-2 c = search needs
 
 returns-3 : tie.Need-returns-3
 returns-3 c =
     let a = c .before .before .before .before .before .before .before .before .before .before in
-    omega (arith, plain-quoted _ (sym (bare (c .before)) ∙ c .if4 .left) (parts (c .before)), length-take (a .args .n) (a .args .s .now), a .pre)
+    omega (arith, plain-quoted (quoting (a .args .quotes)) _ (sym (bare (c .before)) ∙ c .if4 .left) (parts (c .before)), length-take (a .args .n) (a .args .s .now), a .pre)
 
 escaped-text-body-length-requires : tie.Need-escaped-text-body-length-requires
 escaped-text-body-length-requires c κs = search needs
@@ -75,8 +80,8 @@ not-bare c =
     (λ w. start-marked l (omega (arith, length-take (a .args .n) s, a .pre)) (ap isStart (getD-take (a .args .n) s 0 0 (omega arith)) ∙ sym (c .before .is-start .ensures) ∙ w .left))
     (c .if2 .came)
 
-add-result-2 : tie.Need-add-result-2
-add-result-2 c =
+add-result-3 : tie.Need-add-result-3
+add-result-3 c =
     let a = c .before .before .before .before .before .before in
     let l = take (a .args .n) (a .args .s .now) in
     record { fits = omega (arith, c .escaped-text-body-length .ensures, text-body-most l, length-take (a .args .n) (a .args .s .now), a .pre, a .good) }
@@ -84,7 +89,7 @@ add-result-2 c =
 returns-4 : tie.Need-returns-4
 returns-4 c =
     let a = c .before .before .before .before .before .before .args in
-    omega (arith, c .escaped-text-body-length .ensures, quoted-length (take (a .n) (a .s .now)) (not-bare (c .before)))
+    omega (arith, c .escaped-text-body-length .ensures, quoted-length (quoting (a .quotes)) (take (a .n) (a .s .now)) (not-bare (c .before)))
 
 pub first-symbol-length-spec : {M : Type 1} → statement M
 first-symbol-length-spec =
@@ -96,9 +101,10 @@ first-symbol-length-spec =
     is-word-requires
     slice-aggregate-stands-bare
     stands-bare-requires
-    returns-2
     add-result
+    returns-2
+    add-result-2
     returns-3
     escaped-text-body-length-requires
-    add-result-2
+    add-result-3
     returns-4)

@@ -2,7 +2,7 @@
 use Prim.Native.Nat.{ℕ, _+_, _*_, _-_, _<_, _≤_}
 use mathlib.Core.Path.{_≡_, refl, sym, ap, subst, _∙_}
 use mathlib.Core.List.{List}
-use mathlib.Core.Bool.{false}
+use mathlib.Core.Bool.{Bool, false}
 use mathlib.Core.Logic.{⊎-elim}
 use native.Mathlib.Omega.{arith}
 use denote.Ref.{now}
@@ -27,7 +27,7 @@ use Rattle.tape.proofs.check.span.Reads as span
 use Rattle.writer.specs.Text.{notesText}
 use Rattle.writer.specs.Steps.{notesIn}
 use Rattle.measure.specs.Sums.{leafLength}
-use Rattle.measure.specs.Steps.{flagged}
+use Rattle.measure.specs.Steps.{quotesOf, quoting, flagged}
 use Rattle.measure.proofs.PartLaws.{blob-told}
 use Rattle.measure.proofs.SumSteps.{Flags, flags-are, note-set, number-set, number-left, Noted, notes-told, notes-bad, Fronted, Named, name-there, name-within, name-short, notes-short, head-seen, fronted, noted-here, bare-fronted, Body, Walking, walk-start, walk-deep, refusing, sums-fit, ended, Child, end-most, texts-most, children-most, sums-most, refuse, front-most, scalar-within, scalar-short, told-most, scalar-on, span-room, span-missed, sized-code, sized-two, sized-most, sized-on, marker-on, container-refused, container-most, container-on}
 use Rattle.measure.proofs.blobs.blob_length.Reads as blob-length
@@ -84,10 +84,10 @@ callees t = (
 )
 
 abbrev Inv : lts.InvT-loop
-Inv tape from end frame depth sums₀ seen₀ width at₀ n₀ count₀ sums seen at n count = Walking tape from end frame depth sums₀ seen₀ sums seen at n count
+Inv tape from end frame depth sums₀ seen₀ quotes width at₀ n₀ count₀ sums seen at n count = Walking (quoting quotes) tape from end frame depth sums₀ seen₀ sums seen at n count
 
 abbrev μ-loop : lts.MeasureT-loop
-μ-loop tape from end frame depth sums₀ seen₀ width at₀ n₀ count₀ sums seen at n count = end - at
+μ-loop tape from end frame depth sums₀ seen₀ quotes width at₀ n₀ count₀ sums seen at n count = end - at
 
 -- ---- a body
 
@@ -113,10 +113,16 @@ module _ (t : ℕ) (c : lts.At-loop (callees t) (at t) own.Post Inv μ-loop) whe
   abbrev seen₀ : List ℕ
   seen₀ = now (c .before .before .before .args .seen)
 
+  abbrev quoted : Bool
+  quoted = quoting (c .before .before .before .args .quotes)
+
+  quotes-are : c .before .before .before .args .quotes ≡ quotesOf quoted
+  quotes-are = c .before .before .before .pre .1 .1 .1 .1 .1 .1 .1 .0
+
   body : Body tape from end depth sums₀
   body =
       let r = c .before .before .before .pre .1 .1 in
-      record { bytes = λ i. c .before .before .shared-slice-known .given i .fits; trails = r .0; most = r .1 .0; opened = c .before .if1 .left; low = r .1 .1 .0; before = r .1 .1 .1 .1 .1 }
+      record { bytes = λ i. c .before .before .shared-slice-known .given i .fits; trails = r .0; most = r .1 .0; opened = c .before .if1 .left; low = r .1 .1 .0; before = r .1 .1 .1 .1 .1 .1 }
 
 -- ---- a child
 
@@ -133,7 +139,7 @@ module _ (t : ℕ) (c : lts.In-loop (callees t) (at t) own.Post Inv μ-loop) whe
   abbrev seen : List ℕ
   seen = it .loop .seen
 
-  child : Child (tape t it) (from t it) (end t it) (frame t it) (depth t it) (sums₀ t it) (seen₀ t it) (it .loop .sums) seen place bytes (it .loop .count)
+  child : Child (quoted t it) (tape t it) (from t it) (end t it) (frame t it) (depth t it) (sums₀ t it) (seen₀ t it) (it .loop .sums) seen place bytes (it .loop .count)
   child = record { body = body t it; walking = it .loop .inv; left = c .loop-test .taken }
 
 -- ---- behind its name, or where there is none
@@ -186,7 +192,7 @@ module _ (t : ℕ) (c : lts.Else5 (callees t) (at t) own.Post Inv μ-loop) where
   noted : Noted (notes-part t (at-name t at-notes)) (behind t (at-name t at-notes)) (c .before .before .notes-at .result .at) (c .before .before .notes-at .result .numbered)
   noted = notes-told _ _ _ _ (c .if5 .left) (c .before .before .notes-at .ensures .0)
 
-  notes-text : c .before .before .notes-at .result .length ≡ length (notesText (notesIn (notes-part t (at-name t at-notes))))
+  notes-text : c .before .before .notes-at .result .length ≡ length (notesText (quoted t (at-child t (at-name t at-notes))) (notesIn (notes-part t (at-name t at-notes))))
   notes-text = let z = c .if5 .left in c .before .before .notes-at .ensures .1 (omega arith)
 
 module _ (t : ℕ) (c : lts.Joined4 (callees t) (at t) own.Post Inv μ-loop) where
@@ -208,7 +214,7 @@ module _ (t : ℕ) (c : lts.Joined4 (callees t) (at t) own.Post Inv μ-loop) whe
   abbrev value-part : List ℕ
   value-part = part (tape t loop) value (end t loop)
 
-  headed : Fronted (frame t loop) (tape t loop) (place t inside) (end t loop) (bytes t inside) (seen t inside) value (c .if4 .n) (c .if4 .seen)
+  headed : Fronted (quoted t loop) (frame t loop) (tape t loop) (place t inside) (end t loop) (bytes t inside) (seen t inside) value (c .if4 .n) (c .if4 .seen)
   headed =
       let a = at-head .before .before .field-name-length .ensures in
       ⊎-elim
@@ -218,7 +224,7 @@ module _ (t : ℕ) (c : lts.Joined4 (callees t) (at t) own.Post Inv μ-loop) whe
       let x = w .9 in
       let y = notes-text t k in
       let g = note-set (at-head .if3 .seen) (name-met t at-head .long) (noted-here l (noted t k) (more t at-front) (w .0 .taken)) in
-      fronted l (noted t k) (w .10) (w .5 .left) a (omega arith) (name-met t at-head) (number-set g (w .7 .taken) (w .8)))
+      fronted l (noted t k) (quoted t loop) (w .10) (w .5 .left) a (omega arith) (name-met t at-head) (number-set g (w .7 .taken) (w .8)))
       (⊎-elim
       (λ w.
       let k : lts.Else5 (callees t) (at t) own.Post Inv μ-loop = record { before = record { before = record { before = record { before = c .before; if4 = w .0 }; notes-at = w .1 }; struct-known = w .2 }; if5 = w .3 } in
@@ -226,8 +232,8 @@ module _ (t : ℕ) (c : lts.Joined4 (callees t) (at t) own.Post Inv μ-loop) whe
       let x = w .9 in
       let y = notes-text t k in
       let g = note-set (at-head .if3 .seen) (name-met t at-head .long) (noted-here l (noted t k) (more t at-front) (w .0 .taken)) in
-      fronted l (noted t k) (w .10) (w .5 .left) a (omega arith) (name-met t at-head) (number-left g (w .7 .left) (w .8)))
-      (λ w. bare-fronted (named t at-front) (w .3) (more t at-front) (w .0 .left) a (w .2) (name-met t at-head) (w .1)))
+      fronted l (noted t k) (quoted t loop) (w .10) (w .5 .left) a (omega arith) (name-met t at-head) (number-left g (w .7 .left) (w .8)))
+      (λ w. bare-fronted (named t at-front) (quoted t loop) (w .3) (more t at-front) (w .0 .left) a (w .2) (name-met t at-head) (w .1)))
       (c .if4 .came)
 
   kind-is : kind value-part ≡ getD (tape t loop) value 0
@@ -255,7 +261,7 @@ module _ (t : ℕ) (c : lts.Joined10 (callees t) (at t) own.Post Inv μ-loop) wh
   abbrev leaf-start : lts.Joined4 (callees t) (at t) own.Post Inv μ-loop
   leaf-start = at-leaf t at-size
 
-  leaf-text : c .if10 .n ≡ leaf-start .if4 .n + leafLength (value-part t leaf-start)
+  leaf-text : c .if10 .n ≡ leaf-start .if4 .n + leafLength (quoted t (loop t leaf-start)) (value-part t leaf-start)
   leaf-text =
       let e = at-size .before .before .leaf-at .ensures .1 .0 in
       ⊎-elim
@@ -321,8 +327,8 @@ module _ (t : ℕ) (c : lts.After-blob-length (callees t) (at t) own.Post Inv μ
   abbrev blob-start : lts.Joined4 (callees t) (at t) own.Post Inv μ-loop
   blob-start = at-blob t (c .before)
 
-  blob-text : c .blob-length .result ≡ leafLength (value-part t blob-start)
-  blob-text = let b = c .before .before in blob-told (value-part t blob-start) (kind-is t blob-start ∙ b .before .if16 .taken) _ _ (b .span2 .ensures) (c .before .if17 .left) (c .blob-length .ensures)
+  blob-text : c .blob-length .result ≡ leafLength (quoted t (loop t blob-start)) (value-part t blob-start)
+  blob-text = let b = c .before .before in blob-told (quoted t (loop t blob-start)) (value-part t blob-start) (kind-is t blob-start ∙ b .before .if16 .taken) _ _ (b .span2 .ensures) (c .before .if17 .left) (c .blob-length .ensures)
 
 -- ---- the needs
 
@@ -350,13 +356,13 @@ module _ (t : ℕ) where
       refuse v refl (name-refused (depth t l) (frame t l) (tape t l) (place t i) (end t l) (v .body .opened) (v .left) (trailed (v .body .trails)) false false _ (c .before .behind-name .ensures) (c .if2 .taken))
 
   field-name-length-requires : lts.Need-field-name-length-requires (callees t) (at t) own.Post Inv μ-loop
-  field-name-length-requires c κs = (child t (in-loop t c) .walking .within, (body t (at-child t c) .trails, name-there (named t c)))
+  field-name-length-requires c κs = (child t (in-loop t c) .walking .within, (body t (at-child t c) .trails, (name-there (named t c), quotes-are t (at-child t c))))
 
   add-n : lts.Need-add-n (callees t) (at t) own.Post Inv μ-loop
   add-n c =
       let v = child t (in-loop t (c .before)) in
       let u = named t (c .before) in
-      record { fits = omega (arith, texts-most v, end-most v, name-short u, name-within u .0, name-within u .1, c .field-name-length .ensures) }
+      record { fits = omega (arith, texts-most v, end-most v, name-short u (quoted t (at-child t (c .before))), name-within u .0, name-within u .1, c .field-name-length .ensures) }
 
   name-number-requires : lts.Need-name-number-requires (callees t) (at t) own.Post Inv μ-loop
   name-number-requires c κs = (child t (in-loop t (c .before)) .left, trailed (body t (at-child t (c .before)) .trails))
@@ -368,7 +374,7 @@ module _ (t : ℕ) where
   shared-slice-read-if4 c = let i = at-name t (c .before) in omega (arith, more t i, body t (at-child t i) .trails)
 
   notes-at-requires : lts.Need-notes-at-requires (callees t) (at t) own.Post Inv μ-loop
-  notes-at-requires c κs = let i = at-name t (c .before .before) in (more t i, (body t (at-child t i) .trails, (body t (at-child t i) .most, c .if4 .taken)))
+  notes-at-requires c κs = let i = at-name t (c .before .before) in (more t i, (body t (at-child t i) .trails, (body t (at-child t i) .most, (c .if4 .taken, quotes-are t (at-child t i)))))
 
   returns-3 : lts.Need-returns-3 (callees t) (at t) own.Post Inv μ-loop
   returns-3 c =
@@ -393,7 +399,7 @@ module _ (t : ℕ) where
       let u = named t i in
       let n = noted t (c .before .before .before) in
       let a = j .before .before .field-name-length .ensures in
-      record { fits = omega (arith, texts-most v, end-most v, name-short u, name-within u .0, notes-short u n, n .read .place, head-seen u n .within, a, notes-text t (c .before .before .before)) }
+      record { fits = omega (arith, texts-most v, end-most v, name-short u (quoted t (at-child t i)), name-within u .0, notes-short u n (quoted t (at-child t i)), n .read .place, head-seen u n .within, a, notes-text t (c .before .before .before)) }
 
   element-write-seen-2 : lts.Need-element-write-seen-2 (callees t) (at t) own.Post Inv μ-loop
   element-write-seen-2 c = search needs
@@ -408,7 +414,7 @@ module _ (t : ℕ) where
   shared-slice-read-k c = omega (arith, headed t (c .before) .more, body t (loop t (c .before)) .trails)
 
   leaf-at-requires : lts.Need-leaf-at-requires (callees t) (at t) own.Post Inv μ-loop
-  leaf-at-requires c κs = (headed t (c .before .before) .more, (body t (loop t (c .before .before)) .trails, c .if8 .taken))
+  leaf-at-requires c κs = (headed t (c .before .before) .more, (body t (loop t (c .before .before)) .trails, (c .if8 .taken, quotes-are t (loop t (c .before .before)))))
 
   size-fault-requires : lts.Need-size-fault-requires (callees t) (at t) own.Post Inv μ-loop
   size-fault-requires c κs = search needs
@@ -431,7 +437,7 @@ module _ (t : ℕ) where
   untold-length-requires c κs =
       let i = c .before .before .before .before in
       let l = i .before .before .leaf-at .ensures in
-      (omega (arith, headed t (at-leaf t i) .more), (body t (loop t (at-leaf t i)) .trails, (omega (arith, l .0, i .if9 .left), l .1 .1 (i .if9 .left) (c .if10 .taken))))
+      (omega (arith, headed t (at-leaf t i) .more), (body t (loop t (at-leaf t i)) .trails, (omega (arith, l .0, i .if9 .left), (l .1 .1 (i .if9 .left) (c .if10 .taken), quotes-are t (loop t (at-leaf t i))))))
 
   add-n-4 : lts.Need-add-n-4 (callees t) (at t) own.Post Inv μ-loop
   add-n-4 c =
@@ -481,7 +487,7 @@ module _ (t : ℕ) where
       let m = headed t j .more in
       let s = sized-code v (headed t j) (omega arith) (λ h. omega arith) (i .before .span .ensures) (i .if13 .left) in
       let z = sized-two v (headed t j) (omega arith) (λ h. omega arith) (i .before .span .ensures) (i .if13 .left) in
-      (omega arith, (body t (loop t j) .trails, (omega arith, rw (c .if14 .taken) refl)))
+      (omega arith, (body t (loop t j) .trails, (omega arith, (rw (c .if14 .taken) refl, quotes-are t (loop t j)))))
 
   add-n-5 : lts.Need-add-n-5 (callees t) (at t) own.Post Inv μ-loop
   add-n-5 c =
@@ -518,7 +524,7 @@ module _ (t : ℕ) where
       let d = v .body .low in
       let r = v .body .trails in
       let h = headed t j .head .behind in
-      (omega arith, (u .inner, (omega arith, (v .body .most, (omega arith, (v .walking .left .long, (headed t j .flags .long, sums-most v (omega arith))))))))
+      (omega arith, (u .inner, (omega arith, (v .body .most, (omega arith, (v .walking .left .long, (headed t j .flags .long, (quotes-are t (loop t j), sums-most v (omega arith)))))))))
 
   returns-7 : lts.Need-returns-7 (callees t) (at t) own.Post Inv μ-loop
   returns-7 c =

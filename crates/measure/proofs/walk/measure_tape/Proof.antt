@@ -2,6 +2,7 @@
 use Prim.Native.Nat.{ℕ, _+_, _-_}
 use mathlib.Core.Path.{_≡_, refl, sym, ap, _∙_}
 use mathlib.Core.List.{List}
+use mathlib.Core.Bool.{Bool}
 use native.Mathlib.Omega.{arith}
 use denote.Ref.{now}
 use lib.Dec.{eqb}
@@ -18,16 +19,17 @@ use Rattle.tape.proofs.CodeVerdict.{misfit-short, misfit-long, misfit-body, ref
 use Rattle.tape.proofs.Verdicts.{nodes-walked}
 use Rattle.measure.specs.Sums.{contents, separators, lasts, indents, summed}
 use Rattle.measure.specs.Steps.{plus}
+use Rattle.measure.proofs.SymbolLengths.{setting-is, quotes-are}
 use Rattle.measure.proofs.Verdicts.{met-checks}
 use borrow.Author.Needs.{needs}
 use Rattle.measure.proofs.walk.measure_tape.Statement.{statement}
 use Rattle.measure.proofs.walk.measure_tape.Tie as tie
 
 -- sums that go on from nothing
-from-nothing : (ns : Nodes) → plus (replicate 4 0) (summed Top 0 ns) ≡ summed Top 0 ns
+from-nothing : (quoted : Bool) (ns : Nodes) → plus (replicate 4 0) (summed quoted Top 0 ns) ≡ summed quoted Top 0 ns
 unfolding plus summed
-from-nothing ns =
-    let c : 0 + contents ns ≡ contents ns = omega arith in
+from-nothing quoted ns =
+    let c : 0 + contents quoted ns ≡ contents quoted ns = omega arith in
     let s : 0 + separators Top ns ≡ separators Top ns = omega arith in
     let l : 0 + lasts Top ns ≡ lasts Top ns = omega arith in
     let i : 0 + indents 0 ns ≡ indents 0 ns = omega arith in
@@ -40,7 +42,7 @@ module _ (c : tie.After-first-of) where
   nodes = c .before .before .before
 
   abbrev fits : tie.Else3
-  fits = nodes .before .before .before
+  fits = nodes .before .before .before .before
 
   abbrev tape : List ℕ
   tape = now (fits .before .before .before .before .before .args .tape)
@@ -100,11 +102,15 @@ returns-3 c =
     let f = c .refused3 .ensures .fault in
     (refuse-misfit (now (c .before .before .before .before .before .before .args .tape)) (misfit-body _ (λ e. c .before .if3 .taken (ap (λ (i : ℕ). i + 8) (c .before .before .u32-at .ensures .0) ∙ e))) _ (c .refused3 .ensures), λ z. absurd (omega arith))
 
+quotes-of-requires : tie.Need-quotes-of-requires
+quotes-of-requires c κs = search needs
+
 measure-nodes-requires : tie.Need-measure-nodes-requires
 measure-nodes-requires c κs =
-    let i = c .before .before in
-    let e = i .before .before .before .before .before .pre in
-    (omega arith, (omega arith, (i .before .before .if2 .left, (omega arith, (rw e refl, (refl, rw e (record { contents = omega arith; separators = omega arith; lasts = omega arith; indents = omega arith })))))))
+    let i = c .before .before .before in
+    let s = i .before .before .before .before .before in
+    let e = s .pre in
+    (omega arith, (omega arith, (i .before .before .if2 .left, (omega arith, (rw e refl, (refl, (quotes-are (s .args .quoted) _ (c .before .before .quotes-of .ensures), rw e (record { contents = omega arith; separators = omega arith; lasts = omega arith; indents = omega arith }))))))))
 
 add-u32-at : tie.Need-add-u32-at
 add-u32-at c = search needs
@@ -131,22 +137,25 @@ returns-4 c =
     let f = c .refused4 .ensures .fault in
     (refuse-nodes (tape l) (fits l .before .before .before .if1 .left) (fits l .before .before .if2 .left) (body l) (told l (fault l)) (checks l (fault l) refl) _ (faults l) n _ (c .refused4 .ensures), λ z. absurd (n (sym f ∙ z)))
 
-array-read-t12 : tie.Need-array-read-t12
-array-read-t12 c = search needs
+array-read-t14 : tie.Need-array-read-t14
+array-read-t14 c = search needs
 
-array-read-t11 : tie.Need-array-read-t11
-array-read-t11 c = search needs
+array-read-t13 : tie.Need-array-read-t13
+array-read-t13 c = search needs
 
-array-read-t25 : tie.Need-array-read-t25
-array-read-t25 c = search needs
+array-read-t27 : tie.Need-array-read-t27
+array-read-t27 c = search needs
 
 returns-5 : tie.Need-returns-5
 returns-5 c =
     let l = c .before in
     let z : fault l ≡ 0 = first-zero _ _ (sym (faults l) ∙ c .if4 .left) .0 in
-    let e = fits l .before .before .before .before .before .pre in (
+    let s = fits l .before .before .before .before .before in
+    let q = s .args .quoted in
+    let k = setting-is q _ (nodes l .before .before .before .quotes-of .ensures) in
+    let e = s .pre in (
       accept (tape l) (fits l .before .before .before .if1 .left) (fits l .before .before .if2 .left) (body l) (told l 0) (checks l 0 (sym z)) _ (faults l ∙ ap (λ (i : ℕ). first i (miscount l)) z) (c .if4 .left),
-      λ _. nodes l .measure-nodes .ensures .1 .0 z ∙ ap (λ (s : List ℕ). plus s (summed Top 0 (walk 65 Top (part (tape l) 0 (length (tape l) - 8)) .0))) e ∙ ap (λ (ns : Nodes). plus (replicate 4 0) (summed Top 0 ns)) (nodes-walked (tape l)) ∙ from-nothing (nodesOf (tape l)),
+      λ _. rw k at (nodes l .measure-nodes .ensures .1 .0 z) ∙ ap (λ (s : List ℕ). plus s (summed q Top 0 (walk 65 Top (part (tape l) 0 (length (tape l) - 8)) .0))) e ∙ ap (λ (ns : Nodes). plus (replicate 4 0) (summed q Top 0 ns)) (nodes-walked (tape l)) ∙ from-nothing q (nodesOf (tape l)),
     )
 
 pub measure-tape-spec : {M : Type 1} → statement M
@@ -161,6 +170,7 @@ measure-tape-spec =
     add-if3
     refused-requires-3
     returns-3
+    quotes-of-requires
     measure-nodes-requires
     add-u32-at
     u32-at-requires-2
@@ -169,7 +179,7 @@ measure-tape-spec =
     first-of-requires
     refused-requires-4
     returns-4
-    array-read-t12
-    array-read-t11
-    array-read-t25
+    array-read-t14
+    array-read-t13
+    array-read-t27
     returns-5)

@@ -21,7 +21,7 @@ starts-no-keyword-requires : tie.Need-starts-no-keyword-requires
 starts-no-keyword-requires c κs = search needs
 
 -- letters and `_` that are no keyword
-bare : (c : tie.Else1) → let a = c .before .before .args in isKeyword (leBytes (a .n) (a .x)) ≡ false → symbolText (leBytes (a .n) (a .x)) ≡ leBytes (a .n) (a .x)
+bare : (c : tie.Else1) → let a = c .before .before .args in isKeyword (leBytes (a .n) (a .x)) ≡ false → symbolText false (leBytes (a .n) (a .x)) ≡ leBytes (a .n) (a .x)
 bare c k =
     let a = c .before .before in
     letters-word (a .args .n) (a .args .x) (a .pre .0) (sym (c .before .is-letter-word .ensures) ∙ not-false _ (c .if1 .left)) k

@@ -24,7 +24,7 @@ same-length-2 : tie.Need-same-length-2
 same-length-2 c = search needs
 
 returns-2 : tie.Need-returns-2
-returns-2 c = rw (symbol-marked (c .before .before .before .before .before .before .before .before .args .text .now) (sym (c .before .before .before .before .before .is-bare .ensures) ∙ c .before .before .before .before .if1 .left)) (c .before .before .put-marked .ensures)
+returns-2 c = rw (symbol-marked _ (c .before .before .before .before .before .before .before .before .args .text .now) (sym (c .before .before .before .before .before .is-bare .ensures) ∙ c .before .before .before .before .if1 .left)) (c .before .before .put-marked .ensures)
 
 pub format-symbol-token-spec : {M : Type 1} → statement M
 format-symbol-token-spec =

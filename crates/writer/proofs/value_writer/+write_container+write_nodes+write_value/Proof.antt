@@ -80,13 +80,13 @@ abbrev value-calls : ℕ → value-lts.Claims
 value-calls t = (write-leaf.Asked, write-leaf.Learnt, write-marker.Asked, write-marker.Learnt, write-blob-node.Asked, write-blob-node.Learnt, container-below t, container-reads.Post)
 
 abbrev Inv : nodes-lts.InvT-loop
-Inv tape from end frame depth layout width buf₀ pos s at₀ p₀ buf at p =
+Inv tape from end frame depth layout width quoted buf₀ pos s at₀ p₀ buf at p =
     (at ≤ end)
     × (walk depth frame (part tape at end) .1 ≡ 0)
-    × Progress buf₀ buf pos p (items layout frame width (walk depth frame (part tape from end) .0)) (items layout frame width (walk depth frame (part tape at end) .0))
+    × Progress buf₀ buf pos p (items quoted layout frame width (walk depth frame (part tape from end) .0)) (items quoted layout frame width (walk depth frame (part tape at end) .0))
 
 abbrev μ-loop : nodes-lts.MeasureT-loop
-μ-loop tape from end frame depth layout width buf₀ pos s at₀ p₀ buf at p = end - at
+μ-loop tape from end frame depth layout width quoted buf₀ pos s at₀ p₀ buf at p = end - at
 
 module _ (t : ℕ) where
   -- ---- the nodes of a body
@@ -96,7 +96,7 @@ module _ (t : ℕ) where
   nodes-returns c =
       let a = c .before .before .before .args in
       let w = wrote-none (now (a .buf)) (a .pos) (c .before .before .before .pre .1 .1 .1 .0) (search needs) in
-      rw (c .if1 .taken) (w, wrote-moved (a .layout) (a .width) (a .frame) nil w)
+      rw (c .if1 .taken) (w, wrote-moved (a .quoted) (a .layout) (a .width) (a .frame) nil w)
 
   nodes-separator-of-requires : nodes-lts.Need-separator-of-requires (nodes-calls t) (nodes-at t) nodes.Post Inv μ-loop
   nodes-separator-of-requires c κs = search needs
@@ -112,7 +112,7 @@ module _ (t : ℕ) where
       let nz = c .before .before .before .before .if1 .left in
       let lt = c .before .loop-test .taken in
       let u = turn-here (a .depth) (a .frame) (now (a .tape)) (l .at) (a .end) nz lt (trailed (s .pre .1 .1 .0)) (l .inv .1) in
-      let v = value-place (a .layout) (a .width) (a .depth - 1) (now (a .tape)) _ (a .end) (trailed (s .pre .1 .1 .0)) (u .value) in
+      let v = value-place (a .quoted) (a .layout) (a .width) (a .depth - 1) (now (a .tape)) _ (a .end) (trailed (s .pre .1 .1 .0)) (u .value) in
       (wrote-bound (l .inv .2 .wrote), (l .inv .0, (s .pre .1 .1 .0, (head-here (a .depth) (a .frame) (now (a .tape)) (l .at) (a .end) nz lt (trailed (s .pre .1 .1 .0)) (l .inv .1), v))))
 
   nodes-sub-write-value : nodes-lts.Need-sub-write-value (nodes-calls t) (nodes-at t) nodes.Post Inv μ-loop
@@ -162,7 +162,7 @@ module _ (t : ℕ) where
       let e = rw (v .1, c .before .before .before .before .before .before .before .before .before .before .before .before .before .before .before .separator-of .ensures, last-child _ _ (u .behind)) at (c .before .before .write-ending .ensures) in (
         rw (v .1) (u .behind),
         rw (v .1) (u .fine),
-        rw (v .1) (more (l .inv .2) (wrote-then (f .0) (wrote-then (v .0) e)) (items-turn (a .layout) (a .width) (a .depth) (a .frame) (now (a .tape)) (l .at) (a .end) nz lt (trailed (s .pre .1 .1 .0)) (l .inv .1))),
+        rw (v .1) (more (l .inv .2) (wrote-then (f .0) (wrote-then (v .0) e)) (items-turn (a .quoted) (a .layout) (a .width) (a .depth) (a .frame) (now (a .tape)) (l .at) (a .end) nz lt (trailed (s .pre .1 .1 .0)) (l .inv .1))),
       )
 
   nodes-same-length : nodes-lts.Need-same-length (nodes-calls t) (nodes-at t) nodes.Post Inv μ-loop
@@ -175,8 +175,8 @@ module _ (t : ℕ) where
       let l = c .before .loop in
       let n = part-length (now (a .tape)) (l .at) (a .end) (trailed (c .before .before .before .before .before .before .pre .1 .1 .0)) in
       let z = c .loop-test .left in
-      let w = finish (l .inv .2) (ap (λ (w : Walked). items (a .layout) (a .frame) (a .width) (w .0)) (walk-end (a .frame) (a .depth) _ (c .before .before .before .if1 .left) (omega arith))) in
-      (w, wrote-moved (a .layout) (a .width) (a .frame) _ w)
+      let w = finish (l .inv .2) (ap (λ (w : Walked). items (a .quoted) (a .layout) (a .frame) (a .width) (w .0)) (walk-end (a .frame) (a .depth) _ (c .before .before .before .if1 .left) (omega arith))) in
+      (w, wrote-moved (a .quoted) (a .layout) (a .width) (a .frame) _ w)
 
   -- ---- a value
 
@@ -186,7 +186,7 @@ module _ (t : ℕ) where
       let a = s .args in
       let i = s .pre .1 .1 .0 in
       let z = s .pre .1 .1 .1 .1 .1 in
-      let p = value-place (a .layout) (a .width) (a .depth) (now (a .tape)) (a .at) (a .end) (trailed i) z in
+      let p = value-place (a .quoted) (a .layout) (a .width) (a .depth) (now (a .tape)) (a .at) (a .end) (trailed i) z in
       omega arith
 
   value-write-leaf-requires : value-lts.Need-write-leaf-requires (value-calls t) (value-at t) value.Post
@@ -196,7 +196,7 @@ module _ (t : ℕ) where
       let i = s .pre .1 .1 .0 in
       let z = s .pre .1 .1 .1 .1 .1 in
       let h = c .before .if1 .taken in
-      (s .pre .1 .1 .1 .0, (s .pre .1 .0, (i, scalar-some (a .layout) (a .width) (a .depth) (now (a .tape)) (a .at) (a .end) (trailed i) z (λ j b d q. omega arith))))
+      (s .pre .1 .1 .1 .0, (s .pre .1 .0, (i, scalar-some (a .quoted) (a .layout) (a .width) (a .depth) (now (a .tape)) (a .at) (a .end) (trailed i) z (λ j b d q. omega arith))))
 
   value-same-length : value-lts.Need-same-length (value-calls t) (value-at t) value.Post
   value-same-length c = search needs
@@ -208,18 +208,18 @@ module _ (t : ℕ) where
       let i = s .pre .1 .1 .0 in
       let z = s .pre .1 .1 .1 .1 .1 in
       let h = c .before .before .before .before .if1 .taken in
-      (rw (scalar-text (a .layout) (a .width) (a .depth) (now (a .tape)) (a .at) (a .end) (trailed i) z (λ j b d q. omega arith)) (c .before .before .write-leaf .ensures .0), rw (scalar-size (a .layout) (a .width) (a .depth) (now (a .tape)) (a .at) (a .end) (trailed i) z (λ j b d q. omega arith)) (c .before .before .write-leaf .ensures .1))
+      (rw (scalar-text (a .quoted) (a .layout) (a .width) (a .depth) (now (a .tape)) (a .at) (a .end) (trailed i) z (λ j b d q. omega arith)) (c .before .before .write-leaf .ensures .0), rw (scalar-size (a .quoted) (a .layout) (a .width) (a .depth) (now (a .tape)) (a .at) (a .end) (trailed i) z (λ j b d q. omega arith)) (c .before .before .write-leaf .ensures .1))
 
   value-write-marker-requires : value-lts.Need-write-marker-requires (value-calls t) (value-at t) value.Post
   value-write-marker-requires c κs = c .before .before .before .before .before .before .pre .1 .1 .1 .0
 
-  value-add-t18 : value-lts.Need-add-t18 (value-calls t) (value-at t) value.Post
-  value-add-t18 c =
+  value-add-t19 : value-lts.Need-add-t19 (value-calls t) (value-at t) value.Post
+  value-add-t19 c =
       let s = c .before .before .before .before .before .before .before .before .before in
       let a = s .args in
       let i = s .pre .1 .1 .0 in
       let z = s .pre .1 .1 .1 .1 .1 in
-      let p = value-place (a .layout) (a .width) (a .depth) (now (a .tape)) (a .at) (a .end) (trailed i) z in
+      let p = value-place (a .quoted) (a .layout) (a .width) (a .depth) (now (a .tape)) (a .at) (a .end) (trailed i) z in
       let k = c .before .before .before .before .before .before .before .before .shared-slice-known .given in
       omega arith
 
@@ -233,7 +233,7 @@ module _ (t : ℕ) where
       let i = s .pre .1 .1 .0 in
       let z = s .pre .1 .1 .1 .1 .1 in
       let h = c .before .before .before .before .if2 .taken in
-      (rw (marker-text (a .layout) (a .width) (a .depth) (now (a .tape)) (a .at) (a .end) (trailed i) z h) (c .before .before .write-marker .ensures), rw (marker-length (a .layout) (a .width) (a .depth) (now (a .tape)) (a .at) (a .end) (trailed i) z h))
+      (rw (marker-text (a .quoted) (a .layout) (a .width) (a .depth) (now (a .tape)) (a .at) (a .end) (trailed i) z h) (c .before .before .write-marker .ensures), rw (marker-length (a .quoted) (a .layout) (a .width) (a .depth) (now (a .tape)) (a .at) (a .end) (trailed i) z h))
 
   value-write-blob-node-requires : value-lts.Need-write-blob-node-requires (value-calls t) (value-at t) value.Post
   value-write-blob-node-requires c κs =
@@ -242,7 +242,7 @@ module _ (t : ℕ) where
       let i = s .pre .1 .1 .0 in
       let z = s .pre .1 .1 .1 .1 .1 in
       let h = c .before .if3 .taken in
-      (s .pre .1 .1 .1 .0, (s .pre .1 .0, (i, (scalar-some (a .layout) (a .width) (a .depth) (now (a .tape)) (a .at) (a .end) (trailed i) z (λ j b d q. omega arith), h))))
+      (s .pre .1 .1 .1 .0, (s .pre .1 .0, (i, (scalar-some (a .quoted) (a .layout) (a .width) (a .depth) (now (a .tape)) (a .at) (a .end) (trailed i) z (λ j b d q. omega arith), h))))
 
   value-same-length-3 : value-lts.Need-same-length-3 (value-calls t) (value-at t) value.Post
   value-same-length-3 c = search needs
@@ -254,7 +254,7 @@ module _ (t : ℕ) where
       let i = s .pre .1 .1 .0 in
       let z = s .pre .1 .1 .1 .1 .1 in
       let h = c .before .before .before .before .if3 .taken in
-      (rw (scalar-text (a .layout) (a .width) (a .depth) (now (a .tape)) (a .at) (a .end) (trailed i) z (λ j b d q. omega arith)) (c .before .before .write-blob-node .ensures .0), rw (scalar-size (a .layout) (a .width) (a .depth) (now (a .tape)) (a .at) (a .end) (trailed i) z (λ j b d q. omega arith)) (c .before .before .write-blob-node .ensures .1))
+      (rw (scalar-text (a .quoted) (a .layout) (a .width) (a .depth) (now (a .tape)) (a .at) (a .end) (trailed i) z (λ j b d q. omega arith)) (c .before .before .write-blob-node .ensures .0 (a .quoted)), rw (scalar-size (a .quoted) (a .layout) (a .width) (a .depth) (now (a .tape)) (a .at) (a .end) (trailed i) z (λ j b d q. omega arith)) (c .before .before .write-blob-node .ensures .1))
 
   value-write-container-requires : value-lts.Need-write-container-requires (value-calls t) (value-at t) value.Post
   value-write-container-requires c κs =
@@ -283,7 +283,7 @@ module _ (t : ℕ) where
       let h = s .pre .1 .1 .1 .1 .1 .1 .0 in
       let m = s .pre .1 .1 .1 .1 .1 .1 .1 in
       let n = s .pre .1 .1 .1 .1 .1 .1 .2 in
-      let r = header-room (a .layout) (a .width) (a .depth) (now (a .tape)) (a .at) (a .end) (trailed i) z h m n in
+      let r = header-room (a .quoted) (a .layout) (a .width) (a .depth) (now (a .tape)) (a .at) (a .end) (trailed i) z h m n in
       omega arith
 
   container-frame-of-requires : container-lts.Need-frame-of-requires (container-calls t) (container-at t) container-reads.Post
@@ -298,7 +298,7 @@ module _ (t : ℕ) where
       let h = s .pre .1 .1 .1 .1 .1 .1 .0 in
       let m = s .pre .1 .1 .1 .1 .1 .1 .1 in
       let n = s .pre .1 .1 .1 .1 .1 .1 .2 in
-      let r = header-room (a .layout) (a .width) (a .depth) (now (a .tape)) (a .at) (a .end) (trailed i) z h m n in
+      let r = header-room (a .quoted) (a .layout) (a .width) (a .depth) (now (a .tape)) (a .at) (a .end) (trailed i) z h m n in
       let k = c .before .before .before .shared-slice-known .given in
       omega arith
 
@@ -311,7 +311,7 @@ module _ (t : ℕ) where
       let h = s .pre .1 .1 .1 .1 .1 .1 .0 in
       let m = s .pre .1 .1 .1 .1 .1 .1 .1 in
       let n = s .pre .1 .1 .1 .1 .1 .1 .2 in
-      let r = header-room (a .layout) (a .width) (a .depth) (now (a .tape)) (a .at) (a .end) (trailed i) z h m n in
+      let r = header-room (a .quoted) (a .layout) (a .width) (a .depth) (now (a .tape)) (a .at) (a .end) (trailed i) z h m n in
       let k = c .before .before .before .shared-slice-known .given in
       omega arith
 
@@ -324,7 +324,7 @@ module _ (t : ℕ) where
       let h = s .pre .1 .1 .1 .1 .1 .1 .0 in
       let m = s .pre .1 .1 .1 .1 .1 .1 .1 in
       let n = s .pre .1 .1 .1 .1 .1 .1 .2 in
-      let r = header-room (a .layout) (a .width) (a .depth) (now (a .tape)) (a .at) (a .end) (trailed i) z h m n in
+      let r = header-room (a .quoted) (a .layout) (a .width) (a .depth) (now (a .tape)) (a .at) (a .end) (trailed i) z h m n in
       omega arith
 
   container-add-stop : container-lts.Need-add-stop (container-calls t) (container-at t) container-reads.Post
@@ -336,8 +336,8 @@ module _ (t : ℕ) where
       let h = s .pre .1 .1 .1 .1 .1 .1 .0 in
       let m = s .pre .1 .1 .1 .1 .1 .1 .1 in
       let n = s .pre .1 .1 .1 .1 .1 .1 .2 in
-      let r = header-room (a .layout) (a .width) (a .depth) (now (a .tape)) (a .at) (a .end) (trailed i) z h m n in
-      let q = container (a .layout) (a .width) (a .depth) (now (a .tape)) (a .at) (a .end) (trailed i) z h m n _ (c .before .frame-of .ensures) _ (c .u32-at .ensures .0) in
+      let r = header-room (a .quoted) (a .layout) (a .width) (a .depth) (now (a .tape)) (a .at) (a .end) (trailed i) z h m n in
+      let q = container (a .quoted) (a .layout) (a .width) (a .depth) (now (a .tape)) (a .at) (a .end) (trailed i) z h m n _ (c .before .frame-of .ensures) _ (c .u32-at .ensures .0) in
       let k = c .before .before .before .before .shared-slice-known .given in
       let o = q .room in
       omega arith
@@ -357,8 +357,8 @@ module _ (t : ℕ) where
       let h = s .pre .1 .1 .1 .1 .1 .1 .0 in
       let m = s .pre .1 .1 .1 .1 .1 .1 .1 in
       let n = s .pre .1 .1 .1 .1 .1 .1 .2 in
-      let r = header-room (a .layout) (a .width) (a .depth) (now (a .tape)) (a .at) (a .end) (trailed i) z h m n in
-      let q = container (a .layout) (a .width) (a .depth) (now (a .tape)) (a .at) (a .end) (trailed i) z h m n _ (c .before .before .before .before .before .before .before .frame-of .ensures) _ (c .before .before .before .before .before .before .u32-at .ensures .0) in
+      let r = header-room (a .quoted) (a .layout) (a .width) (a .depth) (now (a .tape)) (a .at) (a .end) (trailed i) z h m n in
+      let q = container (a .quoted) (a .layout) (a .width) (a .depth) (now (a .tape)) (a .at) (a .end) (trailed i) z h m n _ (c .before .before .before .before .before .before .before .frame-of .ensures) _ (c .before .before .before .before .before .before .u32-at .ensures .0) in
       let y = s .pre .0 in
       let o = q .room in
       let b = s .pre .1 .1 .1 .1 .0 in
@@ -381,8 +381,8 @@ module _ (t : ℕ) where
       let h = s .pre .1 .1 .1 .1 .1 .1 .0 in
       let m = s .pre .1 .1 .1 .1 .1 .1 .1 in
       let n = s .pre .1 .1 .1 .1 .1 .1 .2 in
-      let r = header-room (a .layout) (a .width) (a .depth) (now (a .tape)) (a .at) (a .end) (trailed i) z h m n in
-      let q = container (a .layout) (a .width) (a .depth) (now (a .tape)) (a .at) (a .end) (trailed i) z h m n _ (c .before .before .before .before .before .before .before .before .before .before .before .before .before .before .frame-of .ensures) _ (c .before .before .before .before .before .before .before .before .before .before .before .before .before .u32-at .ensures .0) in
+      let r = header-room (a .quoted) (a .layout) (a .width) (a .depth) (now (a .tape)) (a .at) (a .end) (trailed i) z h m n in
+      let q = container (a .quoted) (a .layout) (a .width) (a .depth) (now (a .tape)) (a .at) (a .end) (trailed i) z h m n _ (c .before .before .before .before .before .before .before .before .before .before .before .before .before .before .frame-of .ensures) _ (c .before .before .before .before .before .before .before .before .before .before .before .before .before .u32-at .ensures .0) in
       let b = rw (c .before .before .before .before .before .before .before .before .indentation .ensures) at (c .before .before .before .before .before .before .write-nodes .ensures .0) in
       (rw (q .written) (wrote-then (wrote-then (c .before .before .before .before .before .before .before .before .before .before .before .write-start .ensures) b) (c .before .before .write-close .ensures)), q .place)
 
@@ -392,4 +392,4 @@ pub +write-container+write-nodes+write-value-spec : {M : Type 1} → statement M
     (λ t. nodes-lts.spec (nodes-calls t) (nodes-at t) nodes.Post Inv μ-loop
     (nodes-returns t) (nodes-separator-of-requires t) (nodes-loop-holds t) (nodes-write-front-requires t) (nodes-sub-write-value t) (nodes-write-value-requires t) (nodes-write-ending-requires t) (nodes-loop-less t) (nodes-loop-again t) (nodes-same-length t) (nodes-returns-2 t))
     λ t. value-lts.spec (value-calls t) (value-at t) value.Post
-    (value-shared-slice-read-k t) (value-write-leaf-requires t) (value-same-length t) (value-returns t) (value-write-marker-requires t) (value-add-t18 t) (value-same-length-2 t) (value-returns-2 t) (value-write-blob-node-requires t) (value-same-length-3 t) (value-returns-3 t) (value-write-container-requires t) (value-same-length-4 t) (value-returns-4 t)
+    (value-shared-slice-read-k t) (value-write-leaf-requires t) (value-same-length t) (value-returns t) (value-write-marker-requires t) (value-add-t19 t) (value-same-length-2 t) (value-returns-2 t) (value-write-blob-node-requires t) (value-same-length-3 t) (value-returns-3 t) (value-write-container-requires t) (value-same-length-4 t) (value-returns-4 t)

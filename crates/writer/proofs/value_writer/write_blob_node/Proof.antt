@@ -35,7 +35,7 @@ returns c =
     let s = c .before .before .before .before .before .before .before in
     let a = s .args in
     let q = blob-leaf (now (a .tape)) (a .at) (a .end) (s .pre .1 .0) (trailed (s .pre .1 .1 .0)) (s .pre .1 .1 .1 .0) _ (c .before .before .before .before .u32-at .ensures .0) (s .pre .1 .1 .1 .1) in
-    (rw (q .read) (c .before .before .write-blob .ensures), rw (q .read))
+    ((λ quoted. rw (q .read) (c .before .before .write-blob .ensures)), rw (q .read))
 
 pub write-blob-node-spec : {M : Type 1} → statement M
 write-blob-node-spec = tie.close (tie.spec add-u32-at u32-at-requires write-blob-requires add-t9 add-t12 same-length returns)

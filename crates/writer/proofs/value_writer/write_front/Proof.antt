@@ -40,7 +40,7 @@ returns c =
     let a = s .args in
     let b = name-before (a .frame) (now (a .tape)) (a .at) (a .end) (s .pre .1 .1 .1 .0) _ (c .before .before .before .before .encode-field-name .ensures .1) in
     let u = s .pre .1 .1 .1 .1 in (
-      rw (bare-front (a .frame) (now (a .tape)) (a .at) (a .end) (s .pre .1 .1 .1 .0) _ (c .before .before .before .before .encode-field-name .ensures .1) (omega arith) (c .if1 .taken) (a .layout) (a .width)) (wrote-then (c .before .before .before .before .before .before .before .before .write-blanks .ensures) (c .before .before .before .before .encode-field-name .ensures .0)),
+      rw (bare-front (a .frame) (now (a .tape)) (a .at) (a .end) (s .pre .1 .1 .1 .0) _ (c .before .before .before .before .encode-field-name .ensures .1) (omega arith) (c .if1 .taken) (a .quoted) (a .layout) (a .width)) (wrote-then (c .before .before .before .before .before .before .before .before .write-blanks .ensures) (c .before .before .before .before .encode-field-name .ensures .0)),
       bare-place (a .frame) (now (a .tape)) (a .at) (a .end) (s .pre .1 .1 .1 .0) _ (c .before .before .before .before .encode-field-name .ensures .1) (omega arith) (c .if1 .taken),
     )
 
@@ -88,7 +88,7 @@ returns-3 c =
     let n = name-placed (a .frame) (now (a .tape)) (a .at) (a .end) (s .pre .1 .1 .1 .0) _ (c .before .before .before .before .before .before .before .before .before .before .before .before .before .encode-field-name .ensures .1) in
     let v = head-one (a .frame) (now (a .tape)) (a .at) (a .end) _ n ∙ sym (c .before .before .before .before .before .before .before .before .notes-end .ensures) ∙ c .before .before .before .before .before .before .value .given .1 in
     let z = ap (placeOf (a .at)) (s .pre .1 .1 .1 .0) in (
-      rw (front-parts (a .layout) (a .width) (a .frame) (now (a .tape)) (a .at) (a .end) _ _ n v, eq-eqb _ _ (c .before .before .before .before .if2 .taken)) (wrote-then (wrote-then (c .before .before .before .before .before .before .before .before .before .before .before .before .before .before .before .before .before .write-blanks .ensures) (c .before .before .before .before .before .before .before .before .before .before .before .before .before .encode-field-name .ensures .0)) (c .before .before .write-notes .ensures)),
+      rw (front-parts (a .quoted) (a .layout) (a .width) (a .frame) (now (a .tape)) (a .at) (a .end) _ _ n v, eq-eqb _ _ (c .before .before .before .before .if2 .taken)) (wrote-then (wrote-then (c .before .before .before .before .before .before .before .before .before .before .before .before .before .before .before .before .before .write-blanks .ensures) (c .before .before .before .before .before .before .before .before .before .before .before .before .before .encode-field-name .ensures .0)) (c .before .before .write-notes .ensures)),
       cc,
     )
 
@@ -102,7 +102,7 @@ returns-4 c =
     let n = name-placed (a .frame) (now (a .tape)) (a .at) (a .end) (s .pre .1 .1 .1 .0) _ (c .before .before .before .before .before .before .before .before .before .encode-field-name .ensures .1) in
     let v = head-one (a .frame) (now (a .tape)) (a .at) (a .end) _ n ∙ sym (c .before .before .before .before .notes-end .ensures) ∙ c .before .before .value .given .1 in
     let z = ap (placeOf (a .at)) (s .pre .1 .1 .1 .0) in (
-      rw (front-parts (a .layout) (a .width) (a .frame) (now (a .tape)) (a .at) (a .end) _ _ n v, ne-eqb _ _ (c .if2 .left)) (wrote-then (wrote-then (c .before .before .before .before .before .before .before .before .before .before .before .before .before .write-blanks .ensures) (c .before .before .before .before .before .before .before .before .before .encode-field-name .ensures .0)) (wrote-none _ _ (wrote-bound (c .before .before .before .before .before .before .before .before .before .encode-field-name .ensures .0)) (search needs))),
+      rw (front-parts (a .quoted) (a .layout) (a .width) (a .frame) (now (a .tape)) (a .at) (a .end) _ _ n v, ne-eqb _ _ (c .if2 .left)) (wrote-then (wrote-then (c .before .before .before .before .before .before .before .before .before .before .before .before .before .write-blanks .ensures) (c .before .before .before .before .before .before .before .before .before .encode-field-name .ensures .0)) (wrote-none _ _ (wrote-bound (c .before .before .before .before .before .before .before .before .before .encode-field-name .ensures .0)) (search needs))),
       cc,
     )
 

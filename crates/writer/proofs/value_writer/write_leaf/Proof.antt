@@ -34,8 +34,8 @@ int-of-requires c κs =
 format-integer-requires : tie.Need-format-integer-requires
 format-integer-requires c κs = search needs
 
-add-t21 : tie.Need-add-t21
-add-t21 c = search needs
+add-t22 : tie.Need-add-t22
+add-t22 c = search needs
 
 same-length : tie.Need-same-length
 same-length c = search needs
@@ -75,8 +75,8 @@ shared-slice-read-format-text c = search needs
 format-text-requires : tie.Need-format-text-requires
 format-text-requires c κs = search needs
 
-add-t24 : tie.Need-add-t24
-add-t24 c = search needs
+add-t25 : tie.Need-add-t25
+add-t25 c = search needs
 
 same-length-2 : tie.Need-same-length-2
 same-length-2 c = search needs
@@ -102,8 +102,8 @@ timestamp-of-requires c κs =
 format-requires : tie.Need-format-requires
 format-requires c κs = search needs
 
-add-t31 : tie.Need-add-t31
-add-t31 c = search needs
+add-t32 : tie.Need-add-t32
+add-t32 c = search needs
 
 same-length-3 : tie.Need-same-length-3
 same-length-3 c = search needs
@@ -138,11 +138,11 @@ write-string-requires c κs =
     let q = string-leaf (now (a .tape)) (a .at) (a .end) (s .pre .1 .0) (trailed (s .pre .1 .1 .0)) (s .pre .1 .1 .1) _ (c .before .u32-at .ensures .0) (c .before .before .if5 .taken) in
     (s .pre .0, (q .room, trailed (s .pre .1 .1 .0)))
 
-add-t35 : tie.Need-add-t35
-add-t35 c = search needs
+add-t36 : tie.Need-add-t36
+add-t36 c = search needs
 
-add-t38 : tie.Need-add-t38
-add-t38 c = search needs
+add-t39 : tie.Need-add-t39
+add-t39 c = search needs
 
 same-length-5 : tie.Need-same-length-5
 same-length-5 c = search needs
@@ -187,7 +187,7 @@ same-length-6 c = search needs
 returns-7 : tie.Need-returns-7
 returns-7 c =
     let e = sym (rw (c .before .before .before .before .before .s .given .1) at (c .before .before .before .before .before .before .before .scalar-at .ensures)) in
-    (rw e (c .before .before .write-scalar .ensures .0), rw e (c .before .before .write-scalar .ensures .1))
+    (rw e (c .before .before .write-scalar .ensures .0 _), rw e (c .before .before .write-scalar .ensures .1))
 
 pub write-leaf-spec : {M : Type 1} → statement M
 write-leaf-spec =
@@ -196,7 +196,7 @@ write-leaf-spec =
     shared-slice-read-k
     int-of-requires
     format-integer-requires
-    add-t21
+    add-t22
     same-length
     returns
     magnitude-of-requires
@@ -204,12 +204,12 @@ write-leaf-spec =
     add-format-text
     shared-slice-read-format-text
     format-text-requires
-    add-t24
+    add-t25
     same-length-2
     returns-2
     timestamp-of-requires
     format-requires
-    add-t31
+    add-t32
     same-length-3
     returns-3
     write-symbol-requires
@@ -218,8 +218,8 @@ write-leaf-spec =
     add-u32-at
     u32-at-requires
     write-string-requires
-    add-t35
-    add-t38
+    add-t36
+    add-t39
     same-length-5
     returns-5
     scalar-at-requires

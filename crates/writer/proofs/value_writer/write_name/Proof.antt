@@ -48,8 +48,8 @@ format-symbol-id-requires c κs = search needs
 write-colon-requires : tie.Need-write-colon-requires
 write-colon-requires c κs = search needs
 
-add-t14 : tie.Need-add-t14
-add-t14 c = search needs
+add-t15 : tie.Need-add-t15
+add-t15 c = search needs
 
 same-length-2 : tie.Need-same-length-2
 same-length-2 c = search needs
@@ -75,6 +75,6 @@ write-name-spec =
     cast-format-symbol-id
     format-symbol-id-requires
     write-colon-requires
-    add-t14
+    add-t15
     same-length-2
     returns-2)

@@ -14,16 +14,16 @@ use Rattle.writer.proofs.value_writer.write_notes.Statement.{statement}
 use Rattle.writer.proofs.value_writer.write_notes.Tie as tie
 
 abbrev Inv-loop : tie.InvT-loop
-Inv-loop buf₀ pos tape at end value p₀ from₀ buf p from = (value ≤ end) × Noting buf₀ buf pos p (notesText (notesIn (part tape at end))) tape from end value
+Inv-loop buf₀ pos tape at end value quoted p₀ from₀ buf p from = (value ≤ end) × Noting quoted buf₀ buf pos p (notesText quoted (notesIn (part tape at end))) tape from end value
 
 abbrev μ-loop : tie.MeasureT-loop
-μ-loop buf₀ pos tape at end value p₀ from₀ buf p from = value - from
+μ-loop buf₀ pos tape at end value quoted p₀ from₀ buf p from = value - from
 
 returns : tie.Need-returns Inv-loop μ-loop
 returns c =
     let s = c .before .before .before in
     let a = s .args in
-    rw (notes-absent (now (a .tape)) (a .at) (a .end) (a .value) (s .pre .1 .1 .1) (c .if1 .taken)) (wrote-none _ _ (s .pre .0) (search needs))
+    rw (notes-absent (a .quoted) (now (a .tape)) (a .at) (a .end) (a .value) (s .pre .1 .1 .1) (c .if1 .taken)) (wrote-none _ _ (s .pre .0) (search needs))
 
 add-from : tie.Need-add-from Inv-loop μ-loop
 add-from c = search needs
@@ -32,8 +32,8 @@ loop-holds : tie.Need-loop-holds Inv-loop μ-loop
 loop-holds c =
     let s = c .before .before .before in
     let a = s .args in (
-      notes-room (now (a .tape)) (a .at) (a .end) (a .value) (s .pre .1 .1 .1) (s .pre .1 .0) (s .pre .1 .1 .0),
-      notes-start (now (a .tape)) (a .at) (a .end) (a .value) (s .pre .1 .1 .1) (c .if1 .left) _ _ (s .pre .0) (search needs),
+      notes-room (a .quoted) (now (a .tape)) (a .at) (a .end) (a .value) (s .pre .1 .1 .1) (s .pre .1 .0) (s .pre .1 .1 .0),
+      notes-start (a .quoted) (now (a .tape)) (a .at) (a .end) (a .value) (s .pre .1 .1 .1) (c .if1 .left) _ _ (s .pre .0) (search needs),
     )
 
 sym-at-requires : tie.Need-sym-at-requires Inv-loop μ-loop

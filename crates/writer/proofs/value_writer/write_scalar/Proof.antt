@@ -120,42 +120,42 @@ same-length c = search needs
 
 returns : tie.Need-returns
 unfolding scalarText
-returns c = let g = c .before .before .before .before .before .s .given .1 in (rw g (c .before .before .format-null .ensures), rw g)
+returns c = let g = c .before .before .before .before .before .s .given .1 in ((λ quoted. rw g (c .before .before .format-null .ensures)), rw g)
 
 same-length-2 : tie.Need-same-length-2
 same-length-2 c = search needs
 
 returns-2 : tie.Need-returns-2
 unfolding scalarText
-returns-2 c = let g = c .before .before .before .before .before .s2 .given .1 in (rw g (c .before .before .format-bool .ensures), rw g)
+returns-2 c = let g = c .before .before .before .before .before .s2 .given .1 in ((λ quoted. rw g (c .before .before .format-bool .ensures)), rw g)
 
 same-length-3 : tie.Need-same-length-3
 same-length-3 c = search needs
 
 returns-3 : tie.Need-returns-3
 unfolding scalarText
-returns-3 c = let g = c .before .before .before .before .before .s3 .given .1 in (rw g (c .before .before .format-float .ensures), rw g)
+returns-3 c = let g = c .before .before .before .before .before .s3 .given .1 in ((λ quoted. rw g (c .before .before .format-float .ensures)), rw g)
 
 same-length-4 : tie.Need-same-length-4
 same-length-4 c = search needs
 
 returns-4 : tie.Need-returns-4
 unfolding scalarText symText
-returns-4 c = let g = c .before .before .before .before .before .s4 .given .1 in (rw g (c .before .before .format-symbol-id .ensures), rw g)
+returns-4 c = let g = c .before .before .before .before .before .s4 .given .1 in ((λ quoted. rw g (c .before .before .format-symbol-id .ensures)), rw g)
 
 same-length-5 : tie.Need-same-length-5
 same-length-5 c = search needs
 
 returns-5 : tie.Need-returns-5
 unfolding scalarText
-returns-5 c = let g = c .before .before .before .before .before .s5 .given .1 in (rw g (c .before .before .write-clob .ensures), rw g)
+returns-5 c = let g = c .before .before .before .before .before .s5 .given .1 in ((λ quoted. rw g (c .before .before .write-clob .ensures)), rw g)
 
 same-length-6 : tie.Need-same-length-6
 same-length-6 c = search needs
 
 returns-6 : tie.Need-returns-6
 unfolding scalarText
-returns-6 c = let g = c .before .before .before .before .before .s6 .given .1 in (rw g (c .before .before .write-blob .ensures), rw g)
+returns-6 c = let g = c .before .before .before .before .before .s6 .given .1 in ((λ quoted. rw g (c .before .before .write-blob .ensures)), rw g)
 
 returns-7 : tie.Need-returns-7
 returns-7 c = let s = c .before .before .before in absurd (unreached (s .args .s) (s .pre .1 .1 .1) (c .match .keys7))

@@ -39,8 +39,8 @@ word-at-requires c κs = c .before .before .plain-at .ensures (c .before .if1 .t
 put-le-requires : tie.Need-put-le-requires
 put-le-requires c κs = search needs
 
-add-t16 : tie.Need-add-t16
-add-t16 c = search needs
+add-t17 : tie.Need-add-t17
+add-t17 c = search needs
 
 same-length : tie.Need-same-length
 same-length c = search needs
@@ -51,7 +51,7 @@ returns c =
     let s = c .before .before .before .before .before .before .before .before .before .before in
     let a = s .args in
     let q = symbol-leaf (now (a .tape)) (a .at) (a .end) (s .pre .1 .0) (trailed (s .pre .1 .1 .0)) (s .pre .1 .1 .1 .0) _ (c .before .before .before .before .before .before .before .u32-at .ensures .0) (s .pre .1 .1 .1 .1) in
-    let p = plain-text (now (a .tape)) (a .at + 5) _ _ (c .before .before .before .word-at .ensures) (a .at) (a .end) refl (q .room) (c .before .before .before .before .before .before .plain-at .ensures (c .before .before .before .before .before .if1 .taken)) in
+    let p = plain-text (now (a .tape)) (a .at + 5) _ _ (c .before .before .before .word-at .ensures) (a .quoted) (a .at) (a .end) refl (q .room) (c .before .before .before .before .before .before .plain-at .ensures (c .before .before .before .before .before .if1 .taken)) in
     (rw (q .read, p) (c .before .before .put-le .ensures), rw (q .read) (omega arith))
 
 write-symbol-text-requires : tie.Need-write-symbol-text-requires
@@ -61,8 +61,8 @@ write-symbol-text-requires c κs =
     let q = symbol-leaf (now (a .tape)) (a .at) (a .end) (s .pre .1 .0) (trailed (s .pre .1 .1 .0)) (s .pre .1 .1 .1 .0) _ (c .before .before .before .u32-at .ensures .0) (s .pre .1 .1 .1 .1) in
     (s .pre .0, (q .room, trailed (s .pre .1 .1 .0)))
 
-add-t11 : tie.Need-add-t11
-add-t11 c = search needs
+add-t12 : tie.Need-add-t12
+add-t12 c = search needs
 
 same-length-2 : tie.Need-same-length-2
 same-length-2 c = search needs
@@ -85,10 +85,10 @@ write-symbol-spec =
     plain-at-requires
     word-at-requires
     put-le-requires
-    add-t16
+    add-t17
     same-length
     returns
     write-symbol-text-requires
-    add-t11
+    add-t12
     same-length-2
     returns-2)

@@ -52,8 +52,8 @@ put-le-requires c κs = search needs
 write-colon-requires : tie.Need-write-colon-requires
 write-colon-requires c κs = search needs
 
-add-t20 : tie.Need-add-t20
-add-t20 c = search needs
+add-t21 : tie.Need-add-t21
+add-t21 c = search needs
 
 same-length : tie.Need-same-length
 same-length c = search needs
@@ -63,7 +63,7 @@ unfolding nameText symText
 returns c =
     let a = c .before .before .before .before .before .before .before .before .before .before .before .before .before .before .args in
     let q = name (c .before .before .before .before .before .before .before .before .before .before .before) in
-    let p = plain-text (now (a .tape)) (a .at + 5) _ _ (c .before .before .before .before .before .before .before .word-at .ensures) (a .at) (a .end) refl (q .room) (c .before .before .before .before .before .before .before .before .before .before .plain-at .ensures (c .before .before .before .before .before .before .before .before .before .if1 .taken)) in
+    let p = plain-text (now (a .tape)) (a .at + 5) _ _ (c .before .before .before .before .before .before .before .word-at .ensures) (a .quoted) (a .at) (a .end) refl (q .room) (c .before .before .before .before .before .before .before .before .before .before .plain-at .ensures (c .before .before .before .before .before .before .before .before .before .if1 .taken)) in
     (rw (q .read, p) (wrote-then (c .before .before .before .before .before .before .put-le .ensures) (c .before .before .write-colon .ensures)), rw (q .read) (omega arith))
 
 write-symbol-text-requires : tie.Need-write-symbol-text-requires
@@ -74,8 +74,8 @@ write-symbol-text-requires c κs =
 write-colon-requires-2 : tie.Need-write-colon-requires-2
 write-colon-requires-2 c κs = search needs
 
-add-t13 : tie.Need-add-t13
-add-t13 c = search needs
+add-t14 : tie.Need-add-t14
+add-t14 c = search needs
 
 same-length-2 : tie.Need-same-length-2
 same-length-2 c = search needs
@@ -97,11 +97,11 @@ write-text-name-spec =
     word-at-requires
     put-le-requires
     write-colon-requires
-    add-t20
+    add-t21
     same-length
     returns
     write-symbol-text-requires
     write-colon-requires-2
-    add-t13
+    add-t14
     same-length-2
     returns-2)

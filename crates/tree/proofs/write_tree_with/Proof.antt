@@ -1,4 +1,4 @@
--- `write_tree` meets its contract: the tape's own refusals, one node that is no marker and has no identifier but 0, then the text and its measure.
+-- `write_tree_with` meets its contract: the tape's own refusals, one node that is no marker and has no identifier but 0, then the text and its measure.
 -- Assumes nothing.
 use denote.Ref.{now}
 use mathlib.Core.Path.{sym, _∙_}
@@ -9,8 +9,8 @@ use Rattle.tape.specs.Fine.{Bytes}
 use Rattle.tape.proofs.Verdicts.{verdict-most, fine-walked}
 use Rattle.tree.proofs.Verdicts.{tape-bad, tape-many, tape-numbered, tape-marked, tape-good, refused-by, kept-by, laid-by, counted-by, clipped-by}
 use borrow.Author.Needs.{needs}
-use Rattle.tree.proofs.write_tree.Statement.{statement}
-use Rattle.tree.proofs.write_tree.Tie as tie
+use Rattle.tree.proofs.write_tree_with.Statement.{statement}
+use Rattle.tree.proofs.write_tree_with.Tie as tie
 
 check-tape-requires : tie.Need-check-tape-requires
 check-tape-requires c κs = search needs
@@ -27,7 +27,7 @@ returns c =
     let f = c .before .before .before .check-tape .ensures .fault in
     let nz = c .before .if1 .taken in
     let e = tape-bad (now (c .before .before .before .before .before .before .args .tape)) (λ z. nz (f ∙ z)) ∙ sym f in
-    (c .refusal-of .ensures ∙ refused-by _ _ nz e _, kept-by _ _ nz e _)
+    (c .refusal-of .ensures ∙ refused-by _ _ _ nz e _, kept-by _ _ _ nz e _)
 
 returns-2 : tie.Need-returns-2
 returns-2 c =
@@ -36,7 +36,7 @@ returns-2 c =
     let v = sym (k .fault) ∙ c .before .before .if1 .left in
     let n = k .counts (c .before .before .if1 .left) in
     let e = tape-many t v (λ z. c .if2 .taken (n .count ∙ z)) in
-    (refused-by _ 5 (λ z. omega arith) e _, kept-by _ 5 (λ z. omega arith) e _)
+    (refused-by _ _ 5 (λ z. omega arith) e _, kept-by _ _ 5 (λ z. omega arith) e _)
 
 returns-3 : tie.Need-returns-3
 returns-3 c =
@@ -45,7 +45,7 @@ returns-3 c =
     let v = sym (k .fault) ∙ c .before .before .before .if1 .left in
     let n = k .counts (c .before .before .before .if1 .left) in
     let e = tape-numbered t v (sym (n .numbered) ∙ c .if3 .taken) in
-    (refused-by _ 5 (λ z. omega arith) e _, kept-by _ 5 (λ z. omega arith) e _)
+    (refused-by _ _ 5 (λ z. omega arith) e _, kept-by _ _ 5 (λ z. omega arith) e _)
 
 shared-slice-read-if4 : tie.Need-shared-slice-read-if4
 shared-slice-read-if4 c = let a = verdict-told (now (c .before .before .before .before .before .before .before .before .before .args .tape)) (sym (c .before .before .before .before .before .before .check-tape .ensures .fault) ∙ c .before .before .before .before .if1 .left) .least in omega arith
@@ -57,7 +57,7 @@ returns-4 c =
     let v = sym (k .fault) ∙ c .before .before .before .before .before .if1 .left in
     let n = k .counts (c .before .before .before .before .before .if1 .left) in
     let e = tape-marked t v (sym (n .count) ∙ c .before .before .before .if2 .left) (sym (n .numbered) ∙ c .before .before .if3 .left) (c .if4 .taken) in
-    (refused-by _ 5 (λ z. omega arith) e _, kept-by _ 5 (λ z. omega arith) e _)
+    (refused-by _ _ 5 (λ z. omega arith) e _, kept-by _ _ 5 (λ z. omega arith) e _)
 
 sub-end : tie.Need-sub-end
 sub-end c = verdict-told (now (c .before .before .before .before .before .before .before .before .before .before .args .tape)) (sym (c .before .before .before .before .before .before .before .check-tape .ensures .fault) ∙ c .before .before .before .before .before .if1 .left) .least
@@ -82,7 +82,7 @@ returns-5 c =
     let m : Bytes t = λ i. c .before .before .before .before .before .before .before .before .before .before .before .before .before .before .shared-slice-known .given i .fits in
     let o = sym (n .count) ∙ c .before .before .before .before .before .before .before .before .if2 .left in
     let w = c .before .before .before .write-nodes .ensures .0 in
-    (clipped-by _ _ _ _ m v o e w (rw (wrote-length w) at (c .if5 .taken)), laid-by _ _ _ _ m v o e w)
+    (clipped-by _ _ _ _ _ m v o e w (rw (wrote-length w) at (c .if5 .taken)), laid-by _ _ _ _ _ m v o e w)
 
 same-length-2 : tie.Need-same-length-2
 same-length-2 c = search needs
@@ -97,10 +97,10 @@ returns-6 c =
     let m : Bytes t = λ i. c .before .before .before .before .before .before .before .before .before .before .before .before .before .before .shared-slice-known .given i .fits in
     let o = sym (n .count) ∙ c .before .before .before .before .before .before .before .before .if2 .left in
     let w = c .before .before .before .write-nodes .ensures .0 in
-    (counted-by _ _ _ _ m v o e w (rw (wrote-length w) at (c .if5 .left)), laid-by _ _ _ _ m v o e w)
+    (counted-by _ _ _ _ _ m v o e w (rw (wrote-length w) at (c .if5 .left)), laid-by _ _ _ _ _ m v o e w)
 
-pub write-tree-spec : {M : Type 1} → statement M
-write-tree-spec =
+pub write-tree-with-spec : {M : Type 1} → statement M
+write-tree-with-spec =
     tie.close
     (tie.spec
     check-tape-requires
