@@ -38,10 +38,15 @@ def antt(text, path):
 
 def source(text):
     # Strings and characters keep what they hold; of a dash in code nobody knows whether it joins a name.
-    parts = re.split(r'("(?:[^"\\]|\\.)*"|\'(?:[^\'\\]|\\.)\')', text)
-    for i in range(0, len(parts), 2):
-        parts[i] = re.sub(r"[A-Za-z_][\w]*", lambda m: CAMEL.get(m.group(0), m.group(0)), parts[i])
-    return "".join(parts)
+    def turn(m):
+        w = m.group(0)
+        if w[0] in "\"'":
+            return w
+        if w.startswith("//"):
+            return re.sub(r"[A-Za-z_]\w*", lambda n: CAMEL.get(n.group(0), n.group(0)), w)
+        return CAMEL.get(w, w)
+
+    return re.sub(r"//[^\n]*|\"(?:[^\"\\\n]|\\.)*\"|'(?:[^'\\\n]|\\.)'|[A-Za-z_]\w*", turn, text)
 
 
 for folder, dirs, files in os.walk(os.path.join(ROOT, "crates")):

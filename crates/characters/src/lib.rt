@@ -1,4 +1,6 @@
 // UTF-8 checking. The leading one bits of a first byte give the character's length.
+#![tactic(auto)]
+
 ghost use Rattle.std.specs.Prelude.{◌≡◌, true, ◌+◌, ◌≤◌, ◌<◌, length, get_or, take, drop};
 ghost use Rattle.output.specs.Wrote.{le_bytes};
 ghost use Rattle.characters.specs.Utf8.{lead_of, is_cont, value2, value3, value4, is_scalar, ok2, ok3, ok4, char_of, char_at, valid};

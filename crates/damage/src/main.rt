@@ -4,6 +4,7 @@
 // each kind of damage: how many texts it makes, a digest of every answer, offset and whole buffer, and on how many texts the lists differ from it.
 // Before that come document 01's two examples, on the first tape, answer by answer. A tape stands in a frame: u32 length, and its bytes. The
 // tapes and what they must give come from tests/damage.py.
+#![tactic(auto)]
 use libc::{STDIN_FILENO, STDOUT_FILENO};
 use tape::answer::Answer;
 

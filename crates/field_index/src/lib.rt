@@ -1,4 +1,5 @@
 // The field index: the fields of a struct node as entries in a lent slice, sorted by name, and lookup in it.
+#![tactic(auto)]
 mod fields;
 mod heapsort;
 mod names;

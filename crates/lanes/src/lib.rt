@@ -1,6 +1,8 @@
 // Tests of the bytes of a word side by side: up to eight bytes at once, the lowest first. A mark is the high bit of a byte's place, and a test
 // says yes where none of the n lowest bytes is marked. Which bytes those are is said by the crates that use it, in their own words,
 // but for `sextets`, whose rule is base64's.
+#![tactic(auto)]
+
 ghost use Rattle.std.specs.Prelude.{◌%◌, ◌≤◌, ◌≡◌, not};
 ghost use Rattle.output.specs.Wrote.{le_bytes};
 ghost use Rattle.lanes.specs.Lanes.{rep, Lane, every, unmarked_by, letter_mark, no_letter, no_part, no_raw};

@@ -1,4 +1,5 @@
 // Reads a tape on standard input and prints its Lines text, or what is wrong with it.
+#![tactic(auto)]
 use libc::{STDIN_FILENO, STDOUT_FILENO};
 use tape::answer::Answer;
 

@@ -2,6 +2,8 @@
 // same calls over a slice of no bytes measure. A position stops at LIMIT, which is above the length of every slice.
 // On the frequent paths room is asked for by `<`: of that test the compiler lays the true side next, of `<=` between two variables the other
 // (docs/BENCHMARKS.md).
+#![tactic(auto)]
+
 ghost use Rattle.std.specs.Prelude.{◌≡◌, [], ◌∷◌, ◌+◌, ◌-◌, ◌<◌, ◌≤◌, min, length, take, drop, replicate};
 ghost use Rattle.std.proofs.lemmas.List.Edits.{sets};
 ghost use Rattle.output.specs.Wrote.{Wrote, limit, le_bytes};

@@ -1,4 +1,5 @@
 // What the programs share: hex digits and refusals put into a buffer, a buffer printed, and where the parts of an input end.
+#![tactic(auto)]
 ghost use Rattle.std.specs.Prelude.{◌≡◌, true, ◌+◌, ◌<◌, ◌≤◌, length, drop};
 ghost use Rattle.output.specs.Wrote.{Wrote, limit};
 ghost use Rattle.text_rules.specs.Escapes.{hex_digit};

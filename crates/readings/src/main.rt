@@ -1,5 +1,6 @@
 // Reads texts on standard input, each ended by a byte 255 (which no text of the grammar holds), and prints the tape of each in hex on a
 // line, or its refusal. The texts and what they must give are the table of tests/readings.py.
+#![tactic(auto)]
 use libc::STDIN_FILENO;
 
 // One text's tape, in a buffer of 1024 bytes.

@@ -1,6 +1,7 @@
 // Replays a list of tapes and texts (crates/vectors/README.md has its format): each text is written into ample, exact and short buffers, read
 // back and, in layout 1, read line by line; every answer and whole buffer is compared with the list. Prints a line for each difference, and
 // then how much was compared.
+#![tactic(auto)]
 mod reading;
 mod writing;
 

@@ -37,7 +37,7 @@ pub fn escapes() -> [u8; 256]
 
 // The letter behind a backslash; the backslash and the quote marks stand for themselves.
 fn letter_of(b: u8) -> u8
-    ensures { result ≡ letterOf b }
+    ensures { result ≡ letter_of b }
 {
     match b {
         0 => b'0',
@@ -55,7 +55,7 @@ fn letter_of(b: u8) -> u8
 // A backslash and the letter of b.
 pub fn put_letter(buf: &mut [u8], pos: usize, b: u8) -> usize
     requires { pos ≤ limit }
-    ensures { Wrote buf.old buf.new pos result (byte "\\" ∷ letterOf b ∷ []) }
+    ensures { Wrote buf.old buf.new pos result (byte "\\" ∷ letter_of b ∷ []) }
 {
     let p = output::put(buf, pos, b'\\');
     output::put(buf, p, letter_of(b))
@@ -64,7 +64,7 @@ pub fn put_letter(buf: &mut [u8], pos: usize, b: u8) -> usize
 // A lower-case hex digit.
 fn hex_digit(d: u8) -> u64
     requires { d < 16 }
-    ensures { (result ≡ hexDigit d) × (result < 256) }
+    ensures { (result ≡ hex_digit d) × (result < 256) }
 {
     if d < 10 {
         return (b'0' + d) as u64;
@@ -75,7 +75,7 @@ fn hex_digit(d: u8) -> u64
 // `\x` and two hex digits, as the bytes of a word.
 pub fn put_hex(buf: &mut [u8], pos: usize, b: u8) -> usize
     requires { pos ≤ limit }
-    ensures { Wrote buf.old buf.new pos result (hexEscape b) }
+    ensures { Wrote buf.old buf.new pos result (hex_escape b) }
 {
     let w = 0x785C + 65536 * hex_digit(b / 16) + 16777216 * hex_digit(b % 16);
     output::put_le(buf, pos, w, 4)
@@ -83,7 +83,7 @@ pub fn put_hex(buf: &mut [u8], pos: usize, b: u8) -> usize
 
 // Whether a byte of text is escaped by hex digits. These few tests, and those of the next, take less time than a table that is built anew for each text.
 fn takes_hex(b: u8) -> bool
-    ensures { result ≡ hasHex b }
+    ensures { result ≡ has_hex b }
 {
     if 0x20 <= b {
         return false;
@@ -96,7 +96,7 @@ fn takes_hex(b: u8) -> bool
 
 // Whether a byte of text is escaped by a letter.
 fn takes_letter(b: u8) -> bool
-    ensures { result ≡ hasLetter b || eqb b (byte "'") }
+    ensures { result ≡ has_letter b || eqb b (byte "'") }
 {
     if 0x20 <= b {
         if b == b'"' {

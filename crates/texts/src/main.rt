@@ -1,5 +1,6 @@
 // Writes the texts of worked values, a line for each, reads each back, and writes what was read behind a tab. A text that is not read to
 // its end has `!` there. What it must print was asked of the Rust (tests/texts.py).
+#![tactic(auto)]
 ghost use Rattle.std.specs.Prelude.{◌<◌};
 
 use floats::float::FloatRead;

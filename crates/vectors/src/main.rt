@@ -1,4 +1,5 @@
 // Replays tapes with the texts that the Rust gives for them, or the refusals of document 01. tests/vectors.py makes the list.
+#![tactic(auto)]
 fn main() {
     let mut seen = [0usize; 8];
     replay::list(&mut seen);

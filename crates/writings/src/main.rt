@@ -1,6 +1,7 @@
 // Writes the texts of tapes on standard input, a line for each: the count or the refusal, a blank, and the whole buffer in hex.
 // A tape stands in a frame: a byte layout, or `t` for the tree text, u32 room (at most 4096), u32 length, and its bytes. The buffer has `room` bytes, each `#`
 // before the call. The frames and what they must give are the table of tests/writings.py.
+#![tactic(auto)]
 ghost use Rattle.std.specs.Prelude.{◌≤◌};
 ghost use Rattle.output.specs.Wrote.{limit};
 

@@ -1,0 +1,17 @@
+-- `clobs::put_clob_by` meets its contract. Assumes nothing.
+use Prim.Native.Nat.{◌-◌, ◌≤◌}
+use mathlib.Core.Path.{◌≡◌}
+use mathlib.Core.List.{[]}
+use native.Mathlib.Omega.{arith}
+use lib.ListN.{length, drop, drop_of_length-le}
+use Rattle.output.proofs.Laws.{Progress, start, more, finish, wrote-length, wrote-bound}
+use Rattle.text_rules.specs.Escapes.{clob_body}
+use Rattle.text_rules.proofs.ClobLaws.{clob-step}
+use borrow.Author.Rules.{rules}
+use Rattle.text_rules.proofs.clobs.put_clob_by.Given as goal
+
+abbrev pub invariant-loop-i : goal.invariant-loop-i
+invariant-loop-i l = (l.i ≤ length l.s) × Progress l.initial.buf l.buf l.pos l.p (clob_body l.s) (clob_body (drop l.i l.s))
+
+abbrev pub decreases-loop-i : goal.decreases-loop-i
+decreases-loop-i l = length l.s - l.i

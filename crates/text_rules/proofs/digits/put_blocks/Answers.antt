@@ -1,0 +1,54 @@
+-- `digits::put_blocks` meets its contract. Assumes nothing.
+use mathlib.Core.Path.{◌≡◌}
+use Prim.Native.Nat.{◌+◌, ◌/◌}
+use native.Mathlib.Nat.{add_assoc}
+use native.Mathlib.Omega.{arith}
+use Rattle.text_rules.proofs.DigitLaws.{last_one}
+use Rattle.text_rules.proofs.DigitCode.{count-is, led_short, led_more}
+use Rattle.text_rules.proofs.DigitWords.{ahead_most, ahead_more}
+use borrow.Author.Rules.{rules}
+use Rattle.text_rules.proofs.digits.eight.Reads as eight-reads
+use Rattle.text_rules.proofs.digits.lead_exact.Reads as lead-exact-reads
+use Rattle.text_rules.proofs.digits.lead_store.Reads as lead-store-reads
+use Rattle.text_rules.proofs.digits.one.Reads as one-reads
+use Rattle.text_rules.proofs.digits.two.Reads as two-reads
+use Rattle.text_rules.proofs.digits.wide.Reads as wide-reads
+use Rattle.text_rules.proofs.digits.put_blocks.Goals as goal
+
+pub returns-then-n-lt10 : goal.returns-then-n-lt10
+returns-then-n-lt10 c =
+    let n = c.args.n in
+    led_short 1 (rw c.wide.ensures at c.one.ensures) (last_one 19 n (omega arith))
+
+pub returns-then-n-lt100 : goal.returns-then-n-lt100
+returns-then-n-lt100 c =
+    let n = c.args.n in
+    led_short 2 (rw c.wide-then-n-lt100.ensures at c.two.ensures) (count-is 1 n (omega arith) (omega arith) (omega arith))
+
+pub eight-requires : goal.eight-requires
+eight-requires c = let m = ahead_most 7 c.lead_store-p.ensures (omega arith) in search rules
+
+pub overflow_add-result-then-h-lt100000000 : goal.overflow_add-result-then-h-lt100000000
+overflow_add-result-then-h-lt100000000 c = let m = ahead_most 7 c.lead_store-p.ensures (omega arith) in search rules
+
+pub returns-then-h-lt100000000 : goal.returns-then-h-lt100000000
+returns-then-h-lt100000000 c = ahead_more c.args.n (omega arith) (omega arith) c.lead_store-p.ensures c.eight.ensures
+
+pub eight-requires-2 : goal.eight-requires-2
+eight-requires-2 c = let m = ahead_most 3 c.lead_store-p-2.ensures (omega arith) in search rules
+
+pub overflow_add-p : goal.overflow_add-p
+overflow_add-p c = let m = ahead_most 3 c.lead_store-p-2.ensures (omega arith) in search rules
+
+pub eight-requires-3 : goal.eight-requires-3
+eight-requires-3 c = let m = ahead_most 3 c.lead_store-p-2.ensures (omega arith) in search rules
+
+pub overflow_add-result-2 : goal.overflow_add-result-2
+overflow_add-result-2 c = let m = ahead_most 3 c.lead_store-p-2.ensures (omega arith) in search rules
+
+pub returns : goal.returns
+returns c =
+    let n = c.args.n in
+    let high = ahead_more (n / 100000000) (omega arith) (omega arith) c.lead_store-p-2.ensures c.eight-2.ensures in
+    let e : _ ≡ c.lead_store-p-2.result + 16 = add_assoc c.lead_store-p-2.result 8 8 in
+    rw e at (led_more 8 n (omega arith) (omega arith) (omega arith) high c.eight-3.ensures)

@@ -1,0 +1,22 @@
+-- `digits::put_digits` meets its contract. Assumes nothing.
+use native.Mathlib.Omega.{arith}
+use Rattle.text_rules.specs.Digits.{digits}
+use Rattle.text_rules.proofs.DigitLaws.{length_digits, count_le}
+use borrow.Author.Rules.{rules}
+use Rattle.text_rules.proofs.digits.digit_count.Reads as digit-count-reads
+use Rattle.text_rules.proofs.digits.pad_clipped.Reads as pad-clipped-reads
+use Rattle.text_rules.proofs.digits.put_blocks.Reads as put-blocks-reads
+use Rattle.text_rules.proofs.digits.put_digits.Goals as goal
+
+pub returns-then-pos-buf : goal.returns-then-pos-buf
+returns-then-pos-buf c =
+    let n = c.args.n in
+    record {
+      bytes = c.put_blocks.ensures.bytes;
+      count = omega (arith, c.put_blocks.ensures.end, length_digits n, count_le n (omega arith));
+      room = search rules;
+    }
+
+pub returns : goal.returns
+unfolding digits
+returns c = rw c.digit_count-w.ensures.0 at c.pad_clipped.ensures

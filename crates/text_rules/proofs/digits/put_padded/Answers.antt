@@ -1,0 +1,16 @@
+-- `digits::put_padded` meets its contract. Assumes nothing.
+use native.Mathlib.Omega.{arith}
+use Rattle.text_rules.proofs.DigitLaws.{length-pad}
+use borrow.Author.Rules.{rules}
+use Rattle.text_rules.proofs.digits.fill_padded.Reads as fill-padded-reads
+use Rattle.text_rules.proofs.digits.pad_clipped.Reads as pad-clipped-reads
+use Rattle.text_rules.proofs.digits.put_padded.Goals as goal
+
+pub returns-then-pos-w : goal.returns-then-pos-w
+returns-then-pos-w c =
+    let a = c.args in
+    record {
+      bytes = c.fill_padded.ensures;
+      count = omega (arith, length-pad a.w a.n);
+      room = search rules;
+    }

@@ -1,0 +1,14 @@
+-- `escapes::hex_digit` meets its contract. Assumes nothing.
+use native.Mathlib.Omega.{arith}
+use borrow.Author.Tests.{lt-ltb, le-ltb}
+use Rattle.text_rules.specs.Escapes.{hex_digit}
+use borrow.Author.Rules.{rules}
+use Rattle.text_rules.proofs.escapes.hex_digit.Goals as goal
+
+pub returns-then-d-lt10 : goal.returns-then-d-lt10
+unfolding hex_digit
+returns-then-d-lt10 c = (simp (lt-ltb _ _ c.if-d-lt10.true), omega arith)
+
+pub returns : goal.returns
+unfolding hex_digit
+returns c = (simp (le-ltb _ _ c.if-d-lt10.false), omega arith)

@@ -1,0 +1,9 @@
+-- `text_formatter::format_symbol_at` meets its contract. Assumes nothing.
+use borrow.Author.Rules.{rules}
+use Rattle.text_rules.proofs.text_formatter.format_symbol_at.Goals as goal
+
+pub returns-then-quoted : goal.returns-then-quoted
+returns-then-quoted c = rw c.if-quoted.true c.format_quoted_at.ensures
+
+pub returns : goal.returns
+returns c = rw c.if-quoted.false c.format_token_at.ensures

@@ -1,0 +1,30 @@
+-- `words::name_end` meets its contract. Assumes nothing.
+use mathlib.Core.Path.{sym, ◌∙◌}
+use native.Mathlib.Omega.{arith}
+use Rattle.text_rules.proofs.WordsLaws.{spanned_long, spanned_name}
+use borrow.Author.Rules.{rules}
+use Rattle.text_rules.proofs.words.name_end.Goals as goal
+
+pub returns-then-at-text : goal.returns-then-at-text
+returns-then-at-text c = λ h. let bad : ⊥ = omega arith in absurd bad
+
+pub returns-then-text-at-lt65 : goal.returns-then-text-at-lt65
+returns-then-text-at-lt65 c = λ h. let bad : ⊥ = omega arith in absurd bad
+
+pub returns-then-end-at : goal.returns-then-end-at
+returns-then-end-at c = λ h. let bad : ⊥ = omega arith in absurd bad
+
+pub is_keyword-requires : goal.is_keyword-requires
+is_keyword-requires c =
+    let s = c.word_end-end.ensures in
+    let a = s.ahead in
+    let l = spanned_long s in
+    omega arith
+
+pub returns-then-is_keyword : goal.returns-then-is_keyword
+returns-then-is_keyword c = λ h. let bad : ⊥ = omega arith in absurd bad
+
+pub returns : goal.returns
+returns c =
+    let s = c.word_end-end.ensures in
+    λ h. record { ahead = s.ahead; inside = s.inside; rest = s.rest; bytes = s.bytes; kind = sym (spanned_name s h c.if-text-at-lt65.false (sym c.is_keyword.ensures ∙ c.if-is_keyword.false)) }
