@@ -12,7 +12,7 @@ import sys
 
 NAMES, CRATE, ONLY = sys.argv[1], sys.argv[2], sys.argv[3:]
 CRATENAME = os.path.basename(os.path.abspath(CRATE))
-norm = lambda s: s.replace("-", "_")
+norm = lambda s: s.replace("-", "_").lower()
 IDENT = r"[^\s(){}.;,@\"«»\[\]\\]+"
 
 
@@ -75,6 +75,9 @@ class Fn:
     def place(self, name):
         n = norm(name)
         for k, i in self.index.items():
+            if k == name:
+                return i
+        for k, i in self.index.items():
             if norm(k) == n:
                 return i
         return None
@@ -134,6 +137,7 @@ def convert(text, fn, warn):
         for a in rest:
             pass
     pos = {}
+    fn.settled = set()
     old_types = {}
     for n, x in named:
         for l in x:
@@ -152,7 +156,9 @@ def convert(text, fn, warn):
             if len(js) == 1:
                 pos.setdefault(a, []).append(js[0])
             else:
-                warn(f"{fn.path}: no goal for {a} ({t})")
+                if "slice_aggregate" not in t and "slice_bounds" not in t:
+                    warn(f"{fn.path}: no goal for {a} ({t})")
+                fn.settled.add(a)
     inv_decls, answers = [], []
     fn.helpers = {}
     for n, x in named:
@@ -162,6 +168,8 @@ def convert(text, fn, warn):
                 fn.helpers[n] = fn.place(m.group(1))
     for n, x in named:
         if n == last:
+            continue
+        if n in fn.settled:
             continue
         if n in invs:
             inv_decls.append(inv_convert(n, x, invs[n], fn, warn))
@@ -231,8 +239,8 @@ def inv_convert(n, x, kind, fn, warn):
         w = m.group(0)
         before = expr[m.start() - 1] if m.start() else " "
         after = expr[m.end():m.end() + 1]
-        if before == "." or w not in mp:
-            return w
+        if before == "." or w not in mp or re.match(r"\s+=\s", expr[m.end() :]) or after == "." and mp[w].startswith("l.initial."):
+            return w if before == "." or w not in mp or re.match(r"\s+=\s", expr[m.end() :]) else mp[w]
         return mp[w]
 
     expr = re.sub(IDENT, turn, expr)
@@ -240,7 +248,7 @@ def inv_convert(n, x, kind, fn, warn):
 
 
 def paths(body, env, fn, warn, where, helpers):
-    """Rewrites c.before.before.f, and the aliases of places. env: variable -> (place, its own path)."""
+    body = body.replace(".type-inv", ".type_inv").replace(".well-formed", ".well_formed")
     lines = body
     pat = re.compile(r"let (" + IDENT + r") = (" + IDENT + r")((?:\.before)*) in[ \n]\s*")
     while True:
@@ -282,17 +290,109 @@ def paths(body, env, fn, warn, where, helpers):
                     return root + ".before" * ch.index(to)
             warn(f"{where}: what stands for the place {m.group(0)}?")
             return m.group(0)
+        fields = [{"type-inv": "type_inv", "well-formed": "well_formed", "Type-inv": "type_inv"}.get(q, q) for q in fields]
         f = fields[0]
         if f in ("args", "requires", "ranges", "lifetimes", "well_formed", "captures", "utf8"):
             return ".".join([root] + fields)
         for p in chain(i):
+            arm = fn.d["arms"][p]
+            if arm:
+                best = None
+                for name, old, path in arm[2]:
+                    if norm(old) == norm(f) and [norm(q) for q in fields[1 : 1 + len(path)]] == [norm(q) for q in path]:
+                        if best is None or len(path) > len(best[1]):
+                            best = (name, path)
+                if best:
+                    rest = fields[1 + len(best[1]) :]
+                    return ".".join([root, arm[0], best[0]] + rest)
             new = fn.field(p, f)
             if new is not None:
                 return ".".join([root, new] + fields[1:])
+        if f.endswith("_lem"):
+            fields[0] = f = f[:-4]
+            for p in chain(i):
+                new = fn.field(p, f)
+                if new is not None:
+                    return ".".join([root, new] + fields[1:])
         warn(f"{where}: no step {f} before {fn.places[i][0]} in {m.group(0)}")
         return ".".join([root] + fields)
 
-    return re.sub(r"(?<![\w.'-])(" + IDENT + r")((?:\.[A-Za-z0-9_'-]+)*)", turn, lines)
+    lines = re.sub(r"(?<![\w.'-])(" + IDENT + r")((?:\.[A-Za-z0-9_'-]+)*)", turn, lines)
+    lines = clauses(lines, {v[1] for v in env.values()}, fn)
+    # What a test with a `not` says is said without it now.
+    lines = re.sub(r"\bnot-(?:true|false) (?:_|\([^()]*\)|" + IDENT + r"(?:\." + IDENT + r")*) (\w+\.[\w'-]*\bnot-[\w'-]*\.(?:true|false))(?![\w.-])", r"\1", lines)
+    return lines
+
+
+def clauses(lines, roots, fn):
+    """`.requires.0` and `.ensures.1` by the names of the clauses."""
+    pre = (fn.d.get("pre") or {}).get("fields") or []
+    by_step, params = {}, {}
+    for p, c in zip(fn.places, fn.d["clauses"]):
+        if c and c.get("fields"):
+            by_step[p[2][1]] = c["fields"]
+        if p[3]:
+            params[p[2][1]] = fn.d["params"].get(p[3], [])
+    alias = {}
+    for m in re.finditer(r"let (" + IDENT + r")(?: : [^=]*?)? = (" + IDENT + r")\.([\w'-]+)((?:\.[\w'-]+)*) in\b", lines):
+        if m.group(2) in roots:
+            alias[m.group(1)] = (m.group(3), m.group(4).split(".")[1:])
+
+    def turn(m):
+        v, fs = m.group(1), m.group(2).split(".")[1:]
+        if v in roots:
+            skip, full = 0, fs
+        elif v in alias:
+            full = [alias[v][0]] + alias[v][1] + fs
+            skip = 1 + len(alias[v][1])
+        else:
+            return m.group(0)
+        full = list(full)
+        if full[0] == "requires" and len(full) > 1 and full[1].isdigit() and pre and int(full[1]) < len(pre):
+            full[1] = pre[int(full[1])]
+        elif len(full) > 2 and full[1] == "ensures" and full[2].isdigit() and full[0] in by_step and int(full[2]) < len(by_step[full[0]]):
+            full[2] = by_step[full[0]][int(full[2])]
+        elif len(full) > 2 and full[1] in ("auto", "new") and full[2].isdigit() and full[0] in params:
+            ps = params[full[0]]
+            full[2] = "buf" if "buf" in ps else ps[0]
+        if v in roots:
+            return ".".join([v] + full)
+        return ".".join([v] + full[skip:])
+
+    return re.sub(r"(?<![\w.'-])(" + IDENT + r")((?:\.[A-Za-z0-9_'-]+)+)", turn, lines)
+
+
+def tuple_parts(expr):
+    """The parts of an expression that ends in a tuple at its top, and what stands before it."""
+    e = expr.rstrip()
+    if not e.endswith(")"):
+        return None
+    depth = 0
+    for i in range(len(e) - 1, -1, -1):
+        if e[i] in ")]}":
+            depth += 1
+        if e[i] in "([{":
+            depth -= 1
+            if depth == 0:
+                break
+    before = e[:i]
+    if before.strip() and not re.search(r"\bin\s*$", before):
+        return None
+    inner = e[i + 1 : -1]
+    parts, depth, cur = [], 0, ""
+    for ch in inner:
+        if ch in "([{":
+            depth += 1
+        if ch in ")]}":
+            depth -= 1
+        if ch == "," and depth == 0:
+            parts.append(cur)
+            cur = ""
+        else:
+            cur += ch
+    if cur.strip():
+        parts.append(cur)
+    return before, [q.strip() for q in parts]
 
 
 def answer_convert(n, x, new, place, fn, warn):
@@ -320,6 +420,18 @@ def answer_convert(n, x, new, place, fn, warn):
     if expr.startswith("let ") or "\n" in expr:
         expr = expr
     expr = paths(expr, env, fn, warn, f"{fn.path}: {new}", fn.helpers)
+    fields = None
+    for j, nd in enumerate(fn.d["needs"]):
+        if nd[1] == new:
+            fields = fn.d["asked"].get(nd[0])
+    if new.startswith("returns") and len(fn.ensures) > 1:
+        fields = fn.ensures
+    if fields and len(fields) > 1:
+        tp = tuple_parts(expr)
+        if tp and len(tp[1]) == len(fields):
+            expr = tp[0] + "record { " + "; ".join(f"{a} = {b}" for a, b in zip(fields, tp[1])) + " }"
+        else:
+            warn(f"{fn.path}: {new}: its clauses are {fields}")
     sep = " " if "\n" not in expr and len(expr) < 120 else "\n    "
     expr = expr.strip("\n ")
     ps = " ".join(p for p in params[:1])
@@ -329,24 +441,69 @@ def answer_convert(n, x, new, place, fn, warn):
 def helper_convert(n, x, fn, warn, invs):
     text = "\n".join(x)
     env = {}
+    asked = {norm(q[0]) for q in fn.d["asked_at"]}
     for m in re.finditer(r"\((" + IDENT + r") : tie\.(" + IDENT + r")((?: " + IDENT + r")*)\)", text):
         i = fn.place(m.group(2))
         if i is None:
             warn(f"{fn.path}: {n}: no place {m.group(2)}")
             continue
+        if norm(fn.places[i][0]) not in asked:
+            warn(f"{fn.path}: {n}: no goal is asked at its place {fn.by_name[i]}")
         env[m.group(1)] = (i, m.group(1))
+
     def ty(m):
         i = fn.place(m.group(1))
         return m.group(0) if i is None else f"goal.{fn.by_name[i]}"
-    invn = "|".join(re.escape(k) for k in invs) or "\\0"
+
+    invn = "|".join(re.escape(k) for k in invs) or "\0"
     text = re.sub(r"tie\.(" + IDENT + r")((?:\s+(?:" + invn + r"))*)", ty, text)
-    if env:
-        text = paths(text, env, fn, warn, f"{fn.path}: {n}", fn.helpers)
+    if env and n:
+        m = re.search(r"^(?:unfolding |" + re.escape(n) + r"\s(?!:))", text, re.M)
+        k = m.start() if m else len(text)
+        sig = paths(text[:k], dict(env), fn, warn, f"{fn.path}: {n}", fn.helpers)
+        body = text[k:]
+        ps = re.match(r"(?:unfolding [^\n]*\n)?" + re.escape(n) + r"((?:\s+(?!=\s)(?:" + IDENT + r"|\{[^}]*\}))*)\s*=", body)
+        got = ps.group(1).split() if ps else []
+        benv = {}
+        # the names of the clause may be others than those of the signature
+        names = re.findall(r"\(([^():]+) : ", text[:k])
+        flat = [w for q in names for w in q.split()]
+        for v, pl in env.items():
+            if v in got or v not in flat or flat.index(v) >= len(got):
+                benv[v] = pl
+            else:
+                w = got[flat.index(v)]
+                benv[w] = (pl[0], w)
+        text = sig + paths(body, benv, fn, warn, f"{fn.path}: {n}", fn.helpers)
     return text
 
 
+def contracts(crate):
+    """The names of the clauses of each function's ensures, by module path."""
+    out = {}
+    src = os.path.join(crate, "src")
+    for d, _, fs in os.walk(src):
+        for f in fs:
+            if not f.endswith(".rt"):
+                continue
+            mod = os.path.relpath(os.path.join(d, f), src)[:-3]
+            mod = "" if mod in ("lib", "main") else mod.replace("/", ".").replace(".mod", "") + "."
+            cur = None
+            for l in open(os.path.join(d, f)):
+                m = re.match(r"\s*(?:pub )?(?:unsafe )?(?:extern \"C\" )?fn (\w+)", l)
+                if m:
+                    cur = mod + m.group(1)
+                    out[cur] = []
+                m = re.match(r"\s*ensures (\w+) \{", l)
+                if m and cur:
+                    out[cur].append(m.group(1))
+    return out
+
+
 def main():
+    global ENSURES
     data = json.load(open(NAMES))
+    ENSURES = contracts(CRATE)
     for key, d in data.items():
         m = re.match(r"Rattle-\w+-proofs\.(.*)\.Lts(.*)$", key)
         if not m or m.group(2):
@@ -359,6 +516,7 @@ def main():
         if not os.path.exists(file):
             continue
         fn = Fn(path, d)
+        fn.ensures = ENSURES.get(path, [])
         try:
             got = convert(open(file).read(), fn, lambda s: print("look:", s))
         except Exception as e:

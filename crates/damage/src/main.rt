@@ -153,7 +153,7 @@ fn replace(text: &[u8], from: usize, to: usize, new: &[u8], made: &mut [u8]) -> 
 }
 
 // A digest, and on how many texts the one by lists of calls differed.
-#[derive(Drop)]
+#[derive(Clone, Copy)]
 struct Fed {
     digest: u64,
     differ: u64,

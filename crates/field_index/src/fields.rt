@@ -64,7 +64,7 @@ fn field_count(tape: &[u8], from: usize, end: usize) -> usize
 }
 
 // Where the fields of a struct are read: k of n are stored, and the others stand from `at` on. A refused struct has none.
-#[derive(Drop)]
+#[derive(Clone, Copy)]
 pub struct Fields {
     pub at: usize,
     pub end: usize,
@@ -74,7 +74,7 @@ pub struct Fields {
 }
 
 // One field, and where the next is read.
-#[derive(Drop)]
+#[derive(Clone, Copy)]
 pub struct Field {
     pub entry: Entry,
     pub next: Fields,

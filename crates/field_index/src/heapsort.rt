@@ -8,7 +8,7 @@ use crate::names::comes_before;
 
 // Where a sort stands: places lo to hi - 1 are a heap but for the entry at `at` (specs/HeapSteps.antt). `left` and `right` are its children, the
 // left one twice where there is no second. `out`: the heap is whole, and its first entry goes to `left`, the last place.
-#[derive(Drop)]
+#[derive(Clone, Copy)]
 pub struct Heap {
     pub lo: usize,
     pub hi: usize,
@@ -19,7 +19,7 @@ pub struct Heap {
 }
 
 // A turn of a sort: first goes to the place `at`, second to the place `to`.
-#[derive(Drop)]
+#[derive(Clone, Copy)]
 pub struct Turn {
     pub next: Heap,
     pub to: usize,

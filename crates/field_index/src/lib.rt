@@ -16,14 +16,14 @@ ghost use Rattle.field_index.specs.IndexSteps.{count_of, looked_as};
 
 // A field: the offsets of its name and of its value, from the tape's start, of their kind bytes.
 #[repr(C)]
-#[derive(Drop)]
+#[derive(Clone, Copy)]
 pub struct Entry {
     pub name: usize,
     pub value: usize,
 }
 
 // What an index answers: the number of the fields, or a refusal.
-#[derive(Drop)]
+#[derive(Clone, Copy)]
 pub enum Indexed {
     Count(usize),
     // 1: tape under 8 or over 1,048,576 bytes, or body length plus 8 not its length
@@ -41,21 +41,21 @@ pub enum Indexed {
 }
 
 // What a lookup answers: the place of an entry in the slice, or none.
-#[derive(Drop)]
+#[derive(Clone, Copy)]
 pub enum Found {
     Nothing,
     At(usize),
 }
 
 // The name looked for: an identifier, or else the text beside it.
-#[derive(Drop)]
+#[derive(Clone, Copy)]
 pub struct Key {
     pub numbered: bool,
     pub id: usize,
 }
 
 // What a lookup by a struct's offset answers: the field, none, or the index's refusal.
-#[derive(Drop)]
+#[derive(Clone, Copy)]
 pub enum Looked {
     Nothing,
     Field(Entry),

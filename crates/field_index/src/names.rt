@@ -6,7 +6,7 @@ ghost use Rattle.field_index.specs.Lookup.{key_of};
 
 use crate::{Entry, Key};
 
-#[derive(Drop)]
+#[derive(Clone, Copy)]
 pub enum Way {
     Less,
     Equal,
@@ -48,7 +48,7 @@ fn compare_texts(s: &[u8], t: &[u8]) -> Way
 }
 
 // A name: its number, or the part of the tape that holds its text.
-#[derive(Drop)]
+#[derive(Clone, Copy)]
 struct Name {
     pub numbered: bool,
     pub id: usize,

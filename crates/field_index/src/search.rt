@@ -7,7 +7,7 @@ use crate::names::Way;
 use crate::{Entry, Found, Key};
 
 // What is left of a search, its middle, and whether the entry behind it has the name.
-#[derive(Drop)]
+#[derive(Clone, Copy)]
 pub struct Range {
     pub lo: usize,
     pub hi: usize,

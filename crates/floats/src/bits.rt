@@ -35,7 +35,7 @@ pub fn bits_of(neg: bool, n: u64) -> u64
 }
 
 // The magnitude of a whole number, or none.
-#[derive(Drop)]
+#[derive(Clone, Copy)]
 pub enum Magnitude {
     Is(u64),
     No,

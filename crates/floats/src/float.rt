@@ -60,7 +60,7 @@ pub fn format_float(buf: &mut [u8], pos: usize, x: f64) -> usize
 // ---- reading
 
 // A float, and the place behind it.
-#[derive(Drop)]
+#[derive(Clone, Copy)]
 pub enum FloatRead {
     Is(f64, usize),
     Bad,

@@ -115,7 +115,7 @@ pub fn whole_length(n: u64) -> usize
 // ---- reading
 
 // A whole number, and the place behind it.
-#[derive(Drop)]
+#[derive(Clone, Copy)]
 pub enum WholeRead {
     Is(u64, usize),
     Bad,

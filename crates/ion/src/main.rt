@@ -236,7 +236,7 @@ fn with_tape(quoted: bool, word: Word, tape: &[u8], text: &mut [u8], spare: &mut
 // ---- a field by its name
 
 // Where a command line says an offset.
-#[derive(Drop)]
+#[derive(Clone, Copy)]
 enum Offset {
     Wrong,
     At(usize),

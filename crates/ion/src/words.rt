@@ -4,7 +4,7 @@ ghost use Rattle.ion.specs.Words.{command_of};
 
 use text_rules::words::same_word;
 
-#[derive(Drop)]
+#[derive(Clone, Copy)]
 pub enum Word {
     Compact,
     Lines,

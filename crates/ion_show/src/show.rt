@@ -8,7 +8,7 @@ use tape::answer::Answer;
 use tape::{Frame, Place, Scanned};
 
 // Where nodes stand side by side: in what, and in how many containers; and whether lines are printed.
-#[derive(Drop)]
+#[derive(Clone, Copy)]
 struct How {
     frame: Frame,
     level: usize,
@@ -105,7 +105,7 @@ fn is_bare_top(level: usize, at: usize, value: usize) -> bool {
 }
 
 // Where a child's value starts, behind its name and its annotations, and where it ends. Both are the same where there is no child.
-#[derive(Drop)]
+#[derive(Clone, Copy)]
 struct Span {
     value: usize,
     next: usize,

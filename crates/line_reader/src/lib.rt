@@ -9,7 +9,7 @@ use reader::Made;
 use tape::answer::Answer;
 
 // What a call answers, and the next offset.
-#[derive(Drop)]
+#[derive(Clone, Copy)]
 pub struct Called {
     pub answer: Answer,
     pub at: usize,

@@ -8,20 +8,20 @@ ghost use Rattle.listing.specs.Spelling.{bytes_of, Decodes};
 ghost use Rattle.listing.specs.DecodeSteps.{PairAt, OneAt};
 ghost use Rattle.listing.specs.declared.decode.Form.TheVariants.{Hex, Text};
 
-#[derive(Drop)]
+#[derive(Clone, Copy)]
 pub enum Form {
     Hex,
     Text,
 }
 
-#[derive(Drop)]
+#[derive(Clone, Copy)]
 pub enum Decoded {
     Length(usize),
     Malformed,
 }
 
 // What is spelled at a place: a byte, and where its spelling ends.
-#[derive(Drop)]
+#[derive(Clone, Copy)]
 pub enum One {
     Byte(u8, usize),
     Nothing,

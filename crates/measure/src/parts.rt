@@ -114,7 +114,7 @@ pub fn field_name_length(tape: &[u8], at: usize, end: usize, frame: Frame, quote
 
 // What annotations have: the place behind them, or 0 where they are refused, which is always by 2; the length of their text; whether there is an
 // identifier but 0 among them.
-#[derive(Drop)]
+#[derive(Clone, Copy)]
 pub struct Notes {
     pub at: usize,
     pub length: usize,
@@ -210,7 +210,7 @@ pub fn notes_at(tape: &[u8], at: usize, end: usize, quotes: usize) -> Notes
 
 // A scalar by its size, which is 0 where it is refused by 2 and 1 where it is refused by 4, and by the length of its text, which is 0 where
 // `untold_length` tells it. Where it is refused, the length says nothing.
-#[derive(Drop)]
+#[derive(Clone, Copy)]
 pub struct Leaf {
     pub size: usize,
     pub length: usize,

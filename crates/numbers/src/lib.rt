@@ -1,5 +1,6 @@
 // Ints, decimals and timestamps as text, written and read.
 #![tactic(auto)]
+
 pub mod decimal;
 pub mod int;
 pub mod numeral;

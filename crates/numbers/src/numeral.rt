@@ -12,7 +12,7 @@ use text_rules::digits::Joined;
 use text_rules::texts::stands;
 
 // A number, and the place behind it: an int, or a decimal by sign, magnitude and exponent.
-#[derive(Drop)]
+#[derive(Clone, Copy)]
 pub enum NumeralRead {
     Int(i64, usize),
     Decimal(bool, u64, i32, usize),
@@ -20,7 +20,7 @@ pub enum NumeralRead {
 }
 
 // An exponent, or none that fits.
-#[derive(Drop)]
+#[derive(Clone, Copy)]
 pub enum Shift {
     By(i32),
     Out,

@@ -16,7 +16,7 @@ use text_rules::texts::stands;
 
 // A point in time to a precision: 0 year, 1 month, 2 day, 3 minute, 4 second. Fields finer than the precision are 0. The offset
 // is in minutes, 32767 where it is unknown. The fraction of a second has so many digits.
-#[derive(Drop)]
+#[derive(Clone, Copy)]
 pub struct Timestamp {
     pub precision: u8,
     pub year: u16,
@@ -367,21 +367,21 @@ pub fn format(buf: &mut [u8], pos: usize, t: Timestamp) -> usize
 // ---- reading
 
 // A timestamp and the place behind it.
-#[derive(Drop)]
+#[derive(Clone, Copy)]
 pub enum TimestampRead {
     Is(Timestamp, usize),
     Bad,
 }
 
 // A number and the place behind it.
-#[derive(Drop)]
+#[derive(Clone, Copy)]
 enum Number {
     Is(u64, usize),
     Bad,
 }
 
 // `hh:mm` and the place behind it.
-#[derive(Drop)]
+#[derive(Clone, Copy)]
 enum Clock {
     Is(u8, u8, usize),
     Bad,

@@ -20,21 +20,21 @@ use numbers::timestamp::Timestamp;
 use tape::{Frame, Scanned};
 
 // How one thing stands to another. Inside, an order is a number: 0, 1 and 2.
-#[derive(Drop)]
+#[derive(Clone, Copy)]
 pub enum Order {
     Less,
     Equal,
     Greater,
 }
 
-#[derive(Drop)]
+#[derive(Clone, Copy)]
 pub enum Compared {
     Is(Order),
     Refused(u8),
 }
 
 // A comparison, and where it ended in both.
-#[derive(Drop)]
+#[derive(Clone, Copy)]
 pub struct Side {
     pub order: u8,
     pub a: usize,

@@ -10,7 +10,7 @@ use tape::{Frame, Place};
 use text_rules::texts::stands;
 
 // A bracket that opens a frame, or something else.
-#[derive(Drop)]
+#[derive(Clone, Copy)]
 pub enum Opener {
     Opens(Frame),
     Other,

@@ -14,7 +14,7 @@ use tokens::quoted::Step;
 use tokens::values::SymbolRead;
 
 // Things were read up to `at`: `count` of them, written up to `pos`; or not.
-#[derive(Drop)]
+#[derive(Clone, Copy)]
 pub enum Run {
     Whole { at: usize, pos: usize, count: usize },
     Broken,

@@ -18,7 +18,7 @@ use tape::Frame;
 use tape::answer::Answer;
 
 // The length of a whole tape and the number of its top-level nodes, or none.
-#[derive(Drop)]
+#[derive(Clone, Copy)]
 pub enum Made {
     Length(usize, usize),
     Nothing,

@@ -157,7 +157,7 @@ fn shift(buf: &mut [u8], from: usize, to: usize) -> usize {
 }
 
 // What a piece of the input leaves: so many bytes of a line that goes on in the next piece, or none since the input has ended.
-#[derive(Drop)]
+#[derive(Clone, Copy)]
 enum Left {
     Bytes(usize),
     Ended,

@@ -54,7 +54,7 @@ pub fn refusal(number: u8, text: &[u8], seen: &mut [usize; 8])
 }
 
 // Where the next call goes on, in the text and in the nodes; nowhere behind the end mark or a difference.
-#[derive(Drop)]
+#[derive(Clone, Copy)]
 enum Next {
     Line(usize, usize),
     Nothing,

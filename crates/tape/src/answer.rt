@@ -3,7 +3,7 @@ ghost use Rattle.std.specs.Prelude.{◌≡◌, ◌≤◌};
 ghost use Rattle.tape.specs.Answer.{outcome, refused, number_of};
 
 // The count of finished bytes, the end mark of line reading, or a refusal of the table: 1 to 10 of document 01, 13 and 14 of document 02.
-#[derive(Drop)]
+#[derive(Clone, Copy)]
 pub enum Answer {
     Count(usize),
     End,

@@ -13,7 +13,7 @@ use floats::bits::Magnitude;
 
 // Annotations: refused, always by 2; or where they end, and, of them and of the nodes before them, whether there are annotations and whether
 // there is an identifier but 0.
-#[derive(Drop)]
+#[derive(Clone, Copy)]
 pub enum Front {
     Bad,
     Whole(usize, bool, bool),
@@ -21,7 +21,7 @@ pub enum Front {
 
 // What is told of the nodes of a body: the first problem or 0; without one, how many stand side by side in it, whether there are annotations,
 // and whether there is an identifier but 0.
-#[derive(Drop)]
+#[derive(Clone, Copy)]
 pub struct Checked {
     pub fault: u8,
     pub count: usize,

@@ -12,7 +12,7 @@ ghost use Rattle.tape.specs.Steps.{place_of, length_in, meant_sym, scanned, size
 use numbers::timestamp::Timestamp;
 
 // Where nodes stand side by side.
-#[derive(Drop)]
+#[derive(Clone, Copy)]
 pub enum Frame {
     Top,
     List,
@@ -21,7 +21,7 @@ pub enum Frame {
 }
 
 // A scalar value. An enum holds no slice, so of a text it has the length; the bytes stand 5 bytes behind the node's kind byte.
-#[derive(Drop)]
+#[derive(Clone, Copy)]
 pub enum Scalar {
     Null(u8),
     Bool(bool),
@@ -37,7 +37,7 @@ pub enum Scalar {
 }
 
 // A symbol's node at a place: none; text, with its length; an identifier.
-#[derive(Drop)]
+#[derive(Clone, Copy)]
 pub enum Symbol {
     Bad,
     Text(usize),
@@ -45,14 +45,14 @@ pub enum Symbol {
 }
 
 // A scalar at a place, or none.
-#[derive(Drop)]
+#[derive(Clone, Copy)]
 pub enum Scanned {
     Bad,
     Is(Scalar),
 }
 
 // A place, if what stands before it is as it must be.
-#[derive(Drop)]
+#[derive(Clone, Copy)]
 pub enum Place {
     Bad,
     At(usize),

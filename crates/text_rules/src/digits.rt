@@ -309,7 +309,7 @@ pub fn is_digit(b: u8) -> bool
 }
 
 // Digits joined to a number, and the place behind them; or a number that does not fit.
-#[derive(Drop)]
+#[derive(Clone, Copy)]
 pub enum Joined {
     Digits(u64, usize),
     Over,

@@ -7,7 +7,7 @@ ghost use Rattle.text_rules.specs.TextSteps.{two_word_text};
 ghost use Rattle.text_rules.specs.WordSteps.{special, is_bare};
 
 // A text by two words and its length: its bytes are those of the first word, the lowest first, and behind eight those of the second.
-#[derive(Drop)]
+#[derive(Clone, Copy)]
 struct Spelling(u64, u64, usize);
 
 // A null of a type: `null`, or `null.` and the type. A number past 12 is no type, and has no name. The compiler makes tables of the arms.

@@ -8,7 +8,7 @@ ghost use Rattle.text_rules.specs.declared.words.Kind.TheVariants.{Text};
 ghost use Rattle.text_rules.specs.WordSteps.{Spanned, Passed, WordStands, WordAt, bounded};
 
 // What a word of identifier bytes is where it stands bare.
-#[derive(Drop)]
+#[derive(Clone, Copy)]
 pub enum Kind {
     Null,
     True,
@@ -21,7 +21,7 @@ pub enum Kind {
 }
 
 // A bare word: what it is, and the place behind it.
-#[derive(Drop)]
+#[derive(Clone, Copy)]
 pub struct Word {
     pub kind: Kind,
     pub end: usize,

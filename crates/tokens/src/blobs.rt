@@ -54,7 +54,7 @@ fn put_six(buf: &mut [u8], pos: usize, w: u64) -> usize
 }
 
 // How far base64 was read, and up to where its bytes were written.
-#[derive(Drop)]
+#[derive(Clone, Copy)]
 pub struct Reached {
     pub at: usize,
     pub pos: usize,

@@ -9,14 +9,14 @@ ghost use Rattle.tokens.specs.Quoted.{scalar_escape, letter_escape, escape, raw_
 ghost use Rattle.tokens.specs.Steps.{Copies, if_below, own_letter, HexAt, is_plain, is_plain_byte, RunTo};
 
 // Something was read up to `at`, and its bytes written up to `pos`; or nothing.
-#[derive(Drop)]
+#[derive(Clone, Copy)]
 pub enum Step {
     Next { at: usize, pos: usize },
     Bad,
 }
 
 // The number that hex digits name, or not all of them are hex digits.
-#[derive(Drop)]
+#[derive(Clone, Copy)]
 pub enum Hex {
     Value(u32),
     Bad,

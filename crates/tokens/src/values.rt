@@ -7,20 +7,20 @@ ghost use Rattle.text_rules.specs.Reading.{Reads};
 ghost use Rattle.tokens.specs.TokenSteps.{null_read, bool_read, type_read, number_type, text_type, container_type, SymbolAt};
 
 // A null of a type, and the place behind it; or none.
-#[derive(Drop)]
+#[derive(Clone, Copy)]
 pub enum NullRead {
     Is(u8, usize),
     Bad,
 }
 
-#[derive(Drop)]
+#[derive(Clone, Copy)]
 pub enum BoolRead {
     Is(bool, usize),
     Bad,
 }
 
 // A symbol's text was read up to `at` and written up to `pos`; or its number was read; or there is none.
-#[derive(Drop)]
+#[derive(Clone, Copy)]
 pub enum SymbolRead {
     Text { at: usize, pos: usize },
     Id { n: u32, at: usize },

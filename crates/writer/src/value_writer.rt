@@ -19,7 +19,7 @@ use tape::{Frame, Place, Scalar, Scanned, Symbol};
 use text_rules::text_formatter;
 
 // Where writing and reading stand: the next position of the buffer, and the next place of the tape.
-#[derive(Drop)]
+#[derive(Clone, Copy)]
 pub struct Step {
     pub pos: usize,
     pub at: usize,

@@ -8,7 +8,7 @@ ghost use Rattle.writer.specs.Text.{separator, broken, blanks, deeper, opening, 
 use tape::Frame;
 
 // What follows a value: `second` alone, or a comma and `second`.
-#[derive(Drop)]
+#[derive(Clone, Copy)]
 pub struct Separator {
     pub second: u8,
     pub pair: bool,

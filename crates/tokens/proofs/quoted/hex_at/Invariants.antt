@@ -1,0 +1,18 @@
+-- `quoted::hex_at` meets its contract. The invariant: the digits that are left, joined behind the number so far, are the whole. Assumes nothing.
+use Prim.Native.Nat.{ℕ, suc, ◌+◌, ◌-◌, ◌*◌, ◌^◌, ◌≤◌, ◌<◌}
+use mathlib.Core.Path.{◌≡◌, ap, ◌∙◌}
+use mathlib.Core.Option.{some}
+use native.Mathlib.Nat.{add-zero, sub-zero, add_assoc}
+use native.Mathlib.Omega.{arith}
+use lib.ListN.{length, drop}
+use borrow.Author.Tests.{lt-ltb, le-ltb}
+use Rattle.text_rules.specs.Escapes.{hex}
+use Rattle.tokens.proofs.QuotedSteps.{hex_more, hex-other, hex_short, hex_grows, hex-fits}
+use borrow.Author.Rules.{rules}
+use Rattle.tokens.proofs.quoted.hex_at.Given as goal
+
+abbrev pub invariant-loop-i : goal.invariant-loop-i
+invariant-loop-i l = (l.i ≤ l.w) × (l.at + l.i ≤ length l.text) × (l.v < 16 ^ l.i) × (hex l.w 0 (drop l.at l.text) ≡ hex (l.w - l.i) l.v (drop (l.at + l.i) l.text))
+
+abbrev pub decreases-loop-i : goal.decreases-loop-i
+decreases-loop-i l = l.w - l.i

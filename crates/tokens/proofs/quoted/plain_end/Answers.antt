@@ -1,0 +1,24 @@
+-- `quoted::plain_end` meets its contract. Assumes nothing.
+use Prim.Native.Nat.{◌-◌, ◌≤◌}
+use mathlib.Core.Path.{sym, ◌∙◌}
+use native.Mathlib.Omega.{arith}
+use lib.ListN.{length}
+use borrow.Author.Tests.{not-false}
+use Rattle.tokens.specs.Steps.{RunTo, is_plain}
+use Rattle.tokens.proofs.QuotedSteps.{run_more}
+use borrow.Author.Rules.{rules}
+use Rattle.tokens.proofs.quoted.plain_end.Goals as goal
+
+pub loop-i-init : goal.loop-i-init
+loop-i-init c = (search rules, record { ahead = omega arith; inside = omega arith; each = λ k l u. absurd (omega arith) })
+
+pub returns-then-not-is_plain : goal.returns-then-not-is_plain
+returns-then-not-is_plain c = c.loop-i.invariant.1
+
+pub loop-i-preserved : goal.loop-i-preserved
+loop-i-preserved c =
+    let l = c.loop-i.invariant in
+    (l.0, run_more l.1 (omega (arith, c.loop-i-test.true, l.0)) (sym c.is_plain.ensures ∙ c.if-not-is_plain.false))
+
+pub returns : goal.returns
+returns c = c.loop-i.invariant.1
