@@ -1,17 +1,17 @@
 -- `numbers::numeral::numeral_at` meets its contract. Assumes nothing.
 use native.Mathlib.Omega.{arith}
-use mathlib.Core.Logic.{⊎_elim}
 use mathlib.Core.Path.{sym, ◌∙◌}
 use Rattle.numbers.specs.Numeral.{numeral}
 use Rattle.text_rules.proofs.ReadingLaws.{reads_from}
 use Rattle.text_rules.proofs.Places.{next}
 use borrow.Author.Rules.{rules}
 use Rattle.numbers.proofs.numeral.numeral_at.Goals as goal
+use Rattle.numbers.proofs.numeral.numeral_at.Goals.{then-neg, else-neg}
 
 pub unsigned_at-requires : goal.unsigned_at-requires
 unsigned_at-requires c =
     let i = c.stands-neg.ensures.inside in
-    ⊎_elim (λ w. omega (arith, i w.0.taken, w.1)) (λ w. omega (arith, w.1, c.requires)) c.if-neg.branch
+    elim c.if-neg.branch [ then-neg w ↦ omega (arith, i w.if-neg.true) | else-neg w ↦ omega arith ]
 
 pub returns : goal.returns
 unfolding numeral
@@ -19,7 +19,7 @@ returns c =
     let x = c.args in
     let t = x.text.now in
     let s = c.stands-neg.ensures.is in
-    ⊎_elim
-    (λ w. let g = rw (w.0.taken, w.1) at c.unsigned_at.ensures in rw (sym s ∙ w.0.taken, next t x.at) (reads_from g (omega arith)))
-    (λ w. let g = rw (w.0.left, w.1) at c.unsigned_at.ensures in rw (sym s ∙ w.0.left) g)
-    c.if-neg.branch
+    elim c.if-neg.branch [
+      then-neg w ↦ (let g = rw (w.if-neg.true, w.from-is) at c.unsigned_at.ensures in rw (sym s ∙ w.if-neg.true, next t x.at) (reads_from g (omega arith)))
+    | else-neg w ↦ (let g = rw (w.if-neg.false, w.from-is) at c.unsigned_at.ensures in rw (sym s ∙ w.if-neg.false) g)
+    ]

@@ -1,7 +1,6 @@
 -- `numbers::numeral::unsigned_at` meets its contract. Assumes nothing.
 use native.Mathlib.Omega.{arith}
 use Prim.Native.Nat.{◌≤◌, ◌<◌}
-use mathlib.Core.Logic.{⊎_elim}
 use borrow.Author.Tests.{eq-eqb, ne_eqb}
 use lib.ListN.{length, drop}
 use Rattle.numbers.specs.Numeral.{unsigned}
@@ -11,6 +10,7 @@ use Rattle.numbers.proofs.NumeralLaws.{whole-at, unsigned_over}
 use Rattle.text_rules.proofs.ReadingLaws.{refused, reads_from}
 use borrow.Author.Rules.{rules}
 use Rattle.numbers.proofs.numeral.unsigned_at.Goals as goal
+use Rattle.numbers.proofs.numeral.unsigned_at.Goals.{then-k-gt1+else-text-at-eq48, else-k-gt1}
 
 pub overflow_sub-k : goal.overflow_sub-k
 overflow_sub-k c =
@@ -56,15 +56,15 @@ returns-after-k-gt1 c =
     let t = x.text.now in
     let v = rw c.in-Digits.is at c.digits_at.ensures in
     let es = run (drop x.at t) in
-    ⊎_elim
-    (λ w.
-    let two : 2 ≤ length es = omega (arith, v.2, w.0.taken) in
-    let lt : x.at < length t = omega (arith, v.2, v.3) in
-    rw (whole-at t x.at lt two, ne_eqb _ _ w.2.left, v.0, v.1) (reads_from c.behind_whole.ensures (omega (arith, v.2))))
-    (λ w.
-    let one = whole_one es (omega (arith, v.2, c.if-k-eq0.false, w.left)) in
-    rw (one, v.0, v.1) (reads_from c.behind_whole.ensures (omega (arith, v.2, c.if-k-eq0.false))))
-    c.if-k-gt1.branch
+    elim c.if-k-gt1.branch [
+      then-k-gt1+else-text-at-eq48 w ↦ (
+        let two : 2 ≤ length es = omega (arith, v.2, w.if-k-gt1.true) in
+        let lt : x.at < length t = omega (arith, v.2, v.3) in
+        rw (whole-at t x.at lt two, ne_eqb _ _ w.if-text-at-eq48.false, v.0, v.1) (reads_from c.behind_whole.ensures (omega (arith, v.2))))
+    | else-k-gt1 w ↦ (
+        let one = whole_one es (omega (arith, v.2, c.if-k-eq0.false, w.if-k-gt1.false)) in
+        rw (one, v.0, v.1) (reads_from c.behind_whole.ensures (omega (arith, v.2, c.if-k-eq0.false))))
+    ]
 
 pub returns-in-Over : goal.returns-in-Over
 returns-in-Over c =

@@ -1,11 +1,11 @@
 -- `blobs::first_bytes` meets its contract. Assumes nothing.
 use mathlib.Core.Path.{◌≡◌, refl}
-use mathlib.Core.Logic.{⊎_elim}
 use native.Mathlib.Omega.{arith}
 use Prim.Native.Nat.{◌%◌}
 use Rattle.tokens.proofs.BlobWrites.{first_wide, first-odd, first-whole, last-odd, last_even}
 use borrow.Author.Rules.{rules}
 use Rattle.tokens.proofs.blobs.first_bytes.Goals as goal
+use Rattle.tokens.proofs.blobs.first_bytes.Goals.{then-width-eq1+else-n-ne0, else-width-eq1}
 
 pub returns-then-n-gt16777215 : goal.returns-then-n-gt16777215
 returns-then-n-gt16777215 c = record { told = (first_wide _ _ c.if-n-gt16777215.true, refl) }
@@ -21,5 +21,5 @@ returns-then-n-ne0-2 c =
 pub returns : goal.returns
 returns c =
     let a = c.args in
-    let one : a.width ≡ 1 → a.n % 65536 ≡ 0 = ⊎_elim (λ w _. w.1.left) (λ w e. absurd (w.left e)) c.if-width-eq1.branch in
+    let one : a.width ≡ 1 → a.n % 65536 ≡ 0 = elim c.if-width-eq1.branch [ then-width-eq1+else-n-ne0 w ↦ (λ e. w.if-n-ne0.false) | else-width-eq1 w ↦ (λ e. absurd (w.if-width-eq1.false e)) ] in
     record { told = (_, first-whole _ _ (omega arith) (last_even a.n a.width c.requires.1 c.requires.2 one c.if-n-ne0-2.false), refl, c.put_bytes24-p.ensures) }

@@ -9,7 +9,7 @@ use borrow.Author.Rules.{rules}
 use Rattle.tokens.proofs.blobs.groups_at.Given as goal
 
 abbrev pub invariant-loop-i : goal.invariant-loop-i
-invariant-loop-i l = Decoded l.text l.at l.initial.buf l.buf l.pos record { l.at = l.i; l.pos = l.p }
+invariant-loop-i l = Decoded l.text l.at l.initial.buf l.buf l.pos record { at = l.i; pos = l.p }
 
 abbrev pub decreases-loop-i : goal.decreases-loop-i
 decreases-loop-i l = length l.text - l.i

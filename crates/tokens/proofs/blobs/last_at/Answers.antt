@@ -10,9 +10,6 @@ use Rattle.tokens.proofs.BlobEnds.{rest-closed, rest_end, last-other, last_unclo
 use borrow.Author.Rules.{rules}
 use Rattle.tokens.proofs.blobs.last_at.Goals as goal
 
-add-t10 : tie.Need-overflow-add-t10
-add-t10 c = search rules
-
 pub returns-then-word_stands : goal.returns-then-word_stands
 returns-then-word_stands c =
     let k = stripped_yes c.word_stands.ensures c.if-word_stands.true in

@@ -30,9 +30,6 @@ returns-then-not-word_stands-2 c =
     let h = rw c.in-Next.is at c.clob_bytes_at.ensures in
     record { told = (clob_unclosed _ _ _ _ (stripped_yes c.word_stands.ensures (c.if-not-word_stands.false)).0 h.told.1 (stripped_no c.word_stands-2.ensures (c.if-not-word_stands-2.true)), wrote_kept h.told.4) }
 
-add-t14 : tie.Need-overflow-add-t14
-add-t14 c = omega (arith, (stripped_yes c.before.word-stands2.ensures (not-false _ c.if2.false)).1)
-
 pub returns : goal.returns
 returns c =
     let h = rw c.in-Next.is at c.clob_bytes_at.ensures in
