@@ -159,6 +159,20 @@ def convert(text, fn, warn):
                 if "slice_aggregate" not in t and "slice_bounds" not in t:
                     warn(f"{fn.path}: no goal for {a} ({t})")
                 fn.settled.add(a)
+    # An answer named after a number of a local: by what stands before that.
+    if fn.settled:
+        taken = {j for js in pos.values() for j in js}
+        for a in rest:
+            if a in fn.settled:
+                stem = re.sub(r"_?t\d+$", "", norm(old_types.get(a, a)))
+                stem = re.sub(r"^(overflow|nonzero)_", "", stem)
+                for j, nd in enumerate(needs):
+                    if j not in taken and re.match(r"(overflow_|nonzero_)?" + re.escape(stem) + r"(_|-)", norm(nd[0])) and re.search(r"[-_]t\d+$", a):
+                        pos[a] = [j]
+                        taken.add(j)
+                        fn.settled.discard(a)
+                        warn(f"{fn.path}: {a} answers {nd[1]}")
+                        break
     inv_decls, answers = [], []
     fn.helpers = {}
     for n, x in named:
