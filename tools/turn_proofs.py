@@ -362,10 +362,25 @@ def clauses(lines, roots, fn):
         else:
             return m.group(0)
         full = list(full)
-        if full[0] == "requires" and len(full) > 1 and full[1].isdigit() and pre and int(full[1]) < len(pre):
-            full[1] = pre[int(full[1])]
-        elif len(full) > 2 and full[1] == "ensures" and full[2].isdigit() and full[0] in by_step and int(full[2]) < len(by_step[full[0]]):
-            full[2] = by_step[full[0]][int(full[2])]
+
+        def nested(k, names):
+            """`.0`, `.1.0`, `.1.1` of clauses that were pairs to the right."""
+            i = 0
+            while i < len(names) - 1 and k < len(full) and full[k] == "1" and len(names) - i > 2:
+                if k + 1 < len(full) and full[k + 1] in ("0", "1"):
+                    del full[k]
+                    i += 1
+                else:
+                    return
+            if k < len(full) and full[k].isdigit():
+                j = i + int(full[k])
+                if j < len(names):
+                    full[k] = names[j]
+
+        if full[0] == "requires" and len(full) > 1 and full[1].isdigit() and pre:
+            nested(1, pre)
+        elif len(full) > 2 and full[1] == "ensures" and full[2].isdigit() and full[0] in by_step:
+            nested(2, by_step[full[0]])
         elif len(full) > 2 and full[1] in ("auto", "new") and full[2].isdigit() and full[0] in params:
             ps = params[full[0]]
             full[2] = "buf" if "buf" in ps else ps[0]
@@ -442,6 +457,11 @@ def answer_convert(n, x, new, place, fn, warn):
         fields = fn.ensures
     if fields and len(fields) > 1:
         tp = tuple_parts(expr)
+        while tp and len(tp[1]) < len(fields) and tp[1] and tp[1][-1].startswith("(") and tuple_parts(tp[1][-1]) and not tuple_parts(tp[1][-1])[0].strip():
+            more = tuple_parts(tp[1][-1])[1]
+            if len(more) < 2:
+                break
+            tp = (tp[0], tp[1][:-1] + more)
         if tp and len(tp[1]) == len(fields):
             expr = tp[0] + "record { " + "; ".join(f"{a} = {b}" for a, b in zip(fields, tp[1])) + " }"
         else:

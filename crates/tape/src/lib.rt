@@ -1,5 +1,6 @@
 // The tape: what stands at a place of it, and whether it may be written. Places are positions in the whole tape; a body ends at `end`.
 #![tactic(auto)]
+
 pub mod answer;
 pub mod check;
 
