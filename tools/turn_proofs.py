@@ -306,7 +306,7 @@ def paths(body, env, fn, warn, where, helpers):
             return m.group(0)
         fields = [{"type-inv": "type_inv", "well-formed": "well_formed", "Type-inv": "type_inv"}.get(q, q) for q in fields]
         f = fields[0]
-        if f in ("args", "requires", "ranges", "lifetimes", "well_formed", "captures", "utf8"):
+        if f in ("args", "decreases", "requires", "ranges", "lifetimes", "well_formed", "captures", "utf8"):
             return ".".join([root] + fields)
         for p in chain(i):
             arm = fn.d["arms"][p]
@@ -383,7 +383,9 @@ def clauses(lines, roots, fn):
             nested(2, by_step[full[0]])
         elif len(full) > 2 and full[1] in ("auto", "new") and full[2].isdigit() and full[0] in params:
             ps = params[full[0]]
-            full[2] = "buf" if "buf" in ps else ps[0]
+            while len(full) > 3 and full[2] == "1" and full[3] in ("0", "1"):
+                del full[2]
+            full[2] = next((q for q in ("buf", "out", "entries", "calls") if q in ps), ps[0] if ps else "?")
         if v in roots:
             return ".".join([v] + full)
         return ".".join([v] + full[skip:])

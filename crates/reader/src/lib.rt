@@ -1,6 +1,7 @@
 // The reader: a text's meaning, laid as a tape. A value leads into a sequence and a sequence back into values; the tape is written as the
 // text is read. A position stops at a limit above every buffer, so a tape that is too long is measured without a sum that wraps.
 #![tactic(auto)]
+
 pub mod blanks;
 pub mod heads;
 pub mod nodes;

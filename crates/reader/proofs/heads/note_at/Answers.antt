@@ -1,0 +1,41 @@
+-- `heads::note_at` meets its contract: a symbol is looked for first, and then written. Assumes nothing.
+use native.Mathlib.Omega.{arith}
+use mathlib.Core.Path.{refl}
+use borrow.Author.Tests.{not-true, not-false}
+use Rattle.reader.proofs.HeadSteps.{note-none, note_alone, note-again, symbol_clash}
+use borrow.Author.Rules.{rules}
+use Rattle.reader.proofs.heads.note_at.Goals as goal
+
+pub returns-in_default : goal.returns-in_default
+returns-in_default c =
+    let k = rw c.in_default.is at c.symbol_at.ensures in
+    (note-none _ _ k.0, refl)
+
+pub word_stands-requires : goal.word_stands-requires
+word_stands-requires c =
+    let k = rw c.in-Next.is at c.symbol_at.ensures in
+    k.3
+
+pub returns-then-not-word_stands : goal.returns-then-not-word_stands
+returns-then-not-word_stands c =
+    let k = rw c.in-Next.is at c.symbol_at.ensures in
+    let s = c.word_stands.ensures in
+    (note_alone _ _ _ k.1 (rw (c.if-not-word_stands.true) at s.is), refl)
+
+pub returns-in_default-symbol_at : goal.returns-in_default-symbol_at
+returns-in_default-symbol_at c =
+    let k = rw c.in-Next.is at c.symbol_at.ensures in
+    let l = rw c.in_default-symbol_at.is at c.symbol_at-2.ensures in
+    absurd (symbol_clash _ _ _ _ k.1 l.0)
+
+pub overflow_add-result : goal.overflow_add-result
+overflow_add-result c =
+    let s = rw (c.if-not-word_stands.false) at c.word_stands.ensures in
+    omega (arith, s.inside)
+
+pub returns : goal.returns
+returns c =
+    let k = rw c.in-Next.is at c.symbol_at.ensures in
+    let l = rw c.in-Next-symbol_at.is at c.symbol_at-2.ensures in
+    let s = rw (c.if-not-word_stands.false) at c.word_stands.ensures in
+    (l.0, note-again _ _ _ _ _ _ _ k.1 l.1 s.is, omega (arith, k.2), s.inside, l.4)
