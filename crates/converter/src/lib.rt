@@ -1,5 +1,6 @@
 // The converter: a text of the old grammar, which has control characters raw, written again as one of the strict grammar.
 #![tactic(auto)]
+
 ghost use Rattle.std.specs.Prelude.{◌≡◌, false, ◌+◌, ◌*◌, ◌<◌, ◌≤◌, length};
 ghost use Rattle.output.specs.Wrote.{Wrote, limit};
 ghost use Rattle.tape.specs.Answer.{outcome};

@@ -1,0 +1,11 @@
+-- `converter::count_byte` meets its contract. Assumes nothing.
+use mathlib.Core.Path.{sym, ◌∙◌}
+use native.Mathlib.Omega.{arith}
+use borrow.Author.Rules.{rules}
+use Rattle.converter.proofs.count_byte.Goals as goal
+
+pub returns-then-is_replaced : goal.returns-then-is_replaced
+returns-then-is_replaced c = (rw (sym c.is_replaced.ensures ∙ c.if-is_replaced.true), omega arith)
+
+pub returns : goal.returns
+returns c = (rw (sym c.is_replaced.ensures ∙ c.if-is_replaced.false), omega arith)
