@@ -5,7 +5,7 @@ use Rattle.std.proofs.Math.Option.{Option, none}
 use Rattle.output.specs.Logic.{if, byte, ascii}
 use Rattle.text_rules.specs.Text.{Sym, symbol_text}
 use Rattle.tape.specs.Tree.{Head, Node, Nodes, scalar, nest, marker, nil, more}
-use Rattle.tape.specs.Tape.{reading, name_of, notes_of, body, walk}
+use Rattle.tape.specs.Tape.{reading, name_of, notes_of}
 use Rattle.tape.specs.declared.Frame.{Frame}
 use Rattle.tape.specs.declared.Scalar.{Scalar as ScalarC}
 use Rattle.tape.specs.declared.Scalar.TheVariants as C
