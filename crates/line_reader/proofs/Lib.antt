@@ -4,6 +4,3 @@ pub mod DamagedLines
 pub mod Demand
 pub mod LineLaws
 pub mod RunLaws
-pub mod Again
-pub mod Placed
-pub mod LocalArray

@@ -1,5 +1,6 @@
 // Line reading: a text line by line. A line that is refused does not stop the calls.
 #![tactic(auto)]
+
 ghost use Rattle.std.specs.Prelude.{◌≡◌, ℕ, ◌+◌, ◌≤◌, length, drop};
 ghost use Rattle.line_reader.specs.Cut.{to_first};
 ghost use Rattle.line_reader.specs.Book.{end_mark, ends_in_lf, by_book, book};

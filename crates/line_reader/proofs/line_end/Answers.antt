@@ -1,0 +1,17 @@
+-- `line_reader::line_end` meets its contract. The loop carries that the offset sought is the same from each place passed. Assumes nothing.
+use Prim.Native.Nat.{◌+◌, ◌-◌, ◌≤◌}
+use mathlib.Core.Path.{◌≡◌, sym, ◌∙◌}
+use borrow.Author.Rules.{rules}
+use lib.ListN.{length, drop}
+use Rattle.line_reader.specs.Cut.{to_first}
+use Rattle.line_reader.proofs.LineLaws.{first_found, first_more, first-none}
+use Rattle.line_reader.proofs.line_end.Goals as goal
+
+pub returns-then-text-i-eq10 : goal.returns-then-text-i-eq10
+returns-then-text-i-eq10 c = sym (c.loop-i.invariant.1 ∙ first_found c.args.text.now c.loop-i.i c.loop-i-test.true c.if-text-i-eq10.true)
+
+pub loop-i-preserved : goal.loop-i-preserved
+loop-i-preserved c = (search rules, c.loop-i.invariant.1 ∙ first_more c.args.text.now c.loop-i.i c.loop-i-test.true c.if-text-i-eq10.false)
+
+pub returns : goal.returns
+returns c = sym (c.loop-i.invariant.1 ∙ first-none c.args.text.now c.loop-i.i c.loop-i-test.false)
