@@ -11,5 +11,3 @@ pub mod IndexLaws
 pub mod Located
 pub mod LookLaws
 pub mod Claims
-pub mod Again
-pub mod LocalArray

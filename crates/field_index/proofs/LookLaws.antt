@@ -10,7 +10,7 @@ use lib.Seq.{take_at}
 use Rattle.output.specs.Logic.{if, on}
 use Rattle.output.proofs.Bools.{never}
 use Rattle.text_rules.specs.Text.{Sym}
-use Rattle.tape.specs.Bytes.{part, first}
+use Rattle.tape.specs.Bytes.{part}
 use Rattle.tape.specs.Tree.{Head, Node, Nodes, null, bool, int, float, decimal, timestamp, symbol, string, clob, blob, scalar, nest, marker, nil, more, size, encode_sym, encode_scalar, encode_name, encode_head, encode}
 use Rattle.tape.specs.Steps.{head_at, size_at}
 use Rattle.tape.specs.Fine.{Bytes}

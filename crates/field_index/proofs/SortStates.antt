@@ -2,16 +2,17 @@
 --     Sorts           h and v are where a heapsort of v₀ may stand
 --     at_first        the start
 --     full-turn       a turn looks at v alone, full-after: and stores to it alone
---     onward          the state after a turn, and its weight
+--     onward          the state after a turn, and its weight and height
 --     at_last         the end
+--     Stands          a list of which the first n are such a v; stands_first, stands_next, stands-last: at the start, after a turn and at the end, to_near: where a turn stores, lower_next: its height
 -- Assumes nothing.
 use mathlib.Core.Path.{◌≡◌, refl, sym, ap, subst, ◌∙◌}
 use mathlib.Core.Bool.{Bool}
 use mathlib.Core.List.{List, ◌++◌}
 use Prim.Native.Nat.{ℕ, ◌+◌, ◌^◌, ◌≤◌, ◌<◌}
 use native.Mathlib.Omega.{arith}
-use lib.ListN.{length, get_or, set, length-append, get_or-append}
-use lib.Seq.{set-append_left, lt-length-set}
+use lib.ListN.{length, get_or, set, take, drop, length-append, get_or-append, take-append-drop}
+use lib.Seq.{set-append_left, lt-length-set, length-take-le}
 use Rattle.field_index.specs.declared.Entry.{Entry}
 use Rattle.field_index.specs.declared.heapsort.Heap.{Heap}
 use Rattle.field_index.specs.declared.heapsort.Turn.{Turn}
@@ -19,7 +20,7 @@ use Rattle.field_index.specs.Names.{no_entry}
 use Rattle.field_index.specs.Sorted.{Order, Same, sorted}
 use Rattle.field_index.specs.HeapSteps.{turn_of, turn_at, after, start_of}
 use Rattle.field_index.proofs.SortedLaws.{same_length, is_sorted}
-use Rattle.field_index.proofs.TurnLaws.{Good, weight, Turned, started, turned_good, places, ended}
+use Rattle.field_index.proofs.TurnLaws.{Good, weight, Turned, started, turned_good, places, height, falls, ended}
 
 pub record Sorts (b : Entry → Entry → Bool) (v₀ : List Entry) (h : Heap) (v : List Entry) : Type 0 where
   pub deep : ℕ
@@ -79,3 +80,52 @@ module _ (b : Entry → Entry → Bool) (o : Order b) (v₀ rest : List Entry) (
     pub lighter : weight 64 (turn_at b v h).next onward.deep < weight 64 h s.deep
     unfolding onward
     lighter = T.next.less
+
+    pub lower : (N : ℕ) → h.hi ≤ N → height N (turn_at b v h).next < height N h
+    lower = falls b o 64 v fewer h s.deep s.good some
+
+-- a list whose beginning is being sorted: such a v, and the entries behind it
+pub record Stands (b : Entry → Entry → Bool) (v₀ rest : List Entry) (h : Heap) (l : List Entry) : Type 0 where
+  pub v : List Entry
+  pub sorts : Sorts b v₀ h v
+  pub whole : l ≡ v ++ rest
+
+module _ (b : Entry → Entry → Bool) (o : Order b) (n : ℕ) (ys : List Entry) (few : n < 2 ^ 64) (room : n ≤ length ys) where
+  abbrev v₀ : List Entry
+  v₀ = take n ys
+
+  abbrev rest : List Entry
+  rest = drop n ys
+
+  front : length v₀ ≡ n
+  front = length-take-le n ys room
+
+  fewest : length v₀ < 2 ^ 64
+  fewest = omega (arith, front)
+
+  pub stands_first : Stands b v₀ rest (start_of n) ys
+  stands_first = record { v = v₀; sorts = subst (λ (m : ℕ). Sorts b v₀ (start_of m) v₀) front (at_first b o v₀ rest fewest); whole = sym (take-append-drop n ys) }
+
+  module _ (h : Heap) (l : List Entry) (s : Stands b v₀ rest h l) where
+    pub stands-last : h.hi ≤ 1 → l ≡ sorted b v₀ ++ rest
+    stands-last e = s.whole ∙ ap (λ (v : List Entry). v ++ rest) (at_last b o v₀ rest fewest h s.v s.sorts e)
+
+    module _ (some : 1 < h.hi) (t : Turn) (is-t : t ≡ turn_at b l h) where
+      turn_is : t ≡ turn_at b s.v h
+      turn_is = is-t ∙ ap (λ (w : List Entry). turn_at b w h) s.whole ∙ full-turn b o v₀ rest fewest h s.v s.sorts some
+
+      pub to_near : t.to < length (set l h.at t.first)
+      to_near = rw (is-t, s.whole) (to_in b o v₀ rest fewest h s.v s.sorts some)
+
+      list-is : set (set l h.at t.first) t.to t.second ≡ after b s.v h ++ rest
+      list-is = rw (is-t, s.whole) (full-after b o v₀ rest fewest h s.v s.sorts some)
+
+      pub stands_next : Stands b v₀ rest t.next (set (set l h.at t.first) t.to t.second)
+      stands_next = record {
+        v = after b s.v h;
+        sorts = subst (λ (u : Turn). Sorts b v₀ u.next (after b s.v h)) (sym turn_is) (onward b o v₀ rest fewest h s.v s.sorts some);
+        whole = list-is;
+      }
+
+      pub lower_next : height n t.next < height n h
+      lower_next = rw turn_is (lower b o v₀ rest fewest h s.v s.sorts some n (omega (arith, s.sorts.good.inside, same_length s.v v₀ s.sorts.same, front)))

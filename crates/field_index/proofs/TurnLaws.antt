@@ -2,6 +2,7 @@
 --     Good, weight    where a sort stands, and how many turns it still takes at most; `deep` is the depth of the place in question
 --     started         at the start
 --     turned_good     a turn: the same entries, good again, and the weight falls
+--     height, falls   a plainer bound of the turns that are left, which the depth is no part of, and that a turn makes it less
 --     ended           at the end the list is sorted
 --     heapsorted-is   so a heapsort is over after at most (n / 2 + n) (D + 2) turns, D being the number of n's binary digits, and leaves the sorted list, whatever the list
 -- Assumes nothing.
@@ -9,7 +10,7 @@ use mathlib.Core.Path.{◌≡◌, refl, sym, ap, subst, ◌∙◌}
 use mathlib.Core.Bool.{Bool, true, false}
 use mathlib.Core.Logic.{◌⊎◌, inl, inr}
 use mathlib.Core.List.{List}
-use mathlib.Core.Option.{Option, none, some}
+use mathlib.Core.Option.{some}
 use Prim.Native.Nat.{ℕ, zero, suc, ◌+◌, ◌-◌, ◌*◌, ◌/◌, ◌^◌, ◌≤◌, ◌<◌}
 use native.Mathlib.Nat.{pow-le-pow_right, pow-suc}
 use native.Mathlib.Omega.{arith}
@@ -75,6 +76,29 @@ fewer hi D h = let q : hi ≡ suc (hi - 1) = omega arith in rw (ap (λ (m : ℕ)
 -- where no turn is left, at most one entry is left to sort
 light : (D : ℕ) (h : Heap) (deep : ℕ) → weight D h deep ≤ 0 → h.hi ≤ 1
 light D h deep l = omega arith
+
+-- the same, by the place in question in place of its depth: of N entries at most
+abbrev pub height : ℕ → Heap → ℕ
+height N h = (h.lo + h.hi) * (N + 2) + if h.out 0 (N + 1 - h.at)
+
+settled-height : (N lo hi : ℕ) → height N (settled_of lo hi) ≤ (lo + hi) * (N + 2)
+settled-height N lo hi = go (ltb 0 lo) refl
+  where
+    go : (t : Bool) → ltb 0 lo ≡ t → height N (if t (node_of (lo - 1) hi (lo - 1)) (out_of hi)) ≤ (lo + hi) * (N + 2)
+    go true e =
+        let l : 0 < lo = ltb-true 0 lo e in
+        let q : suc (lo - 1) ≡ lo = omega arith in
+        omega (arith, ap (λ (m : ℕ). (m + hi) * (N + 2)) q)
+    go false e =
+        let q : lo ≡ 0 = omega (arith, ltb-false 0 lo e) in
+        omega (arith, ap (λ (m : ℕ). (m + hi) * (N + 2)) q)
+
+sift-height : (N lo hi i : ℕ) → height N (sift_of lo hi i) ≤ (lo + hi) * (N + 2) + (N + 1 - i)
+sift-height N lo hi i = go (ltb i (hi / 2))
+  where
+    go : (t : Bool) → height N (if t (node_of lo hi i) (settled_of lo hi)) ≤ (lo + hi) * (N + 2) + (N + 1 - i)
+    go true = omega arith
+    go false = omega (arith, settled-height N lo hi)
 
 module _ (b : Entry → Entry → Bool) (o : Order b) (D : ℕ) where
   -- ---- the states that a turn leads to
@@ -239,6 +263,27 @@ module _ (b : Entry → Entry → Bool) (o : Order b) (D : ℕ) where
         go : (t : Bool) → h.out ≡ t → (h.at < length v) × (h.left < length v) × (h.right < length v)
         go true e = (omega (arith, g.inside, (g.taking e).at-is), omega (arith, g.inside, (g.taking e).left_is), omega (arith, g.inside, (g.taking e).right_is))
         go false e = (omega (arith, g.inside, (g.sifting e).parent), omega (arith, g.inside, (left_in e).1), omega (arith, g.inside, (right_in e).1))
+
+    -- ---- the height
+    module _ (N : ℕ) (most : h.hi ≤ N) where
+      step-falls : h.out ≡ false → (c : ℕ) → h.at < c → c < h.hi → (x y : Entry) → height N (step_of b h c x y).next < height N h
+      step-falls e c l m x y = rw e (go (b x y))
+        where
+          go : (t : Bool) → height N (if {A = Turn} t (record { next = sift_of h.lo h.hi c; to = c; first = y; second = x }) (record { next = settled_of h.lo h.hi; to = c; first = x; second = y })).next < (h.lo + h.hi) * (N + 2) + (N + 1 - h.at)
+          go true = omega (arith, sift-height N h.lo h.hi c)
+          go false = omega (arith, settled-height N h.lo h.hi)
+
+      pub falls : height N (turn_at b v h).next < height N h
+      falls = go h.out refl
+        where
+          by : h.out ≡ false → (t : Bool) → height N (if {A = Turn} t (step_of b h h.right (el h.at) (el h.right)) (step_of b h h.left (el h.at) (el h.left))).next < height N h
+          by e true = step-falls e h.right (omega (arith, right_in e)) (right_in e).1 (el h.at) (el h.right)
+          by e false = step-falls e h.left (omega (arith, left_in e)) (left_in e).1 (el h.at) (el h.left)
+
+          go : (t : Bool) → h.out ≡ t → height N (if {A = Turn} t (record { next = sift_of 0 (h.hi - 1) 0; to = h.left; first = el h.left; second = el h.at })
+              (if (b (el h.left) (el h.right)) (step_of b h h.right (el h.at) (el h.right)) (step_of b h h.left (el h.at) (el h.left)))).next < height N h
+          go true e = rw (e, (g.taking e).lo_is) (omega (arith, fewer h.hi N some, sift-height N 0 (h.hi - 1) 0))
+          go false e = by e (b (el h.left) (el h.right))
 
   -- ---- the start, the end, and the whole
   pub started : (v : List Entry) → (deep : ℕ) × Good b v (start_of (length v)) deep × (weight D (start_of (length v)) deep ≤ (length v / 2 + length v) * (D + 2))

@@ -11,7 +11,6 @@ use Rattle.tape.specs.Fine.{Bytes}
 use Rattle.tape.specs.declared.Frame.TheVariants.{Struct}
 use Rattle.field_index.specs.declared.Entry.{Entry}
 use Rattle.field_index.specs.declared.Found.{Found}
-use Rattle.field_index.specs.declared.Found.TheVariants.{Nothing, At}
 use Rattle.field_index.specs.declared.Looked.{Looked}
 use Rattle.field_index.specs.declared.Looked.TheVariants as L
 use Rattle.field_index.specs.declared.Indexed.{Indexed}

@@ -1,5 +1,6 @@
 // The field index: the fields of a struct node as entries in a lent slice, sorted by name, and lookup in it.
 #![tactic(auto)]
+
 mod fields;
 mod heapsort;
 mod names;
@@ -177,8 +178,7 @@ fn found_as(f: Found, e: Entry) -> Looked
     }
 }
 
-// The same behind an index. (`bytes` says nothing of the body: every slice of u8 meets it. It hands the fact to `look_up`, whose proof is a walk
-// by hand and cannot see it.)
+// The same behind an index. (`bytes` says nothing of the body: every slice of u8 meets it. It hands the fact to `look_up`.)
 fn told(tape: &[u8], i: Indexed, f: Found, e: Entry) -> Looked
     ensures answer { result ≡ looked_as i f e }
     ensures bytes { Bytes tape.now }
