@@ -9,7 +9,7 @@ tape without these digits, whose symbol texts have the same lengths and most of 
     python3 tests/bench.py [quoted] [ROUNDS]
 
 With `quoted` that second part alone.
-The first line builds the Rust's side, for whoever has its files; once is enough. Our side is the archive that `rt staticlib ion_c` makes, or
+The first line builds the Rust's side, for whoever has its files; once is enough. Our side is the archive that `rt lib` in crates/ion_c makes, or
 that of the folder LECHUQTA_LIB_DIR. Processor time, best of many, both in one run.
 """
 import os

@@ -4,7 +4,7 @@ beside a linear search.
     python3 tests/bench_index.py [ROUNDS]
     python3 tests/bench_index.py count
 
-The archive is the one that `rt staticlib ion_c` makes, or that of the folder LECHUQTA_LIB_DIR. Names have three bytes and stand sorted, reversed, in any
+The archive is the one that `rt lib` in crates/ion_c makes, or that of the folder LECHUQTA_LIB_DIR. Names have three bytes and stand sorted, reversed, in any
 order, or are all equal; values are bools, so that 100,000 fields fit a tape. Validation of the tape, with which each call starts, is timed by a call at
 an offset past the tape, and told apart: the rest is finding the struct, making the entries and sorting them. The ratios are those to a tenth of the
 fields; the goal is 16 at most.

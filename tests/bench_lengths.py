@@ -3,7 +3,7 @@ lengths and spellings, numbers, clobs, blobs, containers. Prints the ratios from
 
     python3 tests/bench_lengths.py [HOW MANY]
 
-The archive is the one that `rt staticlib ion_c` makes, or that of the folder LECHUQTA_LIB_DIR. Processor time, best of many, Compact, or the tree
+The archive is the one that `rt lib` in crates/ion_c makes, or that of the folder LECHUQTA_LIB_DIR. Processor time, best of many, Compact, or the tree
 text for annotations. Where a ratio is over 0.95 it is that of the best of twelve runs; some three minutes.
 """
 import os

@@ -3,7 +3,7 @@ converter's time on such texts, clean and with control characters raw.
 
     python3 tests/bench_read.py [ROUNDS]
 
-The comparison needs Debian's libjansson-dev, and is left out where that is missing. Our side is the archive that `rt staticlib ion_c` makes, or that of the folder LECHUQTA_LIB_DIR. Processor
+The comparison needs Debian's libjansson-dev, and is left out where that is missing. Our side is the archive that `rt lib` in crates/ion_c makes, or that of the folder LECHUQTA_LIB_DIR. Processor
 time, best of many, all in one run.
 """
 import base64

@@ -9,7 +9,7 @@ buffer that a call must leave alone or zero, and behind each call of a writer th
     python3 tests/compare.py [TAPES [SEED]]
     python3 tests/compare.py --minutes 10 [--seed SEED]
 
-The first line builds the Rust's side, for whoever has its files; once is enough. Our side is the archive that `rt staticlib ion_c` makes, or
+The first line builds the Rust's side, for whoever has its files; once is enough. Our side is the archive that `rt lib` in crates/ion_c makes, or
 that of the folder LECHUQTA_LIB_DIR. The first form compares one batch of so many tapes. The second goes on with batches until the time is
 over, each with the next seed, from SEED or a random one. Both start with the systematic tapes.
 Prints what was compared; or the first difference, its tape or text in hex, both answers and the seed that makes it again, and exits 1.

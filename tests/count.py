@@ -4,7 +4,7 @@ our archive.
 
     python3 tests/count.py
 
-The archive is the one that `rt staticlib ion_c` makes, or that of the folder LECHUQTA_LIB_DIR. The counts do not depend on the machine's
+The archive is the one that `rt lib` in crates/ion_c makes, or that of the folder LECHUQTA_LIB_DIR. The counts do not depend on the machine's
 clock or on what else it does, so a small change of the code can be told from none. Taken branches are jumps, conditional jumps where
 they jump, calls and returns.
 """

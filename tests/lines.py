@@ -1,6 +1,6 @@
 """Runs the program `lines` on worked tapes; what it must print is written down here or the text of tests/model.py.
 
-    rt check lines && python3 tests/lines.py
+    (cd crates/lines && rt run < stdin) && python3 tests/lines.py
 """
 import random
 import struct
@@ -12,7 +12,7 @@ import model
 from random_tapes import nested, stream
 from tapes import tape, whole
 
-PROGRAM = 'target/bin/lines'
+PROGRAM = 'crates/lines/out/lines'
 MOST = 65536
 TOO_LONG = b'input too long\n'
 EXAMPLE = bytes.fromhex('0A 02 00 00 00 01 01 07 00 00 00 01 00 00 00')

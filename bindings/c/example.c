@@ -2,8 +2,9 @@
    list read line by line, then a stored list converted.
 
    From the repository's root:
-       rt staticlib ion_c
-       cc -o target/example bindings/c/example.c target/staticlib/libion_c.a
+       (cd crates/ion_c && rt lib)
+       mkdir -p target
+       cc -o target/example bindings/c/example.c crates/ion_c/out/libion_c.a
        target/example
    What it prints stands in bindings/c/example.stdout. */
 #include "ion.h"

@@ -1,5 +1,5 @@
 /* Ion text for C and C++ (x86-64 Linux): tapes written as text, texts read back as tapes, stored texts converted, the fields of a struct found by
-   name. Link target/staticlib/libion_c.a, which `rt staticlib ion_c` makes and which needs nothing but memset.
+   name. Link crates/ion_c/out/libion_c.a, which `rt lib` in crates/ion_c makes and which needs nothing but memset.
 
    A tape is the binary form of a list of values: nodes, then u32 body length and u32 number of top-level nodes, all little-endian.
    docs/FORMAT.md has the nodes byte by byte, the texts, and the grammar of what is read.

@@ -1,5 +1,5 @@
 //! Finds the static library `libion_c.a` and has it linked: in the folder `LECHUQTA_LIB_DIR` if that is set, else in the repository's
-//! `target/staticlib`, where `rt staticlib ion_c` is asked to make it if it is not there.
+//! `crates/ion_c/out`, where `rt lib` is asked to make it if it is not there.
 
 use std::env;
 use std::path::{Path, PathBuf};
@@ -23,19 +23,20 @@ fn folder() -> PathBuf {
         return folder;
     }
     let root = here.ancestors().nth(2).unwrap_or(Path::new("/"));
-    let folder = root.join("target/staticlib");
+    let library = root.join("crates/ion_c");
+    let folder = library.join("out");
     let archive = folder.join(ARCHIVE);
     if !archive.is_file() {
-        let made = Command::new("rt").args(["staticlib", "ion_c"]).current_dir(root).status();
+        let made = Command::new("rt").arg("lib").current_dir(library).status();
         let why = match made {
             Err(e) => format!("`rt` cannot be run: {e}"),
-            Ok(status) if !status.success() => format!("`rt staticlib ion_c` failed ({status})"),
-            Ok(_) => "`rt staticlib ion_c` did not make it".to_string(),
+            Ok(status) if !status.success() => format!("`rt lib` in crates/ion_c failed ({status})"),
+            Ok(_) => "`rt lib` in crates/ion_c did not make it".to_string(),
         };
         if !archive.is_file() {
             let place = archive.display();
             fail(format!(
-                "there is no {place}, and {why}. Set LECHUQTA_LIB_DIR to a folder that has {ARCHIVE}, or see that `rt staticlib ion_c` makes it"
+                "there is no {place}, and {why}. Set LECHUQTA_LIB_DIR to a folder that has {ARCHIVE}, or see that `rt lib` in crates/ion_c makes it"
             ));
         }
     }
