@@ -1,5 +1,5 @@
 -- What `text_formatter` writes: symbols, strings, clobs, blobs, nulls, bools. Assumes nothing: these are definitions.
-use Rattle.std.specs.Prelude.{ℕ, Bool, true, false, ◌||◌, List, [], ◌∷◌, ◌++◌, eqb}
+use Rattle.std.specs.Prelude.{ℕ, Bool, ◌||◌, List, [], ◌∷◌, ◌++◌, eqb}
 use Rattle.output.specs.Logic.{if, byte, ascii}
 use Rattle.text_rules.specs.Digits.{digits}
 use Rattle.text_rules.specs.Words.{is_keyword, resembles_symbol_id, resembles_version_marker, is_identifier}

@@ -1,5 +1,5 @@
 -- Bare words, and the rule by which a symbol's text is quoted. Assumes nothing: these are definitions.
-use Rattle.std.specs.Prelude.{ℕ, Bool, true, false, ◌||◌, ◌&&◌, not, List, [], ◌∷◌, eqb, leb, drop}
+use Rattle.std.specs.Prelude.{ℕ, Bool, false, ◌||◌, ◌&&◌, not, List, [], ◌∷◌, eqb, leb, drop}
 use Rattle.output.specs.Logic.{if, on, byte, ascii}
 use Rattle.text_rules.specs.Digits.{is_digit, run, behind_digits, number, whole}
 use Rattle.text_rules.specs.Texts.{empty, starts, strip, same}

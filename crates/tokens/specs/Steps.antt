@@ -8,7 +8,6 @@ use Rattle.tokens.specs.Quoted.{strict_raw}
 use Rattle.tokens.specs.declared.quoted.Step.{Step}
 use Rattle.tokens.specs.declared.quoted.Step.TheVariants.{Next, Bad}
 use Rattle.tokens.specs.declared.quoted.Hex.{Hex}
-use Rattle.tokens.specs.declared.quoted.Hex.TheVariants as Hex
 
 -- The buffer went from b to b', and keeps its length and the bytes before p: so much is said of a reader that fails, which may have written from
 -- p on.

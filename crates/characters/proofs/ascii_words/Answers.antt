@@ -1,9 +1,6 @@
 -- `characters::ascii_words` meets its contract. The invariant: what is left from i decides what is left from the first place. Assumes nothing.
-use Prim.Native.Nat.{◌-◌, ◌≤◌}
-use mathlib.Core.Path.{◌≡◌, refl, ◌∙◌}
+use mathlib.Core.Path.{refl, ◌∙◌}
 use native.Mathlib.Omega.{arith}
-use lib.ListN.{length, drop}
-use Rattle.characters.specs.Utf8.{valid}
 use Rattle.characters.proofs.AsciiWords.{word-passed}
 use Rattle.characters.proofs.ascii_words.Goals as goal
 

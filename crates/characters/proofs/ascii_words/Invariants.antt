@@ -1,10 +1,8 @@
 -- `characters::ascii_words` meets its contract. The invariant: what is left from i decides what is left from the first place. Assumes nothing.
 use Prim.Native.Nat.{◌-◌, ◌≤◌}
-use mathlib.Core.Path.{◌≡◌, refl, ◌∙◌}
-use native.Mathlib.Omega.{arith}
+use mathlib.Core.Path.{◌≡◌}
 use lib.ListN.{length, drop}
 use Rattle.characters.specs.Utf8.{valid}
-use Rattle.characters.proofs.AsciiWords.{word-passed}
 use Rattle.characters.proofs.ascii_words.Given as goal
 
 abbrev pub invariant-loop-i : goal.invariant-loop-i

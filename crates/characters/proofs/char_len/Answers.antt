@@ -1,6 +1,5 @@
 -- `characters::char_len` meets its contract. Assumes nothing.
 use mathlib.Core.Path.{sym}
-use borrow.Author.Rules.{rules}
 use Rattle.characters.proofs.Utf8Chars.{ascii}
 use Rattle.characters.proofs.char_len.Goals as goal
 

@@ -1,6 +1,5 @@
 -- `characters::char_of` meets its contract: each answer by the tests that led to it. Assumes nothing.
 use mathlib.Core.Path.{sym, ◌∙◌}
-use borrow.Author.Rules.{rules}
 use borrow.Author.Tests.{ne_eqb}
 use Rattle.characters.specs.Utf8.{char_of}
 use Rattle.characters.proofs.char_of.Goals as goal

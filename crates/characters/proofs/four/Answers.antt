@@ -1,8 +1,7 @@
 -- `characters::four` meets its contract. Assumes nothing.
 use mathlib.Core.Path.{sym, ◌∙◌}
-use borrow.Author.Tests.{not-true, not-false, le-leb, lt-leb}
+use borrow.Author.Tests.{le-leb, lt-leb}
 use Rattle.characters.specs.Utf8.{ok4}
-use borrow.Author.Rules.{rules}
 use Rattle.characters.proofs.four.Goals as goal
 
 pub returns-then-not-cont : goal.returns-then-not-cont

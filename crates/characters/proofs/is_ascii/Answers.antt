@@ -1,7 +1,6 @@
 -- `characters::is_ascii` meets its contract. Assumes nothing.
 use mathlib.Core.Path.{sym, ◌∙◌}
 use Rattle.characters.proofs.AsciiWords.{ascii_word, ascii_all}
-use borrow.Author.Rules.{rules}
 use Rattle.characters.proofs.is_ascii.Goals as goal
 
 pub returns : goal.returns

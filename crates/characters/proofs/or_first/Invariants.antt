@@ -1,11 +1,8 @@
 -- `characters::or_first` meets its contract. The invariant: where no bit of hex 80 is set yet, what is left from i decides the whole. Assumes nothing.
-use Prim.Native.Nat.{ℕ, ◌-◌, ◌≤◌, ◌<◌}
-use mathlib.Core.Path.{◌≡◌, refl, ap, ◌∙◌}
-use native.Mathlib.Omega.{arith}
-use lib.ListN.{length, get_or, drop}
+use Prim.Native.Nat.{◌-◌, ◌≤◌, ◌<◌}
+use mathlib.Core.Path.{◌≡◌}
+use lib.ListN.{length, drop}
 use Rattle.characters.specs.Utf8.{after, valid}
-use Rattle.lanes.proofs.LaneLaws.{or_left, or_right}
-use Rattle.characters.proofs.Utf8Chars.{ascii_step}
 use Rattle.characters.proofs.or_first.Given as goal
 
 abbrev pub invariant-loop-i : goal.invariant-loop-i

@@ -1,7 +1,5 @@
 -- `characters::two` meets its contract. Assumes nothing.
 use mathlib.Core.Path.{sym, ◌∙◌}
-use borrow.Author.Rules.{rules}
-use borrow.Author.Tests.{not-true, not-false}
 use Rattle.characters.specs.Utf8.{ok2}
 use Rattle.characters.proofs.two.Goals as goal
 

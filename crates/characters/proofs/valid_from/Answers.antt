@@ -1,7 +1,6 @@
 -- `characters::valid_from` meets its contract. Assumes nothing.
 use mathlib.Core.Path.{sym, ◌∙◌}
 use Rattle.characters.proofs.AsciiWords.{last_word}
-use borrow.Author.Rules.{rules}
 use Rattle.characters.proofs.valid_from.Goals as goal
 
 pub returns-then-word_at-eq0 : goal.returns-then-word_at-eq0

@@ -4,7 +4,6 @@ use mathlib.Core.List.{List}
 use Prim.Native.Nat.{ℕ}
 use lib.Seq.{drop-length}
 use Rattle.characters.specs.Utf8.{after, valid}
-use borrow.Author.Rules.{rules}
 use Rattle.characters.proofs.valid_utf8.Goals as goal
 
 pub returns-then-or_first-lt128 : goal.returns-then-or_first-lt128

@@ -1,6 +1,5 @@
 -- `lanes::is_ascii` meets its contract. Assumes nothing.
 use Rattle.lanes.proofs.LaneLaws.{lane_self, unmarked}
-use borrow.Author.Rules.{rules}
 use Rattle.lanes.proofs.is_ascii.Goals as goal
 
 pub returns : goal.returns

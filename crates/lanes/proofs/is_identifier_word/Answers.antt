@@ -2,7 +2,6 @@
 use native.Mathlib.Omega.{arith}
 use Rattle.lanes.specs.Lanes.{rep}
 use Rattle.lanes.proofs.LaneLaws.{lane_self, lane_and, lane_or, lane_not, lane_lt, low_add, other_add, unmarked}
-use borrow.Author.Rules.{rules}
 use Rattle.lanes.proofs.is_identifier_word.Goals as goal
 
 pub overflow_add-m : goal.overflow_add-m

@@ -1,6 +1,5 @@
 -- `lanes::is_letter_word` meets its contract. Assumes nothing.
 use Rattle.lanes.proofs.LaneLaws.{lane_self, lane_or, lane_not, unmarked}
-use borrow.Author.Rules.{rules}
 use Rattle.lanes.proofs.is_letter_word.Goals as goal
 
 pub returns : goal.returns

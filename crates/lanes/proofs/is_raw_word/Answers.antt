@@ -1,6 +1,5 @@
 -- `lanes::is_raw_word` meets its contract. Assumes nothing.
 use Rattle.lanes.proofs.LaneLaws.{unmarked}
-use borrow.Author.Rules.{rules}
 use Rattle.lanes.proofs.is_raw_word.Goals as goal
 
 pub returns : goal.returns

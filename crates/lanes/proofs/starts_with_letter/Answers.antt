@@ -2,7 +2,6 @@
 use mathlib.Core.Path.{ap}
 use mathlib.Core.Bool.{not}
 use Rattle.lanes.proofs.LaneLaws.{first_unmarked}
-use borrow.Author.Rules.{rules}
 use Rattle.lanes.proofs.starts_with_letter.Goals as goal
 
 pub returns : goal.returns

@@ -7,7 +7,6 @@ use lib.ListN.{take, drop, length-drop}
 use lib.Seq.{sets, drop-drop}
 use Rattle.output.specs.Wrote.{le_bytes}
 use Rattle.output.proofs.Laws.{sets-next}
-use borrow.Author.Rules.{rules}
 use Rattle.output.proofs.copy_16.Goals as goal
 
 pub returns : goal.returns

@@ -5,7 +5,6 @@ use native.Mathlib.Omega.{arith}
 use lib.ListN.{length-set}
 use lib.Seq.{sets}
 use Rattle.output.proofs.Laws.{take-2}
-use borrow.Author.Rules.{rules}
 use Rattle.output.proofs.copy_2.Goals as goal
 
 pub bounds-buf-pos-2 : goal.bounds-buf-pos-2

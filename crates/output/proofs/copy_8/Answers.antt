@@ -1,7 +1,6 @@
 -- `output::copy_8` meets its contract. Assumes nothing.
 use mathlib.Core.Path.{ap, ◌∙◌}
 use lib.Seq.{sets}
-use borrow.Author.Rules.{rules}
 use Rattle.output.proofs.copy_8.Goals as goal
 
 pub returns : goal.returns

@@ -6,7 +6,6 @@ use native.Mathlib.Omega.{arith}
 use lib.ListN.{length, take, drop, get_or}
 use lib.Seq.{sets}
 use Rattle.output.proofs.Laws.{sets-lap}
-use borrow.Author.Rules.{rules}
 use Rattle.output.proofs.copy_at.Goals as goal
 
 none_left : (l : List ℕ) → length l ≤ 0 → l ≡ []

@@ -3,7 +3,6 @@ use mathlib.Core.Path.{◌∙◌}
 use native.Mathlib.Omega.{arith}
 use Rattle.output.proofs.Laws.{take-4}
 use Rattle.output.proofs.Words.{le-sum-4}
-use borrow.Author.Rules.{rules}
 use Rattle.output.proofs.half_at.Goals as goal
 
 pub returns : goal.returns

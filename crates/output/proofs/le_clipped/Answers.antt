@@ -3,7 +3,7 @@ use Prim.Native.Nat.{ℕ, suc, ◌-◌}
 use mathlib.Core.Path.{◌≡◌, ap}
 use native.Mathlib.Omega.{arith}
 use Rattle.output.specs.Wrote.{le_bytes}
-use Rattle.output.proofs.Laws.{length-le, wrote-past, Progress, start, more, finish, wrote-length}
+use Rattle.output.proofs.Laws.{length-le, wrote-past, start, more, finish, wrote-length}
 use borrow.Author.Rules.{rules}
 use Rattle.output.proofs.le_clipped.Goals as goal
 

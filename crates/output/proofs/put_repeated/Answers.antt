@@ -1,7 +1,6 @@
 -- `output::put_repeated` meets its contract. Assumes nothing.
 use mathlib.Core.Path.{sym}
 use Rattle.output.proofs.Words.{le-repeated}
-use borrow.Author.Rules.{rules}
 use Rattle.output.proofs.put_repeated.Goals as goal
 
 pub returns-then-n-eq2 : goal.returns-then-n-eq2

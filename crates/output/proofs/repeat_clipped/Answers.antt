@@ -1,9 +1,8 @@
 -- `output::repeat_clipped` meets its contract. Assumes nothing.
 use mathlib.Core.Path.{◌≡◌}
-use Prim.Native.Nat.{ℕ, ◌≤◌, ◌-◌}
+use Prim.Native.Nat.{ℕ}
 use native.Mathlib.Omega.{arith}
 use lib.ListN.{replicate, length-replicate, replicate-append-replicate}
-use Rattle.output.specs.Wrote.{Wrote}
 use Rattle.output.proofs.Laws.{wrote_none, wrote-past, wrote_then, wrote-length}
 use borrow.Author.Rules.{rules}
 use Rattle.output.proofs.repeat_clipped.Goals as goal

@@ -4,7 +4,6 @@ use mathlib.Core.Path.{◌≡◌}
 use native.Mathlib.Omega.{arith}
 use lib.ListN.{length-set}
 use Rattle.output.proofs.Words.{le-4}
-use borrow.Author.Rules.{rules}
 use Rattle.output.proofs.store_4.Goals as goal
 
 pub bounds-buf-pos-2 : goal.bounds-buf-pos-2

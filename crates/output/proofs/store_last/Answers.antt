@@ -7,9 +7,6 @@ use lib.ListN.{drop}
 use lib.Seq.{sets}
 use Rattle.output.specs.Wrote.{le_bytes}
 use Rattle.output.proofs.Words.{shift, last-lap}
-use borrow.Author.Rules.{rules}
-use Rattle.output.proofs.store_2.Reads as store-2-reads
-use Rattle.output.proofs.store_4.Reads as store-4-reads
 use Rattle.output.proofs.store_last.Goals as goal
 
 last_byte : (w : ℕ) → w < 2 ^ 64 → drop 7 (le_bytes 8 w) ≡ w / 72057594037927936 ∷ []

@@ -6,7 +6,6 @@ use native.Mathlib.Omega.{arith}
 use lib.Seq.{sets}
 use Rattle.output.specs.Wrote.{le_bytes}
 use Rattle.output.proofs.Words.{le-lap}
-use borrow.Author.Rules.{rules}
 use Rattle.output.proofs.store_low.Goals as goal
 
 pub returns-then-n-ge4 : goal.returns-then-n-ge4

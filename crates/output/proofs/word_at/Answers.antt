@@ -7,7 +7,6 @@ use lib.ListN.{take, drop}
 use lib.Seq.{take-add, take-take}
 use Rattle.output.specs.Wrote.{le_bytes}
 use Rattle.output.proofs.Words.{le-above}
-use borrow.Author.Rules.{rules}
 use Rattle.output.proofs.word_at.Goals as goal
 
 pub returns : goal.returns

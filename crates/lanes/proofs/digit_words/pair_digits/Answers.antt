@@ -4,7 +4,6 @@ use Prim.Native.Nat.{ℕ, ◌+◌, ◌-◌, ◌*◌, ◌/◌, ◌%◌, ◌≤◌
 use native.Mathlib.Omega.{arith}
 use Rattle.lanes.specs.DigitLanes.{packed, digit_word}
 use Rattle.lanes.proofs.DigitArith.{tens_of, remainders, lanes_word, word_small}
-use borrow.Author.Rules.{rules}
 use Rattle.lanes.proofs.digit_words.pair_digits.Goals as goal
 
 abbrev tens : ℕ → ℕ

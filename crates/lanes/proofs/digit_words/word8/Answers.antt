@@ -4,8 +4,6 @@ use Prim.Native.Nat.{ℕ, ◌+◌, ◌*◌, ◌/◌, ◌%◌, ◌^◌, ◌≤◌
 use native.Mathlib.Omega.{arith}
 use Rattle.lanes.specs.DigitLanes.{packed}
 use Rattle.lanes.proofs.DigitArith.{tops_of, top-under, halves_packed}
-use borrow.Author.Rules.{rules}
-use Rattle.lanes.proofs.digit_words.pair_digits.Reads as pair-digits-reads
 use Rattle.lanes.proofs.digit_words.word8.Goals as goal
 
 abbrev m : ℕ → ℕ

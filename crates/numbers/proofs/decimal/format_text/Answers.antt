@@ -8,7 +8,6 @@ use mir.Val.{SFits}
 use Rattle.output.proofs.Laws.{wrote_then, wrote-bound}
 use Rattle.numbers.proofs.Signed.{below-zero, from_zero, read_back}
 use Rattle.numbers.proofs.DecimalLaws.{text_below, text_above}
-use borrow.Author.Rules.{rules}
 use Rattle.numbers.proofs.decimal.format_text.Goals as goal
 
 pub put_below-requires : goal.put_below-requires

@@ -4,7 +4,6 @@ use native.Mathlib.Omega.{arith}
 use lib.ListN.{length}
 use lib.Seq.{length-sets}
 use Rattle.numbers.proofs.Pointed.{under-16, point_long}
-use borrow.Author.Rules.{rules}
 use Rattle.numbers.proofs.decimal.pointed_long.Goals as goal
 
 pub eight_digits-requires : goal.eight_digits-requires

@@ -9,7 +9,6 @@ use Rattle.output.proofs.Laws.{wrote_then}
 use Rattle.text_rules.specs.Digits.{digits}
 use Rattle.numbers.proofs.Signed.{read_back}
 use Rattle.numbers.proofs.DecimalLaws.{form_long, form-point, form-above}
-use borrow.Author.Rules.{rules}
 use Rattle.numbers.proofs.decimal.put_above.Goals as goal
 
 pub returns-then-w-gt6 : goal.returns-then-w-gt6

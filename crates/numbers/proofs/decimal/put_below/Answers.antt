@@ -8,7 +8,6 @@ use mir.Val.{SFits}
 use Rattle.text_rules.specs.Digits.{digits}
 use Rattle.numbers.proofs.Signed.{read_back}
 use Rattle.numbers.proofs.DecimalLaws.{form-inside, form-zeros, form_small}
-use borrow.Author.Rules.{rules}
 use Rattle.numbers.proofs.decimal.put_below.Goals as goal
 
 pub returns-then-k-l : goal.returns-then-k-l

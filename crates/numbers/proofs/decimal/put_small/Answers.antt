@@ -1,7 +1,6 @@
 -- `numbers::decimal::put_small` meets its contract. Assumes nothing.
 use Rattle.output.proofs.Laws.{wrote_then}
 use Rattle.numbers.proofs.DecimalLaws.{small-start}
-use borrow.Author.Rules.{rules}
 use Rattle.numbers.proofs.decimal.put_small.Goals as goal
 
 pub returns : goal.returns

@@ -3,7 +3,6 @@ use mir.Syntax.{w64}
 use mir.ValLaws.{to_z-of_z}
 use Rattle.output.proofs.Laws.{wrote_then}
 use Rattle.numbers.specs.Decimal.{scientific}
-use borrow.Author.Rules.{rules}
 use Rattle.numbers.proofs.decimal.write_scientific.Goals as goal
 
 pub returns : goal.returns

@@ -6,7 +6,6 @@ use mir.Syntax.{w64}
 use Rattle.output.proofs.Laws.{wrote_then}
 use Rattle.numbers.specs.Decimal.{int_text}
 use Rattle.numbers.proofs.Signed.{below-zero, from_zero}
-use borrow.Author.Rules.{rules}
 use Rattle.numbers.proofs.int.format_integer.Goals as goal
 
 pub returns-then-n-lt0 : goal.returns-then-n-lt0

@@ -5,7 +5,6 @@ use native.Mathlib.Omega.{arith}
 use mir.Syntax.{w64}
 use mir.Val.{to_z}
 use mir.ValLaws.{to_z-neg}
-use borrow.Author.Rules.{rules}
 use Rattle.numbers.proofs.int.minus.Goals as goal
 
 pub returns : goal.returns

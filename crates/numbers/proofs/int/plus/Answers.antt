@@ -1,7 +1,6 @@
 -- `numbers::int::plus` meets its contract. Assumes nothing.
 use mir.Syntax.{w64}
 use mir.ValLaws.{to_z_pos}
-use borrow.Author.Rules.{rules}
 use Rattle.numbers.proofs.int.plus.Goals as goal
 
 pub returns : goal.returns

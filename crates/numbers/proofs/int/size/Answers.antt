@@ -3,7 +3,6 @@ use native.Mathlib.Omega.{arith}
 use native.Mathlib.Numerals.{add-one}
 use mir.Syntax.{w64}
 use Rattle.numbers.proofs.Signed.{below-zero, from_zero, inverted}
-use borrow.Author.Rules.{rules}
 use Rattle.numbers.proofs.int.size.Goals as goal
 
 pub overflow_cast-result : goal.overflow_cast-result

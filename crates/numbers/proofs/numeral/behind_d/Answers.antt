@@ -4,7 +4,6 @@ use mathlib.Core.Path.{sym, ◌∙◌}
 use Rattle.numbers.specs.Numeral.{behind_d}
 use Rattle.text_rules.proofs.ReadingLaws.{reads_from}
 use Rattle.text_rules.proofs.Places.{next}
-use borrow.Author.Rules.{rules}
 use Rattle.numbers.proofs.numeral.behind_d.Goals as goal
 
 pub power_at-requires : goal.power_at-requires

@@ -4,7 +4,6 @@ use mathlib.Core.Path.{sym, ◌∙◌}
 use Rattle.numbers.specs.Numeral.{behind_point}
 use Rattle.text_rules.proofs.ReadingLaws.{reads_from}
 use Rattle.text_rules.proofs.Places.{next}
-use borrow.Author.Rules.{rules}
 use Rattle.numbers.proofs.numeral.behind_point.Goals as goal
 
 pub behind_d-requires : goal.behind_d-requires

@@ -8,7 +8,6 @@ use Rattle.text_rules.specs.Digits.{run}
 use Rattle.numbers.proofs.NumeralLaws.{point_over}
 use Rattle.text_rules.proofs.ReadingLaws.{refused, reads_from}
 use Rattle.text_rules.proofs.Places.{next}
-use borrow.Author.Rules.{rules}
 use Rattle.numbers.proofs.numeral.behind_whole.Goals as goal
 
 pub digits_at-requires : goal.digits_at-requires

@@ -8,7 +8,6 @@ use Rattle.numbers.specs.Numeral.{shifted}
 use Rattle.numbers.proofs.Signed.{i32_some}
 use Rattle.numbers.proofs.NumeralLaws.{decimal_some, decimal_none}
 use Rattle.text_rules.proofs.ReadingLaws.{refused}
-use borrow.Author.Rules.{rules}
 use Rattle.numbers.proofs.numeral.decimal_of.Goals as goal
 
 pub returns-in-By : goal.returns-in-By

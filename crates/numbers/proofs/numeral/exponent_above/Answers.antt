@@ -6,7 +6,6 @@ use lib.IntN.{pos}
 use mir.Syntax.{w32, w64}
 use mir.Val.{SFits}
 use Rattle.numbers.proofs.Signed.{read_back, i32_fits, i32_none}
-use borrow.Author.Rules.{rules}
 use Rattle.numbers.proofs.numeral.exponent_above.Goals as goal
 
 pub narrow-requires : goal.narrow-requires

@@ -8,7 +8,6 @@ use lib.IntN.{pos, negsuc}
 use mir.Syntax.{w32, w64}
 use mir.Val.{SFits}
 use Rattle.numbers.proofs.Signed.{read_back, i32_fits, i32_none, neg_pos}
-use borrow.Author.Rules.{rules}
 use Rattle.numbers.proofs.numeral.exponent_below.Goals as goal
 
 pub returns-then-k-eq0 : goal.returns-then-k-eq0

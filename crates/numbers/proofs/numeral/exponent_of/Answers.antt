@@ -5,7 +5,6 @@ use native.Mathlib.Omega.{arith}
 use lib.IntN.{pos, neg_ℤ}
 use Rattle.numbers.specs.Numeral.{in_i32, shifted}
 use Rattle.numbers.proofs.Signed.{minus_minus, plus-minus, plus_less}
-use borrow.Author.Rules.{rules}
 use Rattle.numbers.proofs.numeral.exponent_of.Goals as goal
 
 pub returns-then-minus : goal.returns-then-minus

@@ -12,7 +12,6 @@ use Rattle.numbers.specs.Numeral.{Numeral, ranged_int}
 use Rattle.numbers.proofs.Signed.{read_back}
 use Rattle.numbers.proofs.NumeralLaws.{int_some, int_some-below, int_none, int_none-below}
 use Rattle.text_rules.proofs.ReadingLaws.{refused}
-use borrow.Author.Rules.{rules}
 use Rattle.numbers.proofs.numeral.int_of.Goals as goal
 
 pub returns-then-m-eq0 : goal.returns-then-m-eq0

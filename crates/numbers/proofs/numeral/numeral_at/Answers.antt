@@ -4,7 +4,6 @@ use mathlib.Core.Path.{sym, ◌∙◌}
 use Rattle.numbers.specs.Numeral.{numeral}
 use Rattle.text_rules.proofs.ReadingLaws.{reads_from}
 use Rattle.text_rules.proofs.Places.{next}
-use borrow.Author.Rules.{rules}
 use Rattle.numbers.proofs.numeral.numeral_at.Goals as goal
 use Rattle.numbers.proofs.numeral.numeral_at.Goals.{then-neg, else-neg}
 
@@ -20,6 +19,6 @@ returns c =
     let t = x.text.now in
     let s = c.stands-neg.ensures.is in
     elim c.if-neg.branch [
-      then-neg w ↦ (let g = rw (w.if-neg.true, w.from-is) at c.unsigned_at.ensures in rw (sym s ∙ w.if-neg.true, next t x.at) (reads_from g (omega arith)))
-    | else-neg w ↦ (let g = rw (w.if-neg.false, w.from-is) at c.unsigned_at.ensures in rw (sym s ∙ w.if-neg.false) g)
+      | then-neg w ↦ (let g = rw (w.if-neg.true, w.from-is) at c.unsigned_at.ensures in rw (sym s ∙ w.if-neg.true, next t x.at) (reads_from g (omega arith)))
+      | else-neg w ↦ (let g = rw (w.if-neg.false, w.from-is) at c.unsigned_at.ensures in rw (sym s ∙ w.if-neg.false) g)
     ]

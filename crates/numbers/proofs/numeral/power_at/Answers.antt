@@ -8,7 +8,6 @@ use Rattle.numbers.specs.Numeral.{power_of}
 use Rattle.text_rules.proofs.DigitLaws.{number_small}
 use Rattle.numbers.proofs.NumeralLaws.{power_long}
 use Rattle.text_rules.proofs.ReadingLaws.{refused, reads_from}
-use borrow.Author.Rules.{rules}
 use Rattle.numbers.proofs.numeral.power_at.Goals as goal
 
 pub overflow_sub-k : goal.overflow_sub-k

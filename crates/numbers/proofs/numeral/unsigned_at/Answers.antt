@@ -8,7 +8,6 @@ use Rattle.text_rules.specs.Digits.{run}
 use Rattle.text_rules.proofs.DigitLaws.{whole-none, whole_one}
 use Rattle.numbers.proofs.NumeralLaws.{whole-at, unsigned_over}
 use Rattle.text_rules.proofs.ReadingLaws.{refused, reads_from}
-use borrow.Author.Rules.{rules}
 use Rattle.numbers.proofs.numeral.unsigned_at.Goals as goal
 use Rattle.numbers.proofs.numeral.unsigned_at.Goals.{then-k-gt1+else-text-at-eq48, else-k-gt1}
 
@@ -57,13 +56,13 @@ returns-after-k-gt1 c =
     let v = rw c.in-Digits.is at c.digits_at.ensures in
     let es = run (drop x.at t) in
     elim c.if-k-gt1.branch [
-      then-k-gt1+else-text-at-eq48 w ↦ (
-        let two : 2 ≤ length es = omega (arith, v.2, w.if-k-gt1.true) in
-        let lt : x.at < length t = omega (arith, v.2, v.3) in
-        rw (whole-at t x.at lt two, ne_eqb _ _ w.if-text-at-eq48.false, v.0, v.1) (reads_from c.behind_whole.ensures (omega (arith, v.2))))
-    | else-k-gt1 w ↦ (
-        let one = whole_one es (omega (arith, v.2, c.if-k-eq0.false, w.if-k-gt1.false)) in
-        rw (one, v.0, v.1) (reads_from c.behind_whole.ensures (omega (arith, v.2, c.if-k-eq0.false))))
+      | then-k-gt1+else-text-at-eq48 w ↦ (
+          let two : 2 ≤ length es = omega (arith, v.2, w.if-k-gt1.true) in
+          let lt : x.at < length t = omega (arith, v.2, v.3) in
+          rw (whole-at t x.at lt two, ne_eqb _ _ w.if-text-at-eq48.false, v.0, v.1) (reads_from c.behind_whole.ensures (omega (arith, v.2))))
+      | else-k-gt1 w ↦ (
+          let one = whole_one es (omega (arith, v.2, c.if-k-eq0.false, w.if-k-gt1.false)) in
+          rw (one, v.0, v.1) (reads_from c.behind_whole.ensures (omega (arith, v.2, c.if-k-eq0.false))))
     ]
 
 pub returns-in-Over : goal.returns-in-Over

@@ -3,7 +3,6 @@ use Prim.Native.Nat.{◌+◌, ◌≤◌}
 use native.Mathlib.Omega.{arith}
 use lib.ListN.{length}
 use Rattle.numbers.proofs.TimestampUsual.{usual_read}
-use borrow.Author.Rules.{rules}
 use Rattle.numbers.proofs.timestamp.behind_year.Goals as goal
 
 pub returns-then-is_usual : goal.returns-then-is_usual

@@ -3,7 +3,6 @@ use mathlib.Core.Path.{sym, ◌∙◌}
 use native.Mathlib.Omega.{arith}
 use Rattle.numbers.specs.TimestampRead.{checked}
 use Rattle.text_rules.proofs.ReadingLaws.{refused}
-use borrow.Author.Rules.{rules}
 use Rattle.numbers.proofs.timestamp.checked_at.Goals as goal
 
 pub returns-then-is_well_formed : goal.returns-then-is_well_formed

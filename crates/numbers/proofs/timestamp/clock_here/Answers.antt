@@ -4,7 +4,6 @@ use native.Mathlib.Omega.{arith}
 use lib.ListN.{length, length-set}
 use lib.Seq.{length-sets}
 use Rattle.numbers.proofs.TimestampStores.{clock_stores}
-use borrow.Author.Rules.{rules}
 use Rattle.numbers.proofs.timestamp.clock_here.Goals as goal
 
 pub store_2-requires-2 : goal.store_2-requires-2

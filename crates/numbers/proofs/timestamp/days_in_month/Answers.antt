@@ -2,7 +2,6 @@
 use mathlib.Core.Path.{sym, ◌∙◌}
 use borrow.Author.Tests.{eq-eqb, ne_eqb}
 use Rattle.numbers.specs.Timestamp.{days_in}
-use borrow.Author.Rules.{rules}
 use Rattle.numbers.proofs.timestamp.days_in_month.Goals as goal
 
 pub returns-then-is_leap_year : goal.returns-then-is_leap_year

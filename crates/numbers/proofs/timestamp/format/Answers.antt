@@ -4,7 +4,6 @@ use mir.ValLaws.{to_z-of_z}
 use borrow.Author.Tests.{eq-eqb, ne_eqb}
 use Rattle.output.proofs.Laws.{wrote_then}
 use Rattle.numbers.specs.Timestamp.{timestamp_text}
-use borrow.Author.Rules.{rules}
 use Rattle.numbers.proofs.timestamp.format.Goals as goal
 
 pub returns-then-t-eq0 : goal.returns-then-t-eq0

@@ -1,7 +1,6 @@
 -- `timestamp::format_date_hour_and_minute` meets its contract. Assumes nothing.
 use Rattle.output.proofs.Laws.{wrote_then}
 use Rattle.numbers.specs.Timestamp.{date_hour_and_minute}
-use borrow.Author.Rules.{rules}
 use Rattle.numbers.proofs.timestamp.format_date_hour_and_minute.Goals as goal
 
 pub returns : goal.returns

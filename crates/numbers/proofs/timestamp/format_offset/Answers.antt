@@ -7,7 +7,6 @@ use Rattle.output.proofs.Laws.{wrote_then}
 use Rattle.text_rules.specs.Digits.{pad}
 use Rattle.numbers.specs.Timestamp.{hour_and_minute}
 use Rattle.numbers.proofs.TimestampSigned.{text_west, text_east}
-use borrow.Author.Rules.{rules}
 use Rattle.numbers.proofs.timestamp.format_offset.Goals as goal
 
 pub returns-then-is_negative : goal.returns-then-is_negative

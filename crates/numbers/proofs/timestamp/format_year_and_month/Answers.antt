@@ -1,7 +1,6 @@
 -- `timestamp::format_year_and_month` meets its contract. Assumes nothing.
 use Rattle.output.proofs.Laws.{wrote_then}
 use Rattle.numbers.specs.Timestamp.{year_and_month}
-use borrow.Author.Rules.{rules}
 use Rattle.numbers.proofs.timestamp.format_year_and_month.Goals as goal
 
 pub returns : goal.returns

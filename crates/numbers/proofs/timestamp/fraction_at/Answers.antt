@@ -7,7 +7,6 @@ use Rattle.text_rules.specs.Digits.{run}
 use Rattle.numbers.specs.TimestampRead.{fraction_of}
 use Rattle.numbers.proofs.TimestampPlaces.{run_nine, run_long, taken_off}
 use Rattle.text_rules.proofs.ReadingLaws.{reads_from, refused}
-use borrow.Author.Rules.{rules}
 use Rattle.numbers.proofs.timestamp.fraction_at.Goals as goal
 
 pub returns-in_default : goal.returns-in_default

@@ -2,7 +2,6 @@
 use mathlib.Core.Path.{sym, ◌∙◌}
 use borrow.Author.Tests.{le-leb, lt-leb}
 use Rattle.numbers.specs.Timestamp.{date_well}
-use borrow.Author.Rules.{rules}
 use Rattle.numbers.proofs.timestamp.is_date.Goals as goal
 
 pub returns-then-precision-gt4 : goal.returns-then-precision-gt4

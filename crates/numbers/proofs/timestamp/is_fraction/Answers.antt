@@ -2,7 +2,6 @@
 use mathlib.Core.Path.{sym, ◌∙◌}
 use Rattle.numbers.specs.Timestamp.{fraction_well}
 use Rattle.numbers.proofs.Calendar.{no_field}
-use borrow.Author.Rules.{rules}
 use Rattle.numbers.proofs.timestamp.is_fraction.Goals as goal
 
 pub returns-then-digits-gt9 : goal.returns-then-digits-gt9

@@ -2,7 +2,6 @@
 use mathlib.Core.Path.{sym}
 use borrow.Author.Tests.{eqb-true}
 use Rattle.text_rules.proofs.DigitLaws.{never}
-use borrow.Author.Rules.{rules}
 use Rattle.numbers.proofs.timestamp.is_marked.Goals as goal
 
 pub returns-then-text-at-ne90 : goal.returns-then-text-at-ne90

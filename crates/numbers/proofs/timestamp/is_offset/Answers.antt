@@ -4,7 +4,6 @@ use mir.ValLaws.{to_z-of_z}
 use mathlib.Core.Path.{sym, ◌∙◌}
 use borrow.Author.Tests.{le-leb, lt-leb, eq-eqb, ne_eqb}
 use Rattle.numbers.proofs.TimestampSigned.{well_west, well_east}
-use borrow.Author.Rules.{rules}
 use Rattle.numbers.proofs.timestamp.is_offset.Goals as goal
 
 pub returns-then-precision-ge3 : goal.returns-then-precision-ge3

@@ -1,7 +1,6 @@
 -- `timestamp::is_time` meets its contract. Assumes nothing.
 use mathlib.Core.Path.{sym, ◌∙◌}
 use Rattle.numbers.specs.Timestamp.{time_well}
-use borrow.Author.Rules.{rules}
 use Rattle.numbers.proofs.timestamp.is_time.Goals as goal
 
 pub returns-then-is_field-2 : goal.returns-then-is_field-2

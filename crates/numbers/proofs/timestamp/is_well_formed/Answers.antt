@@ -3,7 +3,6 @@ use mir.Syntax.{w16}
 use mir.ValLaws.{to_z-of_z}
 use mathlib.Core.Path.{sym, ◌∙◌}
 use Rattle.numbers.specs.Timestamp.{well_formed}
-use borrow.Author.Rules.{rules}
 use Rattle.numbers.proofs.timestamp.is_well_formed.Goals as goal
 
 pub returns-then-is_offset : goal.returns-then-is_offset

@@ -2,7 +2,6 @@
 use borrow.Author.Tests.{le-leb, lt-leb}
 use Rattle.numbers.specs.TimestampRead.{minutes}
 use Rattle.text_rules.proofs.ReadingLaws.{refused}
-use borrow.Author.Rules.{rules}
 use Rattle.numbers.proofs.timestamp.minutes_at.Goals as goal
 
 pub returns-in_default : goal.returns-in_default

@@ -7,7 +7,6 @@ use Rattle.text_rules.proofs.Places.{next}
 use Rattle.numbers.specs.TimestampRead.{offset_of}
 use Rattle.numbers.proofs.TimestampPlaces.{minutes_bound}
 use Rattle.text_rules.proofs.ReadingLaws.{reads_from, refused}
-use borrow.Author.Rules.{rules}
 use Rattle.numbers.proofs.timestamp.offset_at.Goals as goal
 
 pub returns-then-stands : goal.returns-then-stands

@@ -7,7 +7,6 @@ use lib.ListN.{get_or}
 use borrow.Author.Tests.{le-leb}
 use Rattle.text_rules.specs.Digits.{is_digit}
 use Rattle.numbers.proofs.TimestampUsual.{pair_read}
-use borrow.Author.Rules.{rules}
 use Rattle.numbers.proofs.timestamp.pair_at.Goals as goal
 
 pub returns-then-a-lt48 : goal.returns-then-a-lt48

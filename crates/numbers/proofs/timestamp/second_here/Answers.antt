@@ -4,7 +4,6 @@ use native.Mathlib.Omega.{arith}
 use lib.ListN.{length, length-set}
 use lib.Seq.{length-sets}
 use Rattle.numbers.proofs.TimestampStores.{second_stores}
-use borrow.Author.Rules.{rules}
 use Rattle.numbers.proofs.timestamp.second_here.Goals as goal
 
 pub overflow_add-buf : goal.overflow_add-buf

@@ -6,7 +6,6 @@ use lib.ListN.{length, length-set}
 use lib.Seq.{length-sets}
 use Rattle.output.specs.Wrote.{le_bytes}
 use Rattle.numbers.proofs.Stores.{length_mark, two_marks}
-use borrow.Author.Rules.{rules}
 use Rattle.numbers.proofs.timestamp.time_here.Goals as goal
 
 pub store_2-requires-2 : goal.store_2-requires-2

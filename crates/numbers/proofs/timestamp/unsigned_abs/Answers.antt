@@ -3,7 +3,6 @@ use mathlib.Core.Path.{◌∙◌}
 use native.Mathlib.Numerals.{add-one}
 use native.Mathlib.Omega.{arith}
 use Rattle.numbers.proofs.TimestampSigned.{below, above}
-use borrow.Author.Rules.{rules}
 use Rattle.numbers.proofs.timestamp.unsigned_abs.Goals as goal
 
 pub overflow_cast-result : goal.overflow_cast-result

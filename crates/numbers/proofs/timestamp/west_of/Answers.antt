@@ -6,7 +6,6 @@ use mir.Syntax.{w16}
 use mir.Val.{to_z}
 use mir.ValLaws.{to_z-neg}
 use Rattle.numbers.specs.TimestampRead.{west}
-use borrow.Author.Rules.{rules}
 use Rattle.numbers.proofs.timestamp.west_of.Goals as goal
 
 pub returns-then-m-eq0 : goal.returns-then-m-eq0

@@ -1,7 +1,6 @@
 -- `blobs::character` meets its contract. Assumes nothing.
 use native.Mathlib.Omega.{arith}
 use Rattle.text_rules.proofs.Base64Laws.{at_least_is, character-fits, character-is}
-use borrow.Author.Rules.{rules}
 use Rattle.text_rules.proofs.blobs.character.Goals as goal
 
 pub overflow_add-result-2 : goal.overflow_add-result-2

@@ -1,13 +1,8 @@
 -- `blobs::format_base64` meets its contract. Assumes nothing.
 use Prim.Native.Nat.{◌+◌, ◌-◌, ◌≤◌}
-use mathlib.Core.Path.{◌≡◌, refl, sym, ◌∙◌}
-use mathlib.Core.List.{append-nil}
-use native.Mathlib.Omega.{arith}
 use lib.ListN.{take, drop}
-use Rattle.output.proofs.Laws.{Progress, start, more, finish, wrote-length, wrote-bound}
+use Rattle.output.proofs.Laws.{Progress}
 use Rattle.text_rules.specs.Base64.{base64}
-use Rattle.text_rules.proofs.Base64Laws.{base64-next}
-use borrow.Author.Rules.{rules}
 use Rattle.text_rules.proofs.blobs.format_base64.Given as goal
 
 abbrev pub invariant-loop-i : goal.invariant-loop-i

@@ -1,7 +1,6 @@
 -- `blobs::format_blob_at` meets its contract. Assumes nothing.
 use Rattle.output.proofs.Laws.{wrote_then}
 use Rattle.text_rules.specs.Text.{blob_text}
-use borrow.Author.Rules.{rules}
 use Rattle.text_rules.proofs.blobs.format_blob_at.Goals as goal
 
 pub returns : goal.returns

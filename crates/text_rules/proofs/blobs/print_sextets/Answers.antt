@@ -1,12 +1,10 @@
 -- `blobs::print_sextets` meets its contract. The invariant: what is left to print decides the whole. Assumes nothing.
 use mathlib.Core.Path.{◌≡◌, refl, sym, ◌∙◌}
-use Prim.Native.Nat.{◌-◌, ◌≤◌}
+use Prim.Native.Nat.{◌-◌}
 use native.Mathlib.Omega.{arith}
-use lib.ListN.{length, take, drop, length-set}
-use lib.Seq.{sets}
+use lib.ListN.{length-set}
 use Rattle.text_rules.specs.BlobSteps.{printed}
 use Rattle.text_rules.proofs.Base64Laws.{printed-turn}
-use borrow.Author.Rules.{rules}
 use Rattle.text_rules.proofs.blobs.print_sextets.Goals as goal
 
 pub loop-i-init : goal.loop-i-init

@@ -1,12 +1,9 @@
 -- `blobs::print_sextets` meets its contract. The invariant: what is left to print decides the whole. Assumes nothing.
-use mathlib.Core.Path.{◌≡◌, refl, sym, ◌∙◌}
+use mathlib.Core.Path.{◌≡◌}
 use Prim.Native.Nat.{◌-◌, ◌≤◌}
-use native.Mathlib.Omega.{arith}
-use lib.ListN.{length, take, drop, length-set}
+use lib.ListN.{length, take, drop}
 use lib.Seq.{sets}
 use Rattle.text_rules.specs.BlobSteps.{printed}
-use Rattle.text_rules.proofs.Base64Laws.{printed-turn}
-use borrow.Author.Rules.{rules}
 use Rattle.text_rules.proofs.blobs.print_sextets.Given as goal
 
 abbrev pub invariant-loop-i : goal.invariant-loop-i

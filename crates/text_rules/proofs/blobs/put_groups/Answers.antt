@@ -1,9 +1,8 @@
 -- `blobs::put_groups` meets its contract. Assumes nothing.
-use Prim.Native.Nat.{◌+◌, ◌-◌, ◌%◌, ◌≤◌}
+use Prim.Native.Nat.{◌+◌, ◌-◌, ◌≤◌}
 use mathlib.Core.Path.{◌≡◌}
 use native.Mathlib.Omega.{arith}
-use lib.ListN.{take, drop}
-use Rattle.output.proofs.Laws.{Progress, start, more, finish, wrote_then, wrote-length, wrote-bound}
+use Rattle.output.proofs.Laws.{start, more, finish, wrote_then, wrote-length, wrote-bound}
 use Rattle.text_rules.specs.Base64.{base64}
 use Rattle.text_rules.proofs.Base64Laws.{base64-turn}
 use borrow.Author.Rules.{rules}

@@ -1,9 +1,8 @@
 -- `blobs::put_sextets` meets its contract. The invariant of both loops: what is left to store decides the whole. Assumes nothing.
 use mathlib.Core.Path.{◌≡◌, refl, sym, ap, ◌∙◌}
-use Prim.Native.Nat.{◌+◌, ◌-◌, ◌*◌, ◌/◌, ◌%◌, ◌≤◌}
+use Prim.Native.Nat.{◌+◌, ◌-◌, ◌≤◌}
 use native.Mathlib.Omega.{arith}
 use lib.ListN.{length, take, drop}
-use lib.Seq.{sets}
 use Rattle.output.specs.Wrote.{le_bytes}
 use Rattle.lanes.specs.Sextets.{sextets}
 use Rattle.text_rules.proofs.Base64Laws.{sextets-turn, spread-8, spread-4, part-3}

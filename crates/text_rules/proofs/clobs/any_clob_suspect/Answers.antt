@@ -1,14 +1,12 @@
 -- `clobs::any_clob_suspect` meets its contract. The invariant: where no flag is set yet, the whole needs no escape if what is left needs none.
 -- Assumes nothing.
-use Prim.Native.Nat.{◌-◌, ◌≤◌}
 use mathlib.Core.Path.{◌≡◌}
 use mathlib.Core.List.{[]}
 use native.Mathlib.Omega.{arith}
-use lib.ListN.{length, drop, drop_of_length-le}
+use lib.ListN.{drop, drop_of_length-le}
 use Rattle.text_rules.specs.Escapes.{clob_body}
 use Rattle.lanes.proofs.LaneLaws.{or_left, or_right}
 use Rattle.text_rules.proofs.ClobLaws.{clob-raw}
-use borrow.Author.Rules.{rules}
 use Rattle.text_rules.proofs.clobs.any_clob_suspect.Goals as goal
 
 pub loop-i-init : goal.loop-i-init

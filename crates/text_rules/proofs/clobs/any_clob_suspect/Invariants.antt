@@ -2,13 +2,8 @@
 -- Assumes nothing.
 use Prim.Native.Nat.{◌-◌, ◌≤◌}
 use mathlib.Core.Path.{◌≡◌}
-use mathlib.Core.List.{[]}
-use native.Mathlib.Omega.{arith}
-use lib.ListN.{length, drop, drop_of_length-le}
+use lib.ListN.{length, drop}
 use Rattle.text_rules.specs.Escapes.{clob_body}
-use Rattle.lanes.proofs.LaneLaws.{or_left, or_right}
-use Rattle.text_rules.proofs.ClobLaws.{clob-raw}
-use borrow.Author.Rules.{rules}
 use Rattle.text_rules.proofs.clobs.any_clob_suspect.Given as goal
 
 abbrev pub invariant-loop-i : goal.invariant-loop-i

@@ -2,7 +2,6 @@
 use Rattle.output.specs.Wrote.{le_bytes}
 use Rattle.output.proofs.Laws.{wrote_then}
 use Rattle.text_rules.specs.Text.{clob_text}
-use borrow.Author.Rules.{rules}
 use Rattle.text_rules.proofs.clobs.format_clob.Goals as goal
 
 pub returns : goal.returns

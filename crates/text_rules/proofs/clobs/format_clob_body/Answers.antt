@@ -1,5 +1,4 @@
 -- `clobs::format_clob_body` meets its contract. Assumes nothing.
-use borrow.Author.Rules.{rules}
 use Rattle.text_rules.proofs.clobs.format_clob_body.Goals as goal
 
 pub returns-then-any_clob_suspect-eq0 : goal.returns-then-any_clob_suspect-eq0

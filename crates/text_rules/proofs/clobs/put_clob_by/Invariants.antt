@@ -1,13 +1,8 @@
 -- `clobs::put_clob_by` meets its contract. Assumes nothing.
 use Prim.Native.Nat.{◌-◌, ◌≤◌}
-use mathlib.Core.Path.{◌≡◌}
-use mathlib.Core.List.{[]}
-use native.Mathlib.Omega.{arith}
-use lib.ListN.{length, drop, drop_of_length-le}
-use Rattle.output.proofs.Laws.{Progress, start, more, finish, wrote-length, wrote-bound}
+use lib.ListN.{length, drop}
+use Rattle.output.proofs.Laws.{Progress}
 use Rattle.text_rules.specs.Escapes.{clob_body}
-use Rattle.text_rules.proofs.ClobLaws.{clob-step}
-use borrow.Author.Rules.{rules}
 use Rattle.text_rules.proofs.clobs.put_clob_by.Given as goal
 
 abbrev pub invariant-loop-i : goal.invariant-loop-i

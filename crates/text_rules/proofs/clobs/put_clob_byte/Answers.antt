@@ -2,7 +2,6 @@
 use mathlib.Core.Path.{sym}
 use borrow.Author.Tests.{eq-eqb, ne_eqb}
 use Rattle.text_rules.proofs.ClobLaws.{clob-by}
-use borrow.Author.Rules.{rules}
 use Rattle.text_rules.proofs.clobs.put_clob_byte.Goals as goal
 
 pub returns-then-kind-eq1 : goal.returns-then-kind-eq1

@@ -5,7 +5,6 @@ use native.Mathlib.Nat.{pow-le-pow_right, div-eq_of_lt}
 use native.Mathlib.Omega.{arith}
 use lib.Dec.{lit<}
 use Rattle.text_rules.specs.Digits.{digit}
-use borrow.Author.Rules.{rules}
 use Rattle.text_rules.proofs.digits.digit_before.Goals as goal
 
 pub returns-then-k-ge20 : goal.returns-then-k-ge20

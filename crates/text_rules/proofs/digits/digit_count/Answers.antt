@@ -6,8 +6,6 @@ use lib.Bits.{bit_or}
 use lib.Count.{count_leading_zeros, leading_le}
 use Rattle.text_rules.proofs.DigitLaws.{last_one}
 use Rattle.text_rules.proofs.DigitWords.{Bits, bits_of, bits-under, bits_over}
-use borrow.Author.Rules.{rules}
-use Rattle.text_rules.proofs.digits.pow10.Reads as pow10-reads
 use Rattle.text_rules.proofs.digits.digit_count.Goals as goal
 
 abbrev zeros : ℕ → ℕ

@@ -6,11 +6,8 @@ use mathlib.Core.Bool.{true}
 use borrow.Author.Tests.{le-leb, lt-leb}
 use lib.ListN.{length, get_or}
 use Rattle.text_rules.specs.Digits.{is_digit}
-use Rattle.text_rules.specs.DigitSteps.{RunJoined}
-use Rattle.text_rules.specs.declared.digits.Joined.{Joined}
 use Rattle.text_rules.specs.declared.digits.Joined.TheVariants.{Digits as DigitsV, Over}
 use Rattle.text_rules.proofs.DigitReading.{ran_stop, ran_more, ran_over, no_digit_lem, no_byte}
-use borrow.Author.Rules.{rules}
 use Rattle.text_rules.proofs.digits.digits_at.Goals as goal
 
 pub loop-i-init : goal.loop-i-init

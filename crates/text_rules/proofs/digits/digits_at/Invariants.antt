@@ -1,16 +1,8 @@
 -- `digits::digits_at` meets its contract. The loop's invariant: what the digits from the present place give is what those from the first give. Assumes nothing.
-use native.Mathlib.Omega.{arith}
-use Prim.Native.Nat.{◌+◌, ◌-◌, ◌*◌, ◌^◌, ◌≤◌, ◌<◌}
-use mathlib.Core.Path.{◌≡◌}
-use mathlib.Core.Bool.{true}
-use borrow.Author.Tests.{le-leb, lt-leb}
-use lib.ListN.{length, get_or}
-use Rattle.text_rules.specs.Digits.{is_digit}
+use Prim.Native.Nat.{◌-◌, ◌^◌, ◌≤◌, ◌<◌}
+use lib.ListN.{length}
 use Rattle.text_rules.specs.DigitSteps.{RunJoined}
 use Rattle.text_rules.specs.declared.digits.Joined.{Joined}
-use Rattle.text_rules.specs.declared.digits.Joined.TheVariants.{Digits as DigitsV, Over}
-use Rattle.text_rules.proofs.DigitReading.{ran_stop, ran_more, ran_over, no_digit_lem, no_byte}
-use borrow.Author.Rules.{rules}
 use Rattle.text_rules.proofs.digits.digits_at.Given as goal
 
 abbrev pub invariant-loop-i : goal.invariant-loop-i

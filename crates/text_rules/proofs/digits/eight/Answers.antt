@@ -1,9 +1,6 @@
 -- `digits::eight` meets its contract. Assumes nothing.
 use mathlib.Core.Path.{◌∙◌, ap}
 use lib.Seq.{sets}
-use borrow.Author.Rules.{rules}
-use Rattle.output.proofs.store_8.Reads as store-8-reads
-use Rattle.text_rules.proofs.digits.eight_digits.Reads as eight-digits-reads
 use Rattle.text_rules.proofs.digits.eight.Goals as goal
 
 pub returns : goal.returns

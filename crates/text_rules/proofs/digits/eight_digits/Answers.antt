@@ -3,8 +3,6 @@ use mathlib.Core.Path.{◌∙◌, ap}
 use Prim.Native.Nat.{ℕ, ◌+◌}
 use Rattle.output.specs.Wrote.{le_bytes}
 use Rattle.text_rules.proofs.DigitWords.{zeros, word_of_lem}
-use borrow.Author.Rules.{rules}
-use Rattle.lanes.proofs.digit_words.word8.Reads as word8-reads
 use Rattle.text_rules.proofs.digits.eight_digits.Goals as goal
 
 pub returns : goal.returns

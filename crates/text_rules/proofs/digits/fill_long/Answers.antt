@@ -1,13 +1,11 @@
 -- `digits::fill_long` meets its contract. The invariant: the digits that are left decide the whole. Assumes nothing.
 use mathlib.Core.Path.{◌≡◌, refl, sym, ap, ◌∙◌}
 use mathlib.Core.List.{List, [], ◌∷◌}
-use Prim.Native.Nat.{ℕ, suc, ◌+◌, ◌-◌, ◌/◌, ◌%◌, ◌≤◌}
+use Prim.Native.Nat.{ℕ, suc, ◌+◌, ◌-◌, ◌/◌, ◌%◌}
 use native.Mathlib.Omega.{arith}
-use lib.ListN.{length}
 use lib.Seq.{sets}
 use Rattle.text_rules.specs.Digits.{digit, pad}
 use Rattle.text_rules.proofs.DigitCode.{fill_two}
-use borrow.Author.Rules.{rules}
 use Rattle.text_rules.proofs.digits.fill_long.Goals as goal
 
 pub loop-k-init : goal.loop-k-init

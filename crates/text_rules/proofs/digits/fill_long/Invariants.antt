@@ -1,13 +1,9 @@
 -- `digits::fill_long` meets its contract. The invariant: the digits that are left decide the whole. Assumes nothing.
-use mathlib.Core.Path.{◌≡◌, refl, sym, ap, ◌∙◌}
-use mathlib.Core.List.{List, [], ◌∷◌}
-use Prim.Native.Nat.{ℕ, suc, ◌+◌, ◌-◌, ◌/◌, ◌%◌, ◌≤◌}
-use native.Mathlib.Omega.{arith}
+use mathlib.Core.Path.{◌≡◌}
+use Prim.Native.Nat.{◌≤◌}
 use lib.ListN.{length}
 use lib.Seq.{sets}
-use Rattle.text_rules.specs.Digits.{digit, pad}
-use Rattle.text_rules.proofs.DigitCode.{fill_two}
-use borrow.Author.Rules.{rules}
+use Rattle.text_rules.specs.Digits.{pad}
 use Rattle.text_rules.proofs.digits.fill_long.Given as goal
 
 abbrev pub invariant-loop-k : goal.invariant-loop-k

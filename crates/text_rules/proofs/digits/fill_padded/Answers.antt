@@ -6,10 +6,6 @@ use native.Mathlib.Omega.{arith}
 use lib.Seq.{sets}
 use Rattle.text_rules.specs.Digits.{pad}
 use Rattle.text_rules.proofs.DigitCode.{sets-blocks}
-use borrow.Author.Rules.{rules}
-use Rattle.text_rules.proofs.digits.eight.Reads as eight-reads
-use Rattle.text_rules.proofs.digits.fill_long.Reads as fill-long-reads
-use Rattle.text_rules.proofs.digits.fill_short.Reads as fill-short-reads
 use Rattle.text_rules.proofs.digits.fill_padded.Goals as goal
 
 pub returns-then-w-le16 : goal.returns-then-w-le16

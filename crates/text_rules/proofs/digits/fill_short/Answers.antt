@@ -4,9 +4,6 @@ use native.Mathlib.Omega.{arith}
 use lib.Seq.{sets}
 use Rattle.text_rules.proofs.DigitCode.{pad_mod}
 use Rattle.text_rules.proofs.DigitWords.{last_digits}
-use borrow.Author.Rules.{rules}
-use Rattle.text_rules.proofs.digits.eight_digits.Reads as eight-digits-reads
-use Rattle.output.proofs.store_last.Reads as store-last-reads
 use Rattle.text_rules.proofs.digits.fill_short.Goals as goal
 
 pub returns : goal.returns

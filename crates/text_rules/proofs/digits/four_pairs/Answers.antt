@@ -4,8 +4,6 @@ use Prim.Native.Nat.{ℕ, ◌+◌}
 use native.Mathlib.Omega.{arith}
 use Rattle.output.specs.Wrote.{le_bytes}
 use Rattle.text_rules.proofs.DigitWords.{zeros, pairs_word}
-use borrow.Author.Rules.{rules}
-use Rattle.lanes.proofs.digit_words.pair_digits.Reads as pair-digits-reads
 use Rattle.text_rules.proofs.digits.four_pairs.Goals as goal
 
 pub pair_digits-requires : goal.pair_digits-requires

@@ -6,10 +6,6 @@ use lib.Seq.{sets}
 use Rattle.output.specs.Wrote.{le_bytes}
 use Rattle.text_rules.proofs.DigitCode.{led_short}
 use Rattle.text_rules.proofs.DigitWords.{zeros, word_of_lem, last_digits}
-use borrow.Author.Rules.{rules}
-use Rattle.output.proofs.store_last.Reads as store-last-reads
-use Rattle.lanes.proofs.digit_words.word8.Reads as word8-reads
-use Rattle.text_rules.proofs.digits.zeros8.Reads as zeros8-reads
 use Rattle.text_rules.proofs.digits.lead_exact.Goals as goal
 
 pub overflow_sub-c : goal.overflow_sub-c

@@ -5,10 +5,6 @@ use native.Mathlib.Omega.{arith}
 use Rattle.output.specs.Wrote.{le_bytes}
 use Rattle.text_rules.proofs.DigitLaws.{count-some}
 use Rattle.text_rules.proofs.DigitWords.{zeros, word_of_lem, ahead_of}
-use borrow.Author.Rules.{rules}
-use Rattle.output.proofs.store_8.Reads as store-8-reads
-use Rattle.lanes.proofs.digit_words.word8.Reads as word8-reads
-use Rattle.text_rules.proofs.digits.zeros8.Reads as zeros8-reads
 use Rattle.text_rules.proofs.digits.lead_store.Goals as goal
 
 pub overflow_mul-k : goal.overflow_mul-k

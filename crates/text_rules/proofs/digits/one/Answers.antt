@@ -3,7 +3,6 @@ use mathlib.Core.Path.{◌≡◌}
 use Prim.Native.Nat.{◌%◌}
 use native.Mathlib.Omega.{arith}
 use Rattle.text_rules.specs.Digits.{digit, pad}
-use borrow.Author.Rules.{rules}
 use Rattle.text_rules.proofs.digits.one.Goals as goal
 
 pub returns : goal.returns

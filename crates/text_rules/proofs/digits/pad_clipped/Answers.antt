@@ -3,7 +3,7 @@ use mathlib.Core.Path.{◌≡◌, sym, ap, ◌∙◌}
 use mathlib.Core.List.{◌∷◌}
 use Prim.Native.Nat.{ℕ, suc, ◌-◌}
 use native.Mathlib.Omega.{arith}
-use Rattle.output.proofs.Laws.{Progress, start, more, finish, wrote-past, wrote-length}
+use Rattle.output.proofs.Laws.{start, more, finish, wrote-past, wrote-length}
 use Rattle.text_rules.specs.Digits.{pad}
 use Rattle.text_rules.proofs.DigitLaws.{length-pad, pad-first}
 use borrow.Author.Rules.{rules}

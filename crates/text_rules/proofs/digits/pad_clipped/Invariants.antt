@@ -1,12 +1,6 @@
 -- `digits::pad_clipped` meets its contract. The invariant: the digits written and the k lowest that are left are the whole. Assumes nothing.
-use mathlib.Core.Path.{◌≡◌, sym, ap, ◌∙◌}
-use mathlib.Core.List.{◌∷◌}
-use Prim.Native.Nat.{ℕ, suc, ◌-◌}
-use native.Mathlib.Omega.{arith}
-use Rattle.output.proofs.Laws.{Progress, start, more, finish, wrote-past, wrote-length}
+use Rattle.output.proofs.Laws.{Progress}
 use Rattle.text_rules.specs.Digits.{pad}
-use Rattle.text_rules.proofs.DigitLaws.{length-pad, pad-first}
-use borrow.Author.Rules.{rules}
 use Rattle.text_rules.proofs.digits.pad_clipped.Given as goal
 
 abbrev pub invariant-loop-k : goal.invariant-loop-k

@@ -7,12 +7,6 @@ use Rattle.text_rules.proofs.DigitLaws.{last_one}
 use Rattle.text_rules.proofs.DigitCode.{count-is, led_short, led_more}
 use Rattle.text_rules.proofs.DigitWords.{ahead_most, ahead_more}
 use borrow.Author.Rules.{rules}
-use Rattle.text_rules.proofs.digits.eight.Reads as eight-reads
-use Rattle.text_rules.proofs.digits.lead_exact.Reads as lead-exact-reads
-use Rattle.text_rules.proofs.digits.lead_store.Reads as lead-store-reads
-use Rattle.text_rules.proofs.digits.one.Reads as one-reads
-use Rattle.text_rules.proofs.digits.two.Reads as two-reads
-use Rattle.text_rules.proofs.digits.wide.Reads as wide-reads
 use Rattle.text_rules.proofs.digits.put_blocks.Goals as goal
 
 pub returns-then-n-lt10 : goal.returns-then-n-lt10

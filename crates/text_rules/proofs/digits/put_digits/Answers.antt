@@ -3,9 +3,6 @@ use native.Mathlib.Omega.{arith}
 use Rattle.text_rules.specs.Digits.{digits}
 use Rattle.text_rules.proofs.DigitLaws.{length_digits, count_le}
 use borrow.Author.Rules.{rules}
-use Rattle.text_rules.proofs.digits.digit_count.Reads as digit-count-reads
-use Rattle.text_rules.proofs.digits.pad_clipped.Reads as pad-clipped-reads
-use Rattle.text_rules.proofs.digits.put_blocks.Reads as put-blocks-reads
 use Rattle.text_rules.proofs.digits.put_digits.Goals as goal
 
 pub returns-then-pos-buf : goal.returns-then-pos-buf

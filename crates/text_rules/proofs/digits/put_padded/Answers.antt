@@ -2,8 +2,6 @@
 use native.Mathlib.Omega.{arith}
 use Rattle.text_rules.proofs.DigitLaws.{length-pad}
 use borrow.Author.Rules.{rules}
-use Rattle.text_rules.proofs.digits.fill_padded.Reads as fill-padded-reads
-use Rattle.text_rules.proofs.digits.pad_clipped.Reads as pad-clipped-reads
 use Rattle.text_rules.proofs.digits.put_padded.Goals as goal
 
 pub returns-then-pos-w : goal.returns-then-pos-w

@@ -7,9 +7,6 @@ use Rattle.text_rules.specs.Digits.{pad}
 use Rattle.text_rules.proofs.DigitLaws.{length-pad}
 use Rattle.text_rules.proofs.DigitCode.{pad_mod}
 use borrow.Author.Rules.{rules}
-use Rattle.text_rules.proofs.digits.pad_clipped.Reads as pad-clipped-reads
-use Rattle.text_rules.proofs.digits.two.Reads as two-reads
-use Rattle.text_rules.proofs.digits.wide.Reads as wide-reads
 use Rattle.text_rules.proofs.digits.put_pair.Goals as goal
 
 pub returns-then-pos-buf : goal.returns-then-pos-buf

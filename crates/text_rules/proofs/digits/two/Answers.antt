@@ -5,7 +5,6 @@ use native.Mathlib.Numerals.{add-one}
 use native.Mathlib.Omega.{arith}
 use lib.ListN.{length-set}
 use Rattle.text_rules.specs.Digits.{digit, pad}
-use borrow.Author.Rules.{rules}
 use Rattle.text_rules.proofs.digits.two.Goals as goal
 
 pub bounds-buf-p-2 : goal.bounds-buf-p-2

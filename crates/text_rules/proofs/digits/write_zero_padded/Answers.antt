@@ -2,7 +2,6 @@
 use mathlib.Core.Path.{sym}
 use native.Mathlib.Omega.{arith}
 use Rattle.text_rules.proofs.DigitCode.{zero-padded_long, zero-padded_short}
-use borrow.Author.Rules.{rules}
 use Rattle.text_rules.proofs.digits.write_zero_padded.Goals as goal
 
 pub returns-then-w-digit_count : goal.returns-then-w-digit_count

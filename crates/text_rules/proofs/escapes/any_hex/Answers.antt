@@ -1,6 +1,6 @@
 -- `escapes::any_hex` meets its contract. Assumes nothing.
 -- where no flag is set yet, what was looked through takes two bytes for each at most
-use Prim.Native.Nat.{◌+◌, ◌*◌, ◌-◌, ◌≤◌}
+use Prim.Native.Nat.{◌+◌}
 use mathlib.Core.Path.{◌≡◌, ap}
 use mathlib.Core.List.{[]}
 use native.Mathlib.Omega.{arith}
@@ -8,7 +8,6 @@ use lib.ListN.{length, get_or, drop, length-append, drop_of_length-le}
 use Rattle.lanes.proofs.LaneLaws.{or_left, or_right}
 use Rattle.text_rules.specs.Escapes.{text_escape, text_body}
 use Rattle.text_rules.proofs.EscapesLaws.{body_step}
-use borrow.Author.Rules.{rules}
 use Rattle.text_rules.proofs.escapes.any_hex.Goals as goal
 
 pub loop-i-init : goal.loop-i-init

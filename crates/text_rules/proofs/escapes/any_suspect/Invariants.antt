@@ -1,13 +1,9 @@
 -- `escapes::any_suspect` meets its contract. The invariant: where no flag is set yet, the whole needs no escape if what is left needs none.
 -- Assumes nothing.
-use Prim.Native.Nat.{◌-◌, ◌≤◌, ◌<◌}
+use Prim.Native.Nat.{◌-◌, ◌≤◌}
 use mathlib.Core.Path.{◌≡◌}
-use native.Mathlib.Omega.{arith}
 use lib.ListN.{length, drop}
 use Rattle.text_rules.specs.Escapes.{text_body}
-use Rattle.lanes.proofs.LaneLaws.{or_left, or_right}
-use Rattle.text_rules.proofs.EscapesLaws.{body_raw}
-use borrow.Author.Rules.{rules}
 use Rattle.text_rules.proofs.escapes.any_suspect.Given as goal
 
 abbrev pub invariant-loop-i : goal.invariant-loop-i

@@ -1,5 +1,4 @@
 -- `escapes::format_escaped_text_body` meets its contract. Assumes nothing.
-use borrow.Author.Rules.{rules}
 use Rattle.text_rules.proofs.escapes.format_escaped_text_body.Goals as goal
 
 pub returns-then-is_raw : goal.returns-then-is_raw

@@ -2,7 +2,6 @@
 use native.Mathlib.Omega.{arith}
 use borrow.Author.Tests.{lt-ltb, le-ltb}
 use Rattle.text_rules.specs.Escapes.{hex_digit}
-use borrow.Author.Rules.{rules}
 use Rattle.text_rules.proofs.escapes.hex_digit.Goals as goal
 
 pub returns-then-d-lt10 : goal.returns-then-d-lt10

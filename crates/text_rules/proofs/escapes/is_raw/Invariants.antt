@@ -1,14 +1,8 @@
 -- `escapes::is_raw` meets its contract. The invariant: the whole needs no escape if what is left needs none. Assumes nothing.
 use Prim.Native.Nat.{◌-◌, ◌≤◌}
-use mathlib.Core.Path.{◌≡◌, sym, ◌∙◌}
-use native.Mathlib.Omega.{arith}
-use borrow.Author.Tests.{not-false}
+use mathlib.Core.Path.{◌≡◌}
 use lib.ListN.{length, drop}
 use Rattle.text_rules.specs.Escapes.{text_body}
-use Rattle.text_rules.proofs.DigitLaws.{never}
-use Rattle.text_rules.proofs.EscapesLaws.{body_part, body_last}
-use Rattle.text_rules.proofs.LaneTests.{raw_word}
-use borrow.Author.Rules.{rules}
 use Rattle.text_rules.proofs.escapes.is_raw.Given as goal
 
 abbrev pub invariant-loop-i : goal.invariant-loop-i

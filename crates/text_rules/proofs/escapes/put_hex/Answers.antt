@@ -2,7 +2,6 @@
 use mathlib.Core.Path.{sym}
 use native.Mathlib.Omega.{arith}
 use Rattle.output.proofs.Words.{le-sum-4}
-use borrow.Author.Rules.{rules}
 use Rattle.text_rules.proofs.escapes.put_hex.Goals as goal
 
 pub returns : goal.returns

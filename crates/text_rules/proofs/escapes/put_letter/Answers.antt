@@ -1,7 +1,6 @@
 -- `escapes::put_letter` meets its contract. Assumes nothing.
 use mathlib.Core.Path.{sym}
 use Rattle.output.proofs.Laws.{wrote_then}
-use borrow.Author.Rules.{rules}
 use Rattle.text_rules.proofs.escapes.put_letter.Goals as goal
 
 pub returns : goal.returns

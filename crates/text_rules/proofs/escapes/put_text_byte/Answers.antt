@@ -1,7 +1,6 @@
 -- `escapes::put_text_byte` meets its contract. Assumes nothing.
 use mathlib.Core.Path.{sym, ◌∙◌}
 use Rattle.text_rules.specs.Escapes.{text_escape}
-use borrow.Author.Rules.{rules}
 use Rattle.text_rules.proofs.escapes.put_text_byte.Goals as goal
 
 pub returns-then-takes_letter : goal.returns-then-takes_letter

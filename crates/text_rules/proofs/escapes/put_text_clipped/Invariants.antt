@@ -1,13 +1,8 @@
 -- `escapes::put_text_clipped` meets its contract. Assumes nothing.
-use Prim.Native.Nat.{◌-◌, ◌≤◌, ◌<◌}
-use mathlib.Core.Path.{◌≡◌}
-use mathlib.Core.List.{[]}
-use native.Mathlib.Omega.{arith}
-use lib.ListN.{length, drop, drop_of_length-le}
-use Rattle.output.proofs.Laws.{Progress, start, more, finish, wrote-length, wrote-bound}
+use Prim.Native.Nat.{◌-◌, ◌≤◌}
+use lib.ListN.{length, drop}
+use Rattle.output.proofs.Laws.{Progress}
 use Rattle.text_rules.specs.Escapes.{text_body}
-use Rattle.text_rules.proofs.EscapesLaws.{body_step}
-use borrow.Author.Rules.{rules}
 use Rattle.text_rules.proofs.escapes.put_text_clipped.Given as goal
 
 abbrev pub invariant-loop-i : goal.invariant-loop-i

@@ -1,7 +1,6 @@
 -- `escapes::put_text_escaped` meets its contract. Assumes nothing.
 use native.Mathlib.Omega.{arith}
 use Rattle.text_rules.proofs.EscapesLaws.{text_body_most}
-use borrow.Author.Rules.{rules}
 use Rattle.text_rules.proofs.escapes.put_text_escaped.Goals as goal
 
 pub store_text-requires : goal.store_text-requires

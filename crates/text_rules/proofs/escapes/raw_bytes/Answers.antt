@@ -1,5 +1,5 @@
 -- `escapes::raw_bytes` meets its contract. The invariant: the whole needs no escape if what is left needs none. Assumes nothing.
-use Prim.Native.Nat.{◌-◌, ◌≤◌, ◌<◌}
+use Prim.Native.Nat.{◌<◌}
 use mathlib.Core.Path.{◌≡◌, sym}
 use mathlib.Core.List.{[]}
 use native.Mathlib.Omega.{arith}
@@ -7,7 +7,6 @@ use lib.ListN.{length, drop, drop_of_length-le}
 use Rattle.text_rules.specs.Escapes.{text_body}
 use Rattle.text_rules.proofs.DigitLaws.{never}
 use Rattle.text_rules.proofs.EscapesLaws.{body_raw}
-use borrow.Author.Rules.{rules}
 use Rattle.text_rules.proofs.escapes.raw_bytes.Goals as goal
 
 pub loop-i-init : goal.loop-i-init

@@ -1,10 +1,10 @@
 -- `escapes::store_text` meets its contract. Assumes nothing.
-use Prim.Native.Nat.{◌+◌, ◌-◌, ◌≤◌, ◌<◌}
+use Prim.Native.Nat.{◌+◌, ◌<◌}
 use mathlib.Core.Path.{◌≡◌, ap}
 use mathlib.Core.List.{[]}
 use native.Mathlib.Omega.{arith}
 use lib.ListN.{length, drop, get_or, length-append, drop_of_length-le}
-use Rattle.output.proofs.Laws.{Progress, start, more, finish, wrote-length}
+use Rattle.output.proofs.Laws.{start, more, finish, wrote-length}
 use Rattle.text_rules.specs.Escapes.{text_escape, text_body}
 use Rattle.text_rules.proofs.EscapesLaws.{body_step}
 use borrow.Author.Rules.{rules}

@@ -2,7 +2,6 @@
 use mathlib.Core.Path.{sym, ◌∙◌}
 use native.Mathlib.Omega.{arith}
 use Rattle.text_rules.proofs.LaneTests.{masked, keyword_none, keyword_true, keyword_null, keyword_nan, keyword_false, keyword_other}
-use borrow.Author.Rules.{rules}
 use Rattle.text_rules.proofs.short_words.is_keyword_word.Goals as goal
 
 pub returns-then-n-lt3 : goal.returns-then-n-lt3

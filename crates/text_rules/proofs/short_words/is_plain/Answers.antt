@@ -1,13 +1,8 @@
 -- `short_words::is_plain` meets its contract. Assumes nothing.
-use mathlib.Core.Path.{◌≡◌, sym, ◌∙◌}
-use mathlib.Core.Bool.{false}
-use borrow.Author.Tests.{not-true, not-false}
-use Rattle.output.specs.Wrote.{le_bytes}
-use Rattle.text_rules.specs.Text.{symbol_text}
-use Rattle.text_rules.specs.Words.{is_keyword}
+use mathlib.Core.Path.{sym, ◌∙◌}
+use borrow.Author.Tests.{not-true}
 use Rattle.text_rules.proofs.DigitLaws.{never}
 use Rattle.text_rules.proofs.LaneTests.{letters_word}
-use borrow.Author.Rules.{rules}
 use Rattle.text_rules.proofs.short_words.is_plain.Goals as goal
 
 pub returns-then-not-is_letter_word : goal.returns-then-not-is_letter_word

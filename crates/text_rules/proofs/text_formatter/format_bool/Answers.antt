@@ -1,7 +1,6 @@
 -- `text_formatter::format_bool` meets its contract. Assumes nothing.
 use Rattle.output.specs.Wrote.{le_bytes}
 use Rattle.text_rules.specs.Text.{bool_text}
-use borrow.Author.Rules.{rules}
 use Rattle.text_rules.proofs.text_formatter.format_bool.Goals as goal
 
 pub returns-then-b : goal.returns-then-b

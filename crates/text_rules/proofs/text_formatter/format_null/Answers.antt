@@ -1,5 +1,4 @@
 -- `text_formatter::format_null` meets its contract. Assumes nothing.
-use borrow.Author.Rules.{rules}
 use Rattle.text_rules.proofs.text_formatter.format_null.Goals as goal
 
 pub returns : goal.returns

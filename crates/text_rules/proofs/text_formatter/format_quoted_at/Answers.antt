@@ -6,7 +6,6 @@ use lib.ListN.{take, drop}
 use Rattle.output.specs.Wrote.{le_bytes}
 use Rattle.text_rules.proofs.LaneTests.{word-part, raw_word, marked-raw}
 use Rattle.text_rules.proofs.SymbolsText.{symbol_always}
-use borrow.Author.Rules.{rules}
 use Rattle.text_rules.proofs.text_formatter.format_quoted_at.Goals as goal
 
 pub returns-then-is_raw_word : goal.returns-then-is_raw_word

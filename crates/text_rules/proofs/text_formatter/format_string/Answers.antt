@@ -1,6 +1,5 @@
 -- `text_formatter::format_string` meets its contract. Assumes nothing.
 use Rattle.text_rules.specs.Text.{string_text}
-use borrow.Author.Rules.{rules}
 use Rattle.text_rules.proofs.text_formatter.format_string.Goals as goal
 
 pub returns : goal.returns

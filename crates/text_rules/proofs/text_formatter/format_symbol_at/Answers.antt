@@ -1,5 +1,4 @@
 -- `text_formatter::format_symbol_at` meets its contract. Assumes nothing.
-use borrow.Author.Rules.{rules}
 use Rattle.text_rules.proofs.text_formatter.format_symbol_at.Goals as goal
 
 pub returns-then-quoted : goal.returns-then-quoted

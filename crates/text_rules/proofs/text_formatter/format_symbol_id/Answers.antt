@@ -1,7 +1,6 @@
 -- `text_formatter::format_symbol_id` meets its contract. Assumes nothing.
 use Rattle.output.proofs.Laws.{wrote_then}
 use Rattle.text_rules.specs.Text.{symbol_id_text}
-use borrow.Author.Rules.{rules}
 use Rattle.text_rules.proofs.text_formatter.format_symbol_id.Goals as goal
 
 pub returns : goal.returns

@@ -1,7 +1,6 @@
 -- `text_formatter::format_symbol_token` meets its contract. Assumes nothing.
 use mathlib.Core.Path.{sym, ◌∙◌}
 use Rattle.text_rules.proofs.SymbolsText.{symbol_bare, symbol-marked}
-use borrow.Author.Rules.{rules}
 use Rattle.text_rules.proofs.text_formatter.format_symbol_token.Goals as goal
 
 pub returns-then-is_bare : goal.returns-then-is_bare

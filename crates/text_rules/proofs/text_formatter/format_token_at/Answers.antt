@@ -6,7 +6,6 @@ use lib.ListN.{take, drop}
 use Rattle.output.specs.Wrote.{le_bytes}
 use Rattle.text_rules.proofs.SymbolsText.{symbol_bare}
 use Rattle.text_rules.proofs.LaneTests.{word-part, part-word, raw_word, word_bare, symbol-quoted, keyword_marked, keyword_raw, other-marked}
-use borrow.Author.Rules.{rules}
 use Rattle.text_rules.proofs.text_formatter.format_token_at.Goals as goal
 
 pub returns-then-is_keyword_word : goal.returns-then-is_keyword_word

@@ -1,9 +1,7 @@
 -- `text_formatter::is_bare` meets its contract. Assumes nothing.
 use mathlib.Core.Path.{sym, ◌∙◌}
-use borrow.Author.Tests.{not-true, not-false}
 use Rattle.text_rules.specs.WordSteps.{is_bare}
 use Rattle.text_rules.proofs.SymbolsText.{plain_bare, identifier_some}
-use borrow.Author.Rules.{rules}
 use Rattle.text_rules.proofs.text_formatter.is_bare.Goals as goal
 
 pub returns-then-not-token_is_identifier : goal.returns-then-not-token_is_identifier

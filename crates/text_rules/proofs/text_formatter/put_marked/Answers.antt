@@ -1,6 +1,5 @@
 -- `text_formatter::put_marked` meets its contract. Assumes nothing.
 use Rattle.output.proofs.Laws.{wrote_then}
-use borrow.Author.Rules.{rules}
 use Rattle.text_rules.proofs.text_formatter.put_marked.Goals as goal
 
 pub returns : goal.returns

@@ -1,6 +1,5 @@
 -- `text_formatter::put_quoted_word` meets its contract. Assumes nothing.
 use Rattle.output.proofs.Laws.{wrote_then}
-use borrow.Author.Rules.{rules}
 use Rattle.text_rules.proofs.text_formatter.put_quoted_word.Goals as goal
 
 pub returns : goal.returns

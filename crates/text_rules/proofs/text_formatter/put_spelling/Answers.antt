@@ -2,7 +2,6 @@
 use native.Mathlib.Omega.{arith}
 use Rattle.output.proofs.Laws.{wrote_then}
 use Rattle.text_rules.proofs.NullsText.{two_word_short, two_word_long}
-use borrow.Author.Rules.{rules}
 use Rattle.text_rules.proofs.text_formatter.put_spelling.Goals as goal
 
 pub returns-then-n-le8 : goal.returns-then-n-le8

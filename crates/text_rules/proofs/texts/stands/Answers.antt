@@ -4,7 +4,6 @@ use mathlib.Core.Path.{sym}
 use Rattle.text_rules.proofs.Places.{byte_at, end-at}
 use Rattle.text_rules.specs.Texts.{starts}
 use Rattle.text_rules.proofs.DigitLaws.{never}
-use borrow.Author.Rules.{rules}
 use Rattle.text_rules.proofs.texts.stands.Goals as goal
 
 pub returns-then-at-text : goal.returns-then-at-text

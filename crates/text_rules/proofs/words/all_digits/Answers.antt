@@ -2,7 +2,6 @@
 use mathlib.Core.Path.{sym}
 use native.Mathlib.Omega.{arith}
 use Rattle.text_rules.proofs.WordsLaws.{digits-none, digits-all}
-use borrow.Author.Rules.{rules}
 use Rattle.text_rules.proofs.words.all_digits.Goals as goal
 
 pub returns-then-s-from : goal.returns-then-s-from

@@ -1,11 +1,9 @@
 -- `words::bounded_number` meets its contract. Assumes nothing.
-use Prim.Native.Nat.{◌+◌, ◌-◌, ◌≤◌}
-use mathlib.Core.Path.{◌≡◌, refl, sym, ◌∙◌}
+use Prim.Native.Nat.{◌+◌}
+use mathlib.Core.Path.{refl, sym, ◌∙◌}
 use native.Mathlib.Omega.{arith}
-use lib.ListN.{length, drop}
-use Rattle.text_rules.specs.Digits.{number}
+use lib.ListN.{drop}
 use Rattle.text_rules.proofs.WordsLaws.{number_step, number_over, number-end}
-use borrow.Author.Rules.{rules}
 use Rattle.text_rules.proofs.words.bounded_number.Goals as goal
 
 pub loop-i-init : goal.loop-i-init

@@ -1,11 +1,8 @@
 -- `words::bounded_number` meets its contract. Assumes nothing.
-use Prim.Native.Nat.{◌+◌, ◌-◌, ◌≤◌}
-use mathlib.Core.Path.{◌≡◌, refl, sym, ◌∙◌}
-use native.Mathlib.Omega.{arith}
+use Prim.Native.Nat.{◌-◌, ◌≤◌}
+use mathlib.Core.Path.{◌≡◌}
 use lib.ListN.{length, drop}
 use Rattle.text_rules.specs.Digits.{number}
-use Rattle.text_rules.proofs.WordsLaws.{number_step, number_over, number-end}
-use borrow.Author.Rules.{rules}
 use Rattle.text_rules.proofs.words.bounded_number.Given as goal
 
 abbrev pub invariant-loop-i : goal.invariant-loop-i

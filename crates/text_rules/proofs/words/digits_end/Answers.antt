@@ -1,12 +1,7 @@
 -- `words::digits_end` meets its contract. Assumes nothing.
-use Prim.Native.Nat.{◌-◌, ◌≤◌}
-use mathlib.Core.Path.{◌≡◌, refl, sym, ◌∙◌}
+use mathlib.Core.Path.{refl, sym, ◌∙◌}
 use native.Mathlib.Omega.{arith}
-use lib.ListN.{length, drop}
-use borrow.Author.Tests.{not-true, not-false}
-use Rattle.text_rules.specs.Digits.{behind_digits}
 use Rattle.text_rules.proofs.WordsLaws.{passed-stop, passed-end, past_digit}
-use borrow.Author.Rules.{rules}
 use Rattle.text_rules.proofs.words.digits_end.Goals as goal
 
 pub loop-i-init : goal.loop-i-init

@@ -2,7 +2,6 @@
 use mathlib.Core.Path.{sym, ◌∙◌}
 use mathlib.Core.Bool.{true, false}
 use Rattle.text_rules.proofs.WordsLaws.{dollar_marker, dollar_version, dollar_number, dollar_other, digits_long}
-use borrow.Author.Rules.{rules}
 use Rattle.text_rules.proofs.words.dollar_kind.Goals as goal
 
 pub returns-then-same_word : goal.returns-then-same_word

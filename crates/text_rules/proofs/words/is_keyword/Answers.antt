@@ -1,8 +1,6 @@
 -- `words::is_keyword` meets its contract. Assumes nothing.
 use mathlib.Core.Path.{sym}
-use native.Mathlib.Omega.{arith}
 use Rattle.text_rules.proofs.WordsLaws.{no_keyword}
-use borrow.Author.Rules.{rules}
 use Rattle.text_rules.proofs.words.is_keyword.Goals as goal
 
 pub returns : goal.returns

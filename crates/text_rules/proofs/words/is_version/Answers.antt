@@ -1,9 +1,7 @@
 -- `words::is_version` meets its contract. Assumes nothing.
 use mathlib.Core.Path.{sym, ◌∙◌}
 use native.Mathlib.Omega.{arith}
-use borrow.Author.Tests.{not-true, not-false}
 use Rattle.text_rules.proofs.WordsLaws.{version-end, version-other, version_short, version_mark, version_here}
-use borrow.Author.Rules.{rules}
 use Rattle.text_rules.proofs.words.is_version.Goals as goal
 
 pub returns-then-from-w : goal.returns-then-from-w

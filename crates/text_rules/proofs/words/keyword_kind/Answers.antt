@@ -1,7 +1,6 @@
 -- `words::keyword_kind` meets its contract. Assumes nothing.
 use mathlib.Core.Path.{sym, ◌∙◌}
 use Rattle.text_rules.proofs.WordsLaws.{kind-null, kind-true, kind-false, kind-nan}
-use borrow.Author.Rules.{rules}
 use Rattle.text_rules.proofs.words.keyword_kind.Goals as goal
 
 pub returns-then-same_word : goal.returns-then-same_word

@@ -2,7 +2,6 @@
 use mathlib.Core.Path.{sym, ◌∙◌}
 use mathlib.Core.Bool.{true, false}
 use Rattle.text_rules.proofs.WordsLaws.{starts-at, kind-plain}
-use borrow.Author.Rules.{rules}
 use Rattle.text_rules.proofs.words.known_kind.Goals as goal
 
 pub dollar_kind-requires : goal.dollar_kind-requires

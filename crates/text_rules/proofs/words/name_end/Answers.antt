@@ -2,7 +2,6 @@
 use mathlib.Core.Path.{sym, ◌∙◌}
 use native.Mathlib.Omega.{arith}
 use Rattle.text_rules.proofs.WordsLaws.{spanned_long, spanned_name}
-use borrow.Author.Rules.{rules}
 use Rattle.text_rules.proofs.words.name_end.Goals as goal
 
 pub returns-then-at-text : goal.returns-then-at-text

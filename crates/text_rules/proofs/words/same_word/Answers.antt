@@ -1,7 +1,6 @@
 -- `words::same_word` meets its contract. Assumes nothing.
 use mathlib.Core.Path.{sym}
 use Rattle.text_rules.proofs.WordsLaws.{same_long, same_stands}
-use borrow.Author.Rules.{rules}
 use Rattle.text_rules.proofs.words.same_word.Goals as goal
 
 pub returns-then-text-word : goal.returns-then-text-word

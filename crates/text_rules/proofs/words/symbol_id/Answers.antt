@@ -2,7 +2,6 @@
 use mathlib.Core.Path.{sym, ◌∙◌}
 use native.Mathlib.Omega.{arith}
 use Rattle.text_rules.proofs.WordsLaws.{id_padded, id_other, id_short}
-use borrow.Author.Rules.{rules}
 use Rattle.text_rules.proofs.words.symbol_id.Goals as goal
 
 pub returns-then-w-eq2 : goal.returns-then-w-eq2

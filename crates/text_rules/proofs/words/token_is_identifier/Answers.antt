@@ -1,9 +1,7 @@
 -- `words::token_is_identifier` meets its contract. Assumes nothing.
 use mathlib.Core.Path.{sym, ◌∙◌}
 use native.Mathlib.Omega.{arith}
-use borrow.Author.Tests.{not-true, not-false}
 use Rattle.text_rules.proofs.WordsLaws.{identifier_none, identifier_other, identifier_here}
-use borrow.Author.Rules.{rules}
 use Rattle.text_rules.proofs.words.token_is_identifier.Goals as goal
 
 pub returns-then-w-eq0 : goal.returns-then-w-eq0

@@ -3,7 +3,6 @@ use mathlib.Core.Path.{sym, ◌∙◌}
 use native.Mathlib.Omega.{arith}
 use mathlib.Core.Bool.{true, false}
 use Rattle.text_rules.proofs.WordsLaws.{keyword_none, no_keyword, keyword_t, keyword_f, keyword_n}
-use borrow.Author.Rules.{rules}
 use Rattle.text_rules.proofs.words.token_is_keyword.Goals as goal
 
 pub returns-then-w-eq0 : goal.returns-then-w-eq0

@@ -2,7 +2,6 @@
 use mathlib.Core.Path.{sym, ◌∙◌}
 use native.Mathlib.Omega.{arith}
 use Rattle.text_rules.proofs.WordsLaws.{id_none, id_dollar, starts-at, starts_other, starts_none}
-use borrow.Author.Rules.{rules}
 use Rattle.text_rules.proofs.words.token_resembles_symbol_id.Goals as goal
 
 pub returns-then-w-eq0 : goal.returns-then-w-eq0

@@ -1,9 +1,7 @@
 -- `words::token_resembles_version_marker` meets its contract. Assumes nothing.
 use mathlib.Core.Path.{sym, ◌∙◌}
 use native.Mathlib.Omega.{arith}
-use borrow.Author.Tests.{not-true, not-false}
 use Rattle.text_rules.proofs.WordsLaws.{marker_none, marker_other, marker_here, starts_other, starts_none}
-use borrow.Author.Rules.{rules}
 use Rattle.text_rules.proofs.words.token_resembles_version_marker.Goals as goal
 
 pub returns-then-w-eq0 : goal.returns-then-w-eq0

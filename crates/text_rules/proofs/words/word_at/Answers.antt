@@ -3,7 +3,6 @@ use mathlib.Core.Path.{sym, ap, ◌∙◌}
 use native.Mathlib.Omega.{arith}
 use Rattle.text_rules.specs.Words.{kind_of}
 use Rattle.text_rules.proofs.WordsLaws.{spanned_none, spanned_long, spanned_identifier, kind-nothing}
-use borrow.Author.Rules.{rules}
 use Rattle.text_rules.proofs.words.word_at.Goals as goal
 
 pub returns-then-end-at : goal.returns-then-end-at

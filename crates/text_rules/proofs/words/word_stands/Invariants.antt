@@ -1,12 +1,8 @@
 -- `words::word_stands` meets its contract. What is left of the word is looked for in what is left of the text. Assumes nothing.
 use Prim.Native.Nat.{◌+◌, ◌-◌, ◌≤◌}
 use mathlib.Core.Path.{◌≡◌}
-use native.Mathlib.Omega.{arith}
-use native.Mathlib.Nat.{add-zero}
 use lib.ListN.{length, drop}
 use Rattle.text_rules.specs.Texts.{strip}
-use Rattle.text_rules.proofs.WordsLaws.{stands_short, stands_other, stands_all, strip_more}
-use borrow.Author.Rules.{rules}
 use Rattle.text_rules.proofs.words.word_stands.Given as goal
 
 abbrev pub invariant-loop-i : goal.invariant-loop-i

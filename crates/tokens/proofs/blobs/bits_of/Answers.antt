@@ -1,9 +1,7 @@
 -- `blobs::bits_of` meets its contract. Its word has `A` in the four high places. Assumes nothing.
 use native.Mathlib.Omega.{arith}
-use borrow.Author.Tests.{not-true, not-false}
 use mathlib.Core.Path.{sym, ◌∙◌}
 use Rattle.tokens.proofs.BlobLanes.{bits-refused, bits-read}
-use borrow.Author.Rules.{rules}
 use Rattle.tokens.proofs.blobs.bits_of.Goals as goal
 
 pub returns-then-not-is_base64 : goal.returns-then-not-is_base64

@@ -1,5 +1,4 @@
 -- `blobs::blob_at` meets its contract. Assumes nothing.
-use borrow.Author.Tests.{not-true, not-false}
 use Rattle.tokens.proofs.ClobSteps.{stripped_no, stripped_yes}
 use Rattle.tokens.proofs.Keeping.{kept_all}
 use Rattle.tokens.proofs.BlobGroups.{copies_behind, blob_unopened, blob_opened}

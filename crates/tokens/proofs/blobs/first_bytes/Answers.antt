@@ -3,7 +3,6 @@ use mathlib.Core.Path.{◌≡◌, refl}
 use native.Mathlib.Omega.{arith}
 use Prim.Native.Nat.{◌%◌}
 use Rattle.tokens.proofs.BlobWrites.{first_wide, first-odd, first-whole, last-odd, last_even}
-use borrow.Author.Rules.{rules}
 use Rattle.tokens.proofs.blobs.first_bytes.Goals as goal
 use Rattle.tokens.proofs.blobs.first_bytes.Goals.{then-width-eq1+else-n-ne0, else-width-eq1}
 

@@ -1,9 +1,6 @@
 -- `blobs::groups_at` meets its contract. The invariant is that of `words_at`. Assumes nothing.
-use Prim.Native.Nat.{◌-◌}
 use native.Mathlib.Omega.{arith}
-use lib.ListN.{length}
 use Rattle.output.proofs.Laws.{wrote-length, wrote-bound}
-use Rattle.tokens.specs.BlobSteps.{Decoded}
 use Rattle.tokens.proofs.BlobGroups.{decoded_none, decoded_more, groups_four, no_group, end_group, read_none, read_some, whole-three}
 use borrow.Author.Rules.{rules}
 use Rattle.tokens.proofs.blobs.groups_at.Goals as goal

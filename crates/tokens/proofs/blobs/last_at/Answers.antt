@@ -2,7 +2,6 @@
 use mathlib.Core.List.{[]}
 use native.Mathlib.Omega.{arith}
 use lib.ListN.{length-drop}
-use borrow.Author.Tests.{not-true, not-false}
 use Rattle.output.proofs.Laws.{wrote_none}
 use Rattle.tokens.proofs.ClobSteps.{stripped_no, stripped_yes}
 use Rattle.tokens.proofs.Keeping.{kept_all}

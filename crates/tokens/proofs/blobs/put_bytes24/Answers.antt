@@ -1,7 +1,6 @@
 -- `blobs::put_bytes24` meets its contract. Assumes nothing.
 use mathlib.Core.Path.{sym}
 use Rattle.tokens.proofs.BlobWrites.{bytes_le}
-use borrow.Author.Rules.{rules}
 use Rattle.tokens.proofs.blobs.put_bytes24.Goals as goal
 
 pub returns : goal.returns

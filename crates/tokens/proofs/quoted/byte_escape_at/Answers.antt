@@ -2,7 +2,6 @@
 use native.Mathlib.Omega.{arith}
 use Rattle.tokens.proofs.QuotedSteps.{copies_as, byte_escape-x, byte_escape-letter, escape_end}
 use Rattle.tokens.proofs.Keeping.{kept_all}
-use borrow.Author.Rules.{rules}
 use Rattle.tokens.proofs.quoted.byte_escape_at.Goals as goal
 
 pub returns-then-at-text : goal.returns-then-at-text

@@ -1,7 +1,6 @@
 -- `quoted::character_at` meets its contract. Assumes nothing.
 use native.Mathlib.Omega.{arith}
 use Rattle.tokens.proofs.QuotedSteps.{copies_as, character-escape, character-raw}
-use borrow.Author.Rules.{rules}
 use Rattle.tokens.proofs.quoted.character_at.Goals as goal
 
 pub returns-then-text-at-eq92 : goal.returns-then-text-at-eq92

@@ -1,15 +1,10 @@
 -- `quoted::characters_at` meets its contract. The invariant: what is said of the rest from i on holds of the whole. Assumes nothing.
-use Prim.Native.Nat.{ℕ, ◌-◌, ◌≤◌}
-use mathlib.Core.Path.{◌≡◌, refl, ◌∙◌}
-use mathlib.Core.List.{List}
+use mathlib.Core.Path.{refl, ◌∙◌}
 use native.Mathlib.Omega.{arith}
-use lib.ListN.{length}
-use Rattle.output.specs.Wrote.{limit}
 use Rattle.output.proofs.Laws.{wrote-length, wrote-bound}
 use Rattle.text_rules.specs.Texts.{starts}
-use Rattle.tokens.specs.Quoted.{raw_rule, raw, character}
-use Rattle.tokens.specs.declared.quoted.Step.{Step}
-use Rattle.tokens.proofs.QuotedMany.{ManyAt, at_mark, at_wrong, at-end, at_piece, at-run, plain_text, quoted-at}
+use Rattle.tokens.specs.Quoted.{raw, character}
+use Rattle.tokens.proofs.QuotedMany.{at_mark, at_wrong, at-end, at_piece, at-run, plain_text, quoted-at}
 use borrow.Author.Rules.{rules}
 use Rattle.tokens.proofs.quoted.characters_at.Goals as goal
 

@@ -1,6 +1,5 @@
 -- `quoted::clob_at` meets its contract. Assumes nothing.
 use native.Mathlib.Omega.{arith}
-use borrow.Author.Tests.{not-true, not-false}
 use Rattle.tokens.proofs.ClobSteps.{clob_unopened, clob-broken, clob_unclosed, clob-whole, stripped_no, stripped_yes}
 use Rattle.tokens.proofs.Keeping.{kept_all, wrote_kept}
 use borrow.Author.Rules.{rules}

@@ -2,7 +2,6 @@
 use native.Mathlib.Omega.{arith}
 use Rattle.tokens.proofs.QuotedSteps.{copies_as, clob_byte_escape, clob_byte_raw, clob_byte_low, clob_byte_high}
 use Rattle.tokens.proofs.Keeping.{kept_all}
-use borrow.Author.Rules.{rules}
 use Rattle.tokens.proofs.quoted.clob_byte_at.Goals as goal
 
 pub returns-then-b-eq92 : goal.returns-then-b-eq92

@@ -2,7 +2,6 @@
 use native.Mathlib.Omega.{arith}
 use Rattle.tokens.proofs.QuotedSteps.{copies_as, escape-x, escape-u, escape-U, escape-letter, escape_end}
 use Rattle.tokens.proofs.Keeping.{kept_all}
-use borrow.Author.Rules.{rules}
 use Rattle.tokens.proofs.quoted.escape_at.Goals as goal
 
 pub returns-then-at-text : goal.returns-then-at-text

@@ -1,14 +1,8 @@
 -- `quoted::hex_at` meets its contract. The invariant: the digits that are left, joined behind the number so far, are the whole. Assumes nothing.
-use Prim.Native.Nat.{ℕ, suc, ◌+◌, ◌-◌, ◌*◌, ◌^◌, ◌≤◌, ◌<◌}
-use mathlib.Core.Path.{◌≡◌, ap, ◌∙◌}
-use mathlib.Core.Option.{some}
-use native.Mathlib.Nat.{add-zero, sub-zero, add_assoc}
-use native.Mathlib.Omega.{arith}
+use Prim.Native.Nat.{◌+◌, ◌-◌, ◌^◌, ◌≤◌, ◌<◌}
+use mathlib.Core.Path.{◌≡◌}
 use lib.ListN.{length, drop}
-use borrow.Author.Tests.{lt-ltb, le-ltb}
 use Rattle.text_rules.specs.Escapes.{hex}
-use Rattle.tokens.proofs.QuotedSteps.{hex_more, hex-other, hex_short, hex_grows, hex-fits}
-use borrow.Author.Rules.{rules}
 use Rattle.tokens.proofs.quoted.hex_at.Given as goal
 
 abbrev pub invariant-loop-i : goal.invariant-loop-i

@@ -2,7 +2,6 @@
 use native.Mathlib.Omega.{arith}
 use Rattle.tokens.proofs.QuotedSteps.{hex_byte}
 use Rattle.tokens.proofs.Keeping.{kept_all}
-use borrow.Author.Rules.{rules}
 use Rattle.tokens.proofs.quoted.hex_byte_at.Goals as goal
 
 pub returns-in_default : goal.returns-in_default

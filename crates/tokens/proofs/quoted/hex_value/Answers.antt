@@ -3,7 +3,6 @@ use Prim.Native.Nat.{◌+◌, ◌-◌}
 use native.Mathlib.Omega.{arith}
 use borrow.Author.Tests.{le-leb, lt-leb, lt-ltb}
 use Rattle.text_rules.specs.Escapes.{hex_value}
-use borrow.Author.Rules.{rules}
 use Rattle.tokens.proofs.quoted.hex_value.Goals as goal
 
 pub returns-then-b-lt48 : goal.returns-then-b-lt48

@@ -1,6 +1,5 @@
 -- `quoted::is_plain` meets its contract. Assumes nothing.
 use mathlib.Core.Path.{refl, sym, ◌∙◌}
-use borrow.Author.Rules.{rules}
 use Rattle.tokens.specs.Quoted.{strict_raw}
 use Rattle.tokens.specs.Steps.{is_plain}
 use Rattle.tokens.proofs.QuotedSteps.{plain-last, plain-blank, plain_other}

@@ -5,7 +5,6 @@ use borrow.Author.Tests.{lt-ltb, le-ltb}
 use Rattle.tokens.specs.Quoted.{letter_escape}
 use Rattle.text_rules.proofs.EscapesLaws.{byte_at}
 use Rattle.tokens.proofs.Keeping.{kept_all}
-use borrow.Author.Rules.{rules}
 use Rattle.tokens.proofs.quoted.letter_at.Goals as goal
 
 pub returns-then-v-ge128 : goal.returns-then-v-ge128

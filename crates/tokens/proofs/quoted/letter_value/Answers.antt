@@ -2,7 +2,6 @@
 use borrow.Author.Tests.{ne_eqb}
 use Rattle.text_rules.specs.Escapes.{letter}
 use Rattle.tokens.specs.Steps.{own_letter}
-use borrow.Author.Rules.{rules}
 use Rattle.tokens.proofs.quoted.letter_value.Goals as goal
 
 pub returns-then-b-eq48 : goal.returns-then-b-eq48

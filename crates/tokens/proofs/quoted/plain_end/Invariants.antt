@@ -1,12 +1,7 @@
 -- `quoted::plain_end` meets its contract. Assumes nothing.
 use Prim.Native.Nat.{◌-◌, ◌≤◌}
-use mathlib.Core.Path.{sym, ◌∙◌}
-use native.Mathlib.Omega.{arith}
 use lib.ListN.{length}
-use borrow.Author.Tests.{not-false}
 use Rattle.tokens.specs.Steps.{RunTo, is_plain}
-use Rattle.tokens.proofs.QuotedSteps.{run_more}
-use borrow.Author.Rules.{rules}
 use Rattle.tokens.proofs.quoted.plain_end.Given as goal
 
 abbrev pub invariant-loop-i : goal.invariant-loop-i

@@ -2,7 +2,6 @@
 use borrow.Author.Tests.{lt-ltb, le-ltb}
 use Rattle.output.proofs.Laws.{wrote_then}
 use Rattle.text_rules.specs.Utf8.{utf8}
-use borrow.Author.Rules.{rules}
 use Rattle.tokens.proofs.quoted.put_utf8.Goals as goal
 
 pub returns-then-v-lt128 : goal.returns-then-v-lt128

@@ -3,11 +3,10 @@ use Prim.Native.Nat.{◌+◌, ◌-◌}
 use mathlib.Core.Path.{◌≡◌, sym, ◌∙◌}
 use native.Mathlib.Omega.{arith}
 use lib.ListN.{take, drop}
-use borrow.Author.Tests.{le-leb, not-true, not-false}
+use borrow.Author.Tests.{le-leb}
 use Rattle.text_rules.proofs.Utf8Chars.{char_in}
 use Rattle.tokens.proofs.QuotedSteps.{raw_at}
 use Rattle.tokens.proofs.Keeping.{kept_all}
-use borrow.Author.Rules.{rules}
 use Rattle.tokens.proofs.quoted.raw_at.Goals as goal
 
 pub returns-then-not-is_raw : goal.returns-then-not-is_raw

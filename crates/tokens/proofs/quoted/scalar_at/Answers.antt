@@ -1,7 +1,6 @@
 -- `quoted::scalar_at` meets its contract. Assumes nothing.
 use mathlib.Core.Path.{sym, ◌∙◌}
 use native.Mathlib.Omega.{arith}
-use borrow.Author.Tests.{not-true, not-false}
 use Rattle.tokens.proofs.QuotedSteps.{scalar-none, scalar_no, scalar-yes}
 use Rattle.text_rules.proofs.Utf8Scalar.{scalar-small}
 use Rattle.tokens.proofs.Keeping.{kept_all}

@@ -2,7 +2,6 @@
 use mathlib.Core.Path.{refl}
 use mathlib.Core.Bool.{true, false}
 use Rattle.tokens.proofs.TokensLaws.{bool_here, bool-none}
-use borrow.Author.Rules.{rules}
 use Rattle.tokens.proofs.values.bool_at.Goals as goal
 
 pub returns-in-True : goal.returns-in-True

@@ -1,7 +1,6 @@
 -- `values::container_type` meets its contract: each answer by the tests that led to it. Assumes nothing.
 use mathlib.Core.Path.{sym, ◌∙◌}
 use Rattle.tokens.specs.TokenSteps.{container_type}
-use borrow.Author.Rules.{rules}
 use Rattle.tokens.proofs.values.container_type.Goals as goal
 
 pub returns-then-same_word : goal.returns-then-same_word

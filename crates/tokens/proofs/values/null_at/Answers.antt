@@ -1,7 +1,5 @@
 -- `values::null_at` meets its contract. Assumes nothing.
-use borrow.Author.Tests.{not-true, not-false}
 use Rattle.tokens.proofs.TokensLaws.{null-other, null_here}
-use borrow.Author.Rules.{rules}
 use Rattle.tokens.proofs.values.null_at.Goals as goal
 
 pub returns-then-not-same_word : goal.returns-then-not-same_word

@@ -1,7 +1,6 @@
 -- `values::null_behind` meets its contract. Assumes nothing.
 use native.Mathlib.Omega.{arith}
 use Rattle.tokens.proofs.TokensLaws.{null-end, null-plain, null_typed, null_untyped}
-use borrow.Author.Rules.{rules}
 use Rattle.tokens.proofs.values.null_behind.Goals as goal
 
 pub returns-then-at-text : goal.returns-then-at-text

@@ -2,7 +2,6 @@
 use native.Mathlib.Omega.{arith}
 use Rattle.tokens.proofs.SymbolSteps.{symbol_end, symbol_unquoted, symbol-quoted, symbol-broken}
 use Rattle.tokens.proofs.Keeping.{kept_all}
-use borrow.Author.Rules.{rules}
 use Rattle.tokens.proofs.values.symbol_at.Goals as goal
 
 pub returns-then-at-text : goal.returns-then-at-text

@@ -1,7 +1,6 @@
 -- `values::text_type` meets its contract: each answer by the tests that led to it. Assumes nothing.
 use mathlib.Core.Path.{sym, ◌∙◌}
 use Rattle.tokens.specs.TokenSteps.{text_type}
-use borrow.Author.Rules.{rules}
 use Rattle.tokens.proofs.values.text_type.Goals as goal
 
 pub returns-then-same_word : goal.returns-then-same_word

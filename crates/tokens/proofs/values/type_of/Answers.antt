@@ -1,6 +1,5 @@
 -- `values::type_of` meets its contract. Assumes nothing.
 use Rattle.tokens.proofs.TokensLaws.{type_number, type_text, type_container}
-use borrow.Author.Rules.{rules}
 use Rattle.tokens.proofs.values.type_of.Goals as goal
 
 pub returns-then-a-ne0 : goal.returns-then-a-ne0
