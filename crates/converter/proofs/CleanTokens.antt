@@ -9,7 +9,7 @@ use lib.ListN.{length, take, drop, take-append-drop}
 use borrow.Author.Tests.{leb-true, not-true}
 use Rattle.output.specs.Logic.{if, byte, ascii}
 use Rattle.output.proofs.Bools.{both}
-use Rattle.text_rules.specs.Texts.{starts, strip, same}
+use Rattle.text_rules.specs.Texts.{starts, strip}
 use Rattle.text_rules.specs.Words.{word, behind_word, kind_of}
 use Rattle.text_rules.specs.Text.{blob_text}
 use Rattle.text_rules.specs.Utf8.{char_at, is_scalar}

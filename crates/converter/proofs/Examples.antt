@@ -15,7 +15,7 @@ use Rattle.text_rules.specs.Utf8.{char_of, lead_of, is_cont, ok2, ok3, ok4}
 use Rattle.tokens.specs.Quoted.{old_raw, strict_raw, raw, character, characters, quote, quoted, string, escape, scalar_escape, letter_escape}
 use Rattle.tokens.specs.Token.{symbol, bare_symbol, quoted_symbol}
 use Rattle.tape.specs.Answer.{counted, refused}
-use Rattle.tape.specs.Tree.{Nodes, Node, Scalar, nil, more, nest, scalar}
+use Rattle.tape.specs.Tree.{Nodes, Scalar, nil, more, nest, scalar}
 use Rattle.tape.specs.declared.Frame.TheVariants.{Struct}
 use Rattle.reader.specs.Grammar.{taken, skip, opener, opens, closes, comma, gap, free, within, note, notes, field, name, head, headed, body, sequence, meaning, numeric}
 use Rattle.reader.specs.Grammar as grammar

@@ -1,16 +1,14 @@
 -- `converter::any_replaced` meets its contract. Assumes nothing.
 -- where no flag is set yet, the whole stays as it is if what is left does
-use Prim.Native.Nat.{◌-◌, ◌≤◌}
 use mathlib.Core.Path.{◌≡◌, sym, ap, ◌∙◌}
 use mathlib.Core.List.{List, [], ◌∷◌}
 use Prim.Native.Nat.{ℕ, ◌+◌}
 use native.Mathlib.Omega.{arith}
-use lib.ListN.{length, get_or, drop, drop_of_length-le}
+use lib.ListN.{get_or, drop, drop_of_length-le}
 use Rattle.lanes.proofs.LaneLaws.{or_left, or_right}
 use Rattle.text_rules.proofs.Places.{byte_at}
 use Rattle.converter.specs.Convert.{converted}
 use Rattle.converter.proofs.Texts.{converted-nothing, converted_kept}
-use borrow.Author.Rules.{rules}
 use Rattle.converter.proofs.any_replaced.Goals as goal
 
 pub loop-i-init : goal.loop-i-init

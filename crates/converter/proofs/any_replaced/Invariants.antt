@@ -1,16 +1,9 @@
 -- `converter::any_replaced` meets its contract. Assumes nothing.
 -- where no flag is set yet, the whole stays as it is if what is left does
 use Prim.Native.Nat.{◌-◌, ◌≤◌}
-use mathlib.Core.Path.{◌≡◌, sym, ap, ◌∙◌}
-use mathlib.Core.List.{List, [], ◌∷◌}
-use Prim.Native.Nat.{ℕ, ◌+◌}
-use native.Mathlib.Omega.{arith}
-use lib.ListN.{length, get_or, drop, drop_of_length-le}
-use Rattle.lanes.proofs.LaneLaws.{or_left, or_right}
-use Rattle.text_rules.proofs.Places.{byte_at}
+use mathlib.Core.Path.{◌≡◌}
+use lib.ListN.{length, drop}
 use Rattle.converter.specs.Convert.{converted}
-use Rattle.converter.proofs.Texts.{converted-nothing, converted_kept}
-use borrow.Author.Rules.{rules}
 use Rattle.converter.proofs.any_replaced.Given as goal
 
 abbrev pub invariant-loop-i : goal.invariant-loop-i

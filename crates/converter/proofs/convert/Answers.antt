@@ -5,12 +5,10 @@ use mathlib.Core.List.{List, ◌++◌}
 use native.Mathlib.Omega.{arith}
 use lib.ListN.{length, drop}
 use lib.Seq.{sets-eq}
-use borrow.Author.Tests.{not-true, not-false}
 use Rattle.tape.specs.Answer.{counted}
 use Rattle.converter.specs.Convert.{converted}
 use Rattle.converter.proofs.Answers.{thirteen, fourteen, finished}
 use Rattle.converter.proofs.Texts.{length_least}
-use borrow.Author.Rules.{rules}
 use Rattle.converter.proofs.convert.Goals as goal
 
 pub returns-then-not-is_old : goal.returns-then-not-is_old

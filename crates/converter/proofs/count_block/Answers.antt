@@ -2,7 +2,6 @@
 use mathlib.Core.Path.{ap}
 use native.Mathlib.Omega.{arith}
 use lib.ListN.{length}
-use borrow.Author.Rules.{rules}
 use Rattle.converter.proofs.count_block.Goals as goal
 
 pub returns-then-any_replaced-eq0 : goal.returns-then-any_replaced-eq0

@@ -1,7 +1,6 @@
 -- `converter::count_byte` meets its contract. Assumes nothing.
 use mathlib.Core.Path.{sym, ◌∙◌}
 use native.Mathlib.Omega.{arith}
-use borrow.Author.Rules.{rules}
 use Rattle.converter.proofs.count_byte.Goals as goal
 
 pub returns-then-is_replaced : goal.returns-then-is_replaced

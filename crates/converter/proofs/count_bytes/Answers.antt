@@ -1,14 +1,13 @@
 -- `converter::count_bytes` meets its contract. Assumes nothing.
 -- what is counted and what is left are the whole
-use Prim.Native.Nat.{ℕ, ◌+◌, ◌*◌, ◌-◌, ◌≤◌}
-use mathlib.Core.Path.{◌≡◌, ap, ◌∙◌}
+use Prim.Native.Nat.{ℕ, ◌+◌}
+use mathlib.Core.Path.{◌≡◌, ap}
 use mathlib.Core.List.{List, []}
 use native.Mathlib.Omega.{arith}
 use lib.ListN.{length, get_or, drop, length-append, drop_of_length-le}
 use Rattle.converter.specs.Convert.{replacement, converted}
 use Rattle.converter.proofs.Steps.{byte_step}
 use Rattle.converter.proofs.Texts.{converted-nothing}
-use borrow.Author.Rules.{rules}
 use Rattle.converter.proofs.count_bytes.Goals as goal
 
 pub loop-i-init : goal.loop-i-init

@@ -1,7 +1,6 @@
 -- `converter::is_old` meets its contract. Assumes nothing.
 use Rattle.tokens.specs.Quoted.{raw_rule}
 use Rattle.converter.specs.Outcome.{is_old}
-use borrow.Author.Rules.{rules}
 use Rattle.converter.proofs.is_old.Goals as goal
 
 pub returns-in_default : goal.returns-in_default

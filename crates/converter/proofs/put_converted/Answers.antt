@@ -1,11 +1,10 @@
 -- `converter::put_converted` meets its contract. Assumes nothing.
-use Prim.Native.Nat.{ℕ, ◌-◌, ◌≤◌}
+use Prim.Native.Nat.{ℕ}
 use mathlib.Core.Path.{◌≡◌}
 use mathlib.Core.List.{List, []}
 use native.Mathlib.Omega.{arith}
-use lib.ListN.{length, drop, drop_of_length-le}
-use Rattle.output.proofs.Laws.{Progress, start, more, finish, wrote-length, wrote-bound}
-use Rattle.converter.specs.Convert.{converted}
+use lib.ListN.{drop, drop_of_length-le}
+use Rattle.output.proofs.Laws.{start, more, finish, wrote-length, wrote-bound}
 use Rattle.converter.proofs.Steps.{block_step}
 use Rattle.converter.proofs.Texts.{converted-nothing}
 use borrow.Author.Rules.{rules}

@@ -1,5 +1,4 @@
 -- `converter::put_converted_block` meets its contract. Assumes nothing.
-use borrow.Author.Rules.{rules}
 use Rattle.converter.proofs.put_converted_block.Goals as goal
 
 pub returns-then-any_replaced-eq0 : goal.returns-then-any_replaced-eq0

@@ -1,6 +1,5 @@
 -- `converter::put_converted_byte` meets its contract. Assumes nothing.
 use mathlib.Core.Path.{sym, ◌∙◌}
-use borrow.Author.Rules.{rules}
 use Rattle.converter.proofs.put_converted_byte.Goals as goal
 
 pub returns-then-is_replaced : goal.returns-then-is_replaced

@@ -1,7 +1,6 @@
 -- `converter::put_output` meets its contract: where nothing is replaced the output is the text. Assumes nothing.
 use native.Mathlib.Omega.{arith}
 use Rattle.converter.proofs.Texts.{length-same}
-use borrow.Author.Rules.{rules}
 use Rattle.converter.proofs.put_output.Goals as goal
 
 pub returns-then-c-eq0 : goal.returns-then-c-eq0

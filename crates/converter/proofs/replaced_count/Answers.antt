@@ -1,6 +1,6 @@
 -- `converter::replaced_count` meets its contract. Assumes nothing.
 -- what is counted and what is left are the whole
-use Prim.Native.Nat.{ℕ, ◌+◌, ◌*◌, ◌-◌, ◌≤◌}
+use Prim.Native.Nat.{ℕ, ◌-◌, ◌≤◌}
 use mathlib.Core.Path.{◌≡◌, ap}
 use mathlib.Core.List.{List, []}
 use native.Mathlib.Omega.{arith}
@@ -8,7 +8,6 @@ use lib.ListN.{length, take, drop, length-append, length-take, length-drop, drop
 use Rattle.converter.specs.Convert.{converted}
 use Rattle.converter.proofs.Steps.{block_step}
 use Rattle.converter.proofs.Texts.{converted-nothing, length_most}
-use borrow.Author.Rules.{rules}
 use Rattle.converter.proofs.replaced_count.Goals as goal
 
 pub loop-i-init : goal.loop-i-init

@@ -1,14 +1,9 @@
 -- `converter::replaced_count` meets its contract. Assumes nothing.
 -- what is counted and what is left are the whole
-use Prim.Native.Nat.{ℕ, ◌+◌, ◌*◌, ◌-◌, ◌≤◌}
-use mathlib.Core.Path.{◌≡◌, ap}
-use mathlib.Core.List.{List, []}
-use native.Mathlib.Omega.{arith}
-use lib.ListN.{length, take, drop, length-append, length-take, length-drop, drop_of_length-le}
+use Prim.Native.Nat.{◌+◌, ◌*◌, ◌-◌, ◌≤◌}
+use mathlib.Core.Path.{◌≡◌}
+use lib.ListN.{length, drop}
 use Rattle.converter.specs.Convert.{converted}
-use Rattle.converter.proofs.Steps.{block_step}
-use Rattle.converter.proofs.Texts.{converted-nothing, length_most}
-use borrow.Author.Rules.{rules}
 use Rattle.converter.proofs.replaced_count.Given as goal
 
 abbrev pub invariant-loop-i : goal.invariant-loop-i

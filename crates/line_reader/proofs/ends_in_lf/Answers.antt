@@ -1,6 +1,5 @@
 -- `line_reader::ends_in_lf` meets its contract. Assumes nothing.
 use mathlib.Core.Path.{refl}
-use borrow.Author.Rules.{rules}
 use Rattle.line_reader.specs.Book.{ends_in_lf}
 use Rattle.line_reader.proofs.LineLaws.{ends-none}
 use Rattle.line_reader.proofs.ends_in_lf.Goals as goal

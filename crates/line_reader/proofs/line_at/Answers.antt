@@ -7,7 +7,6 @@ use Rattle.line_reader.specs.Calls.{past_text, called}
 use Rattle.line_reader.proofs.LineLaws.{step_read}
 use Rattle.line_reader.proofs.CutLaws.{first-within}
 use Rattle.line_reader.proofs.BookLaws.{step_past, step_end}
-use borrow.Author.Rules.{rules}
 use Rattle.line_reader.proofs.line_at.Goals as goal
 
 pub returns-then-n-at : goal.returns-then-n-at

@@ -1,10 +1,8 @@
 -- `line_reader::line_end` meets its contract. The loop carries that the offset sought is the same from each place passed. Assumes nothing.
 use Prim.Native.Nat.{◌+◌, ◌-◌, ◌≤◌}
-use mathlib.Core.Path.{◌≡◌, sym, ◌∙◌}
-use borrow.Author.Rules.{rules}
+use mathlib.Core.Path.{◌≡◌}
 use lib.ListN.{length, drop}
 use Rattle.line_reader.specs.Cut.{to_first}
-use Rattle.line_reader.proofs.LineLaws.{first_found, first_more, first-none}
 use Rattle.line_reader.proofs.line_end.Given as goal
 
 abbrev pub invariant-loop-i : goal.invariant-loop-i

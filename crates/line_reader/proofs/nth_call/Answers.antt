@@ -2,7 +2,6 @@
 use mathlib.Core.Path.{◌∙◌}
 use native.Mathlib.Omega.{arith}
 use Rattle.line_reader.proofs.RunLaws.{nth-none, nth-many, nth-some}
-use borrow.Author.Rules.{rules}
 use Rattle.line_reader.proofs.nth_call.Goals as goal
 
 pub returns-then-n-eq0 : goal.returns-then-n-eq0

@@ -4,13 +4,11 @@ use mathlib.Core.Path.{◌≡◌, sym, ap, ◌∙◌}
 use mathlib.Core.List.{List}
 use mathlib.Core.Bool.{true}
 use native.Mathlib.Omega.{arith}
-use borrow.Author.Tests.{not-true, not-false}
 use lib.ListN.{length, replicate}
 use lib.Seq.{length_front, length-take-le}
 use Rattle.tokens.specs.Quoted.{raw_rule}
 use Rattle.line_reader.specs.Book.{ends_in_lf}
 use Rattle.line_reader.proofs.LineLaws.{ends_long, book_open, book-none, book_several, book_long, book-laid}
-use borrow.Author.Rules.{rules}
 use Rattle.line_reader.proofs.read_line.Goals as goal
 
 pub returns-then-not-ends_in_lf : goal.returns-then-not-ends_in_lf

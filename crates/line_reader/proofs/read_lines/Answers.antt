@@ -1,9 +1,7 @@
 -- `line_reader::read_lines` meets its contract. Assumes nothing.
-use Rattle.std.proofs.Common.{◌≡◌, ℕ, ◌+◌, ◌<◌, ◌≤◌, List, length, drop, arith, refl, sym, ap, ◌∙◌}
-use Rattle.line_reader.specs.Book.{book}
-use Rattle.line_reader.specs.Calls.{step, called, Ran}
-use Rattle.line_reader.specs.declared.Called.{Called}
-use Rattle.line_reader.proofs.RunLaws.{Upto, stored, upto-none, upto_more, stored_more, upto_ran}
+use Rattle.std.proofs.Common.{◌≡◌, ℕ, ◌+◌, ◌<◌, length, arith, refl, sym, ap, ◌∙◌}
+use Rattle.line_reader.specs.Calls.{step, called}
+use Rattle.line_reader.proofs.RunLaws.{upto-none, upto_more, stored_more, upto_ran}
 use Rattle.line_reader.proofs.read_lines.Goals as goal
 
 pub loop-i-init : goal.loop-i-init

@@ -7,7 +7,6 @@ use lib.ListN.{replicate}
 use lib.Seq.{length_front, length-take-le}
 use Rattle.tokens.specs.Quoted.{raw_rule}
 use Rattle.reader.proofs.Whole.{whole-none, whole_long, whole-fits}
-use borrow.Author.Rules.{rules}
 use Rattle.reader.proofs.read_text.Goals as goal
 
 pub slice_bounds-write_tape-end-2 : goal.slice_bounds-write_tape-end-2

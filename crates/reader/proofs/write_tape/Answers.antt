@@ -8,7 +8,6 @@ use lib.ListN.{length}
 use Rattle.tape.specs.Tree.{tape}
 use Rattle.reader.proofs.Reading.{meaning-some, meaning-none}
 use Rattle.reader.proofs.Laying.{laid-tape, laid_bound}
-use borrow.Author.Rules.{rules}
 use Rattle.reader.proofs.write_tape.Goals as goal
 
 pub returns-in_default : goal.returns-in_default

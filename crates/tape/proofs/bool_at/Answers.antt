@@ -3,7 +3,6 @@ use mathlib.Core.Path.{sym}
 use native.Mathlib.Omega.{arith}
 use Rattle.tape.proofs.Parts.{part_length, part_byte}
 use Rattle.tape.proofs.CodeReading.{byte_short, byte_over, byte_some}
-use borrow.Author.Rules.{rules}
 use Rattle.tape.proofs.bool_at.Goals as goal
 
 pub returns-then-end-at-lt2 : goal.returns-then-end-at-lt2

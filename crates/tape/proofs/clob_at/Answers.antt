@@ -3,7 +3,6 @@ use mathlib.Core.Path.{sym, ◌∙◌}
 use Rattle.tape.specs.Bytes.{part}
 use Rattle.tape.specs.Tape.{sized_of}
 use Rattle.tape.proofs.CodeReading.{text_by}
-use borrow.Author.Rules.{rules}
 use Rattle.tape.proofs.clob_at.Goals as goal
 
 pub returns-in_default : goal.returns-in_default

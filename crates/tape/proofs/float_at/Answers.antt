@@ -4,7 +4,6 @@ use native.Mathlib.Omega.{arith}
 use Rattle.tape.proofs.Parts.{part_length, part-number}
 use Rattle.tape.specs.Tape.{float_as}
 use Rattle.tape.proofs.CodeReading.{float_short, float-some}
-use borrow.Author.Rules.{rules}
 use Rattle.tape.proofs.float_at.Goals as goal
 
 pub returns-then-end-at-lt9 : goal.returns-then-end-at-lt9

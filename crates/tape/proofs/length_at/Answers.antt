@@ -3,7 +3,6 @@ use mathlib.Core.Path.{sym}
 use native.Mathlib.Omega.{arith}
 use Rattle.tape.proofs.Parts.{part_length, part-number}
 use Rattle.tape.proofs.CodeReading.{length_short, length_over, length_some}
-use borrow.Author.Rules.{rules}
 use Rattle.tape.proofs.length_at.Goals as goal
 
 pub returns-then-end-at-lt5 : goal.returns-then-end-at-lt5

@@ -4,7 +4,6 @@ use native.Mathlib.Omega.{arith}
 use Rattle.tape.specs.Tape.{name_of}
 use Rattle.tape.specs.declared.Place.TheVariants.{At}
 use Rattle.tape.proofs.CodeReading.{name_struct}
-use borrow.Author.Rules.{rules}
 use Rattle.tape.proofs.name_end.Goals as goal
 
 pub returns-in-Struct : goal.returns-in-Struct

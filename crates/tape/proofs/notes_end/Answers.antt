@@ -10,7 +10,6 @@ use Rattle.tape.specs.Tape.{syms_of}
 use Rattle.tape.specs.declared.Place.TheVariants.{At}
 use Rattle.tape.proofs.Parts.{part_length, part-first, part_byte, part-drop}
 use Rattle.tape.proofs.CodeReading.{notes-empty, notes-none, notes_short, notes_few, notes-many, notes-some, place_map}
-use borrow.Author.Rules.{rules}
 use Rattle.tape.proofs.notes_end.Goals as goal
 
 pub returns-then-at-end : goal.returns-then-at-end

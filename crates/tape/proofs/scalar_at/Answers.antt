@@ -3,7 +3,6 @@ use mathlib.Core.Path.{sym, ◌∙◌}
 use native.Mathlib.Omega.{arith}
 use Rattle.tape.proofs.Parts.{part_length, part-first}
 use Rattle.tape.proofs.CodeReading.{scalar-empty, scalar-null, scalar-bool, scalar_int, scalar-float, scalar_decimal, scalar-timestamp, scalar-symbol, scalar-string, scalar-clob, scalar-blob, scalar-other}
-use borrow.Author.Rules.{rules}
 use Rattle.tape.proofs.scalar_at.Goals as goal
 
 pub returns-then-at-end : goal.returns-then-at-end

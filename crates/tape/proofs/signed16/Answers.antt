@@ -4,7 +4,6 @@ use native.Mathlib.Omega.{arith}
 use mir.Syntax.{w16}
 use Rattle.tape.proofs.Numbers.{signed_is}
 use Rattle.tape.proofs.CodeReading.{signed_inverted}
-use borrow.Author.Rules.{rules}
 use Rattle.tape.proofs.signed16.Goals as goal
 
 pub returns-then-b-lt32768 : goal.returns-then-b-lt32768

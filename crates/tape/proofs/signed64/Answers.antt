@@ -4,7 +4,6 @@ use native.Mathlib.Omega.{arith}
 use mir.Syntax.{w64}
 use Rattle.tape.proofs.Numbers.{signed_is}
 use Rattle.tape.proofs.CodeReading.{signed_inverted}
-use borrow.Author.Rules.{rules}
 use Rattle.tape.proofs.signed64.Goals as goal
 
 pub returns-then-b-lt9223372036854775808 : goal.returns-then-b-lt9223372036854775808

@@ -3,7 +3,6 @@ use mathlib.Core.Path.{◌≡◌, sym, ap}
 use native.Mathlib.Omega.{arith}
 use Prim.Native.Nat.{◌+◌}
 use Rattle.tape.specs.Steps.{size_of}
-use borrow.Author.Rules.{rules}
 use Rattle.tape.proofs.size_of.Goals as goal
 
 pub overflow_add-result : goal.overflow_add-result

@@ -4,7 +4,6 @@ use native.Mathlib.Omega.{arith}
 use Rattle.tape.specs.Bytes.{part}
 use Rattle.tape.proofs.Parts.{part_length, part-first, part-number}
 use Rattle.tape.proofs.CodeReading.{sym-text, sym_id, sym_none, sym_short}
-use borrow.Author.Rules.{rules}
 use Rattle.tape.proofs.sym_at.Goals as goal
 
 pub returns-then-at-end : goal.returns-then-at-end

@@ -1,7 +1,6 @@
 -- `tape::symbol_at` meets its contract. Assumes nothing.
 use mathlib.Core.Path.{sym}
 use Rattle.tape.specs.Tape.{symbol_of}
-use borrow.Author.Rules.{rules}
 use Rattle.tape.proofs.symbol_at.Goals as goal
 
 pub returns-in-Bad : goal.returns-in-Bad

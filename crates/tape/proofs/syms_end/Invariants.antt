@@ -1,13 +1,9 @@
 -- `tape::syms_end` meets its contract: behind the symbols passed, as many as are left. Assumes nothing.
-use mathlib.Core.Path.{◌≡◌, refl, sym, ◌∙◌}
+use mathlib.Core.Path.{◌≡◌}
 use Prim.Native.Nat.{◌≤◌}
-use Rattle.tape.specs.Tape.{syms_of, sym_of}
+use Rattle.tape.specs.Tape.{syms_of}
 use Rattle.tape.specs.Steps.{place_of}
-use Rattle.tape.specs.Tree.{encode_sym}
 use Rattle.tape.specs.Bytes.{part}
-use Rattle.tape.proofs.Reading.{sym_sound}
-use Rattle.tape.proofs.CodeReading.{syms_bad, syms_one, syms-done, place-within}
-use borrow.Author.Rules.{rules}
 use Rattle.tape.proofs.syms_end.Given as goal
 
 abbrev pub invariant-loop-left : goal.invariant-loop-left

@@ -6,7 +6,6 @@ use Rattle.numbers.specs.declared.timestamp.Timestamp.{Timestamp}
 use Rattle.tape.specs.Tree.{timestamp}
 use Rattle.tape.proofs.Parts.{part_length}
 use Rattle.tape.proofs.CodeReading.{timestamp_short, timestamp-some, timestamp-part}
-use borrow.Author.Rules.{rules}
 use Rattle.tape.proofs.timestamp_at.Goals as goal
 
 pub returns-then-end-at-lt16 : goal.returns-then-end-at-lt16

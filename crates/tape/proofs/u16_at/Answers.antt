@@ -1,7 +1,6 @@
 -- `tape::u16_at` meets its contract. Assumes nothing.
 use native.Mathlib.Omega.{arith}
 use Rattle.tape.proofs.CodeReading.{le_two}
-use borrow.Author.Rules.{rules}
 use Rattle.tape.proofs.u16_at.Goals as goal
 
 pub returns : goal.returns

@@ -3,7 +3,6 @@ use native.Mathlib.Omega.{arith}
 use lib.ListN.{length}
 use Rattle.tape.proofs.Parts.{part-first, part_byte}
 use Rattle.tape.proofs.CodeReading.{le_four}
-use borrow.Author.Rules.{rules}
 use Rattle.tape.proofs.u32_at.Goals as goal
 
 pub returns : goal.returns

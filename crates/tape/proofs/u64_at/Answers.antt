@@ -1,7 +1,6 @@
 -- `tape::u64_at` meets its contract: four bytes and four bytes. Assumes nothing.
 use native.Mathlib.Omega.{arith}
 use Rattle.tape.proofs.CodeReading.{le_both}
-use borrow.Author.Rules.{rules}
 use Rattle.tape.proofs.u64_at.Goals as goal
 
 pub returns : goal.returns

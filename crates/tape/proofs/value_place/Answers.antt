@@ -7,7 +7,6 @@ use Rattle.tape.specs.Tree.{encode_name}
 use Rattle.tape.proofs.Reading.{name_sound}
 use Rattle.tape.proofs.CodeReading.{place-within, head_one, head-none}
 use Rattle.tape.proofs.Sizes.{taken_none, taken_there}
-use borrow.Author.Rules.{rules}
 use Rattle.tape.proofs.value_place.Goals as goal
 
 pub returns-in_default : goal.returns-in_default

@@ -10,7 +10,6 @@ use Rattle.tape.specs.Tape.{kind}
 use Rattle.tape.specs.Steps.{size_at}
 use Rattle.tape.proofs.Parts.{part_length, part-first, part-number}
 use Rattle.tape.proofs.Sizes.{some_there, size_two, size_nine, size_decimal, size-timestamp, size_id, size_marker, size_long}
-use borrow.Author.Rules.{rules}
 use Rattle.tape.proofs.value_size.Goals as goal
 
 module _ (t : List ℕ) (at end : ℕ) (h : end ≤ length t) (z : 0 < size_at (part t at end)) where

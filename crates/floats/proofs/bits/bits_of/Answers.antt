@@ -5,7 +5,6 @@ use Prim.Native.Nat.{ℕ, ◌+◌}
 use lib.Ieee.{binary64, to_bits}
 use Rattle.floats.specs.Value.{whole_float}
 use Rattle.floats.proofs.ValueLaws.{negative-bits}
-use borrow.Author.Rules.{rules}
 use Rattle.floats.proofs.bits.bits_of.Goals as goal
 
 pub returns-then-neg : goal.returns-then-neg

@@ -5,7 +5,6 @@ use native.Mathlib.Omega.{arith}
 use native.Mathlib.Nat.{mul-div_cancel, div-mul-le_self}
 use lib.Pow.{pow_pos}
 use Rattle.floats.proofs.ValueBits.{exponent, fraction, zero-told, low_told, part-told, over_told, most_told, past_told, some-told, none_told}
-use borrow.Author.Rules.{rules}
 use Rattle.floats.proofs.bits.magnitude_of.Goals as goal
 
 pub returns-then-t-eq0 : goal.returns-then-t-eq0

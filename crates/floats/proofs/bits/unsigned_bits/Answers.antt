@@ -8,7 +8,6 @@ use lib.Ieee.{binary64, to_bits}
 use Rattle.floats.specs.Value.{whole_float}
 use Rattle.floats.proofs.ValueLaws.{zero_bits, most_bits, moved_bits}
 use Rattle.floats.proofs.ValueBits.{moved}
-use borrow.Author.Rules.{rules}
 use Rattle.floats.proofs.bits.unsigned_bits.Goals as goal
 
 pub returns-then-n-eq0 : goal.returns-then-n-eq0

@@ -9,7 +9,6 @@ use Rattle.text_rules.proofs.Places.{end-at}
 use Rattle.text_rules.proofs.ReadingLaws.{refused, reads_from}
 use Rattle.floats.proofs.FloatsBits.{no_nan}
 use Rattle.floats.proofs.FloatLaws.{float-nothing, at_above, at-digit, at-minus, at_other, spelled_here, spelled-other}
-use borrow.Author.Rules.{rules}
 use Rattle.floats.proofs.float.float_at.Goals as goal
 
 pub returns-then-at-text : goal.returns-then-at-text

@@ -6,7 +6,6 @@ use lib.Ieee.{Float, is_nan}
 use Rattle.output.specs.Wrote.{le_bytes}
 use Rattle.floats.specs.Float.{float_text}
 use Rattle.floats.proofs.FloatsBits.{self, other, bits_of_it}
-use borrow.Author.Rules.{rules}
 use Rattle.floats.proofs.float.format_float.Goals as goal
 
 pub returns-then-x : goal.returns-then-x

@@ -2,7 +2,6 @@
 use lib.Ieee.{div, of_bits}
 use Rattle.text_rules.proofs.ReadingLaws.{refused}
 use Rattle.floats.proofs.FloatLaws.{nan_here, nan-other}
-use borrow.Author.Rules.{rules}
 use Rattle.floats.proofs.float.nan_at.Goals as goal
 
 pub returns-then-same_word : goal.returns-then-same_word

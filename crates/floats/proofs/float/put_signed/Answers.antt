@@ -1,7 +1,6 @@
 -- `floats::float::put_signed` meets its contract. Assumes nothing.
 use Rattle.output.proofs.Laws.{wrote_then}
 use Rattle.numbers.specs.Decimal.{sign}
-use borrow.Author.Rules.{rules}
 use Rattle.floats.proofs.float.put_signed.Goals as goal
 
 pub returns-then-neg : goal.returns-then-neg

@@ -8,7 +8,6 @@ use Rattle.text_rules.proofs.ReadingLaws.{refused}
 use Rattle.floats.proofs.WholeOnce.{whole_once}
 use Rattle.floats.proofs.ValueBits.{whole_pattern}
 use Rattle.floats.proofs.FloatLaws.{signed-none, signed-some}
-use borrow.Author.Rules.{rules}
 use Rattle.floats.proofs.float.signed_at.Goals as goal
 
 pub returns-in_default : goal.returns-in_default

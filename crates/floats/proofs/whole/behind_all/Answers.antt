@@ -4,7 +4,6 @@ use mathlib.Core.Path.{sym, ◌∙◌}
 use Rattle.text_rules.proofs.Places.{next}
 use Rattle.text_rules.proofs.ReadingLaws.{refused, reads_from}
 use Rattle.floats.specs.Whole.{behind_all}
-use borrow.Author.Rules.{rules}
 use Rattle.floats.proofs.whole.behind_all.Goals as goal
 
 pub behind_e-requires : goal.behind_e-requires

@@ -9,7 +9,6 @@ use Rattle.text_rules.proofs.ReadingLaws.{refused, reads_from}
 use Rattle.numbers.proofs.NumeralLaws.{whole-at}
 use Rattle.floats.specs.Whole.{behind_e}
 use Rattle.floats.proofs.WholeLaws.{e_far}
-use borrow.Author.Rules.{rules}
 use Rattle.floats.proofs.whole.behind_e.Goals as goal
 
 pub overflow_sub-k : goal.overflow_sub-k

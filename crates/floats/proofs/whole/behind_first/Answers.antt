@@ -8,7 +8,6 @@ use Rattle.text_rules.proofs.Places.{next}
 use Rattle.text_rules.proofs.ReadingLaws.{refused, reads_from}
 use Rattle.floats.specs.Whole.{behind_first}
 use Rattle.floats.proofs.WholeLaws.{first-zero, first-none, first_some, first_over}
-use borrow.Author.Rules.{rules}
 use Rattle.floats.proofs.whole.behind_first.Goals as goal
 
 pub returns-then-m-eq0 : goal.returns-then-m-eq0

@@ -3,7 +3,6 @@ use mathlib.Core.Path.{sym}
 use native.Mathlib.Omega.{arith}
 use Rattle.output.proofs.Laws.{wrote_then}
 use Rattle.floats.proofs.WholeLaws.{text_zero, text_parts}
-use borrow.Author.Rules.{rules}
 use Rattle.floats.proofs.whole.format_whole.Goals as goal
 
 pub returns-then-n-eq0 : goal.returns-then-n-eq0

@@ -1,7 +1,6 @@
 -- `floats::whole::put_exponent` meets its contract. Assumes nothing.
 use Rattle.output.proofs.Laws.{wrote_then}
 use Rattle.floats.proofs.WholeLaws.{digits_one}
-use borrow.Author.Rules.{rules}
 use Rattle.floats.proofs.whole.put_exponent.Goals as goal
 
 pub returns-then-e-lt10 : goal.returns-then-e-lt10

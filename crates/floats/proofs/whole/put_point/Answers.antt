@@ -3,7 +3,6 @@ use mathlib.Core.Path.{sym, ◌∙◌}
 use native.Mathlib.Omega.{arith}
 use Rattle.output.proofs.Laws.{wrote_then}
 use Rattle.floats.proofs.WholeLaws.{point_one, point_more}
-use borrow.Author.Rules.{rules}
 use Rattle.floats.proofs.whole.put_point.Goals as goal
 
 pub returns-then-w-eq1 : goal.returns-then-w-eq1

@@ -3,7 +3,6 @@ use native.Mathlib.Omega.{arith}
 use Rattle.output.proofs.Laws.{wrote_then}
 use Rattle.numbers.proofs.Pointed.{under-8}
 use Rattle.floats.proofs.WholeLaws.{point-word}
-use borrow.Author.Rules.{rules}
 use Rattle.floats.proofs.whole.put_short.Goals as goal
 
 pub eight_digits-requires : goal.eight_digits-requires

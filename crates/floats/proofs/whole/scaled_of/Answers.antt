@@ -3,7 +3,6 @@ use native.Mathlib.Omega.{arith}
 use native.Mathlib.Nat.{le-div_iff_mul-le, div-lt_iff_lt-mul}
 use Rattle.text_rules.proofs.ReadingLaws.{refused}
 use Rattle.floats.proofs.WholeLaws.{read_here, scaled-zero, scaled-none, scaled_ten, scaled_far, scaled-part, scaled_most, scaled-some}
-use borrow.Author.Rules.{rules}
 use Rattle.floats.proofs.whole.scaled_of.Goals as goal
 
 pub returns-then-e-eq0 : goal.returns-then-e-eq0

@@ -3,7 +3,6 @@ use mathlib.Core.Path.{◌∙◌}
 use Prim.Native.Nat.{◌/◌}
 use native.Mathlib.Omega.{arith}
 use Rattle.floats.proofs.WholeLaws.{trim}
-use borrow.Author.Rules.{rules}
 use Rattle.floats.proofs.whole.significant_of.Goals as goal
 
 pub returns-then-n-eq0 : goal.returns-then-n-eq0

@@ -1,11 +1,8 @@
 -- `floats::whole::trimmed` meets its contract. The invariant: a trailing zero less has the same significant digits. Assumes nothing.
-use mathlib.Core.Path.{◌≡◌, refl, ◌∙◌}
-use Prim.Native.Nat.{◌/◌, ◌^◌, ◌<◌}
-use native.Mathlib.Omega.{arith}
+use mathlib.Core.Path.{◌≡◌}
+use Prim.Native.Nat.{◌^◌, ◌<◌}
 use Rattle.text_rules.specs.Digits.{digits}
 use Rattle.floats.specs.Whole.{significant}
-use Rattle.floats.proofs.WholeDigits.{significant-digits}
-use Rattle.floats.proofs.WholeLaws.{trim}
 use Rattle.floats.proofs.whole.trimmed.Given as goal
 
 abbrev pub invariant-loop-m : goal.invariant-loop-m

@@ -6,7 +6,6 @@ use Rattle.text_rules.proofs.Places.{byte_at, end-at}
 use Rattle.text_rules.proofs.ReadingLaws.{refused, reads_from}
 use Rattle.floats.specs.Whole.{whole_number}
 use Rattle.floats.proofs.WholeLaws.{whole_below, whole_above, whole-digit}
-use borrow.Author.Rules.{rules}
 use Rattle.floats.proofs.whole.whole_at.Goals as goal
 
 pub returns-then-at-text : goal.returns-then-at-text

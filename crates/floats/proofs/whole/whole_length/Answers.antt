@@ -5,7 +5,6 @@ use native.Mathlib.Omega.{arith}
 use Rattle.text_rules.specs.Digits.{count}
 use Rattle.floats.specs.Whole.{whole_text}
 use Rattle.floats.proofs.WholeLaws.{length_one, length_more}
-use borrow.Author.Rules.{rules}
 use Rattle.floats.proofs.whole.whole_length.Goals as goal
 
 pub returns-then-n-eq0 : goal.returns-then-n-eq0

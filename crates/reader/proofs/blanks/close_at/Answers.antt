@@ -2,7 +2,6 @@
 use native.Mathlib.Omega.{arith}
 use Rattle.text_rules.proofs.Places.{byte_at, end-at}
 use Rattle.reader.specs.Grammar.{closes}
-use borrow.Author.Rules.{rules}
 use Rattle.reader.proofs.blanks.close_at.Goals as goal
 
 pub returns-then-at-text : goal.returns-then-at-text

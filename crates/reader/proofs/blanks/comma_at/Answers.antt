@@ -3,7 +3,6 @@ use native.Mathlib.Omega.{arith}
 use mathlib.Core.Path.{sym, ◌∙◌}
 use Rattle.text_rules.proofs.Places.{next}
 use Rattle.reader.specs.Grammar.{comma}
-use borrow.Author.Rules.{rules}
 use Rattle.reader.proofs.blanks.comma_at.Goals as goal
 
 pub overflow_add-result : goal.overflow_add-result

@@ -1,6 +1,5 @@
 -- `blanks::gap_at` meets its contract: each arm is told its frame. Assumes nothing.
 use Rattle.reader.specs.Grammar.{gap}
-use borrow.Author.Rules.{rules}
 use Rattle.reader.proofs.blanks.gap_at.Goals as goal
 
 pub returns-in-Top : goal.returns-in-Top

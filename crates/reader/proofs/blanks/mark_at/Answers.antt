@@ -2,7 +2,6 @@
 use native.Mathlib.Omega.{arith}
 use mathlib.Core.Path.{sym, ◌∙◌}
 use Rattle.reader.proofs.Between.{mark_here, mark_none}
-use borrow.Author.Rules.{rules}
 use Rattle.reader.proofs.blanks.mark_at.Goals as goal
 
 pub overflow_add-result : goal.overflow_add-result

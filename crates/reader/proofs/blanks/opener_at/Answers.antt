@@ -4,7 +4,6 @@ use mathlib.Core.Path.{sym, ◌∙◌}
 use borrow.Author.Tests.{ne_eqb}
 use Rattle.text_rules.proofs.Places.{byte_at, end-at}
 use Rattle.reader.specs.Grammar.{opens, opener}
-use borrow.Author.Rules.{rules}
 use Rattle.reader.proofs.blanks.opener_at.Goals as goal
 
 pub returns-then-at-text : goal.returns-then-at-text

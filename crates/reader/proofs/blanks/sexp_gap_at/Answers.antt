@@ -4,7 +4,6 @@ use mathlib.Core.Path.{sym, ◌∙◌}
 use Rattle.text_rules.proofs.Places.{end-at}
 use Rattle.reader.specs.Grammar.{gap}
 use Rattle.reader.proofs.Between.{gap_close, gap-blank, gap_other}
-use borrow.Author.Rules.{rules}
 use Rattle.reader.proofs.blanks.sexp_gap_at.Goals as goal
 
 pub returns-then-at-text : goal.returns-then-at-text

@@ -1,12 +1,7 @@
 -- `blanks::skip_blanks` meets its contract. Assumes nothing.
-use Prim.Native.Nat.{◌-◌, ◌≤◌}
-use mathlib.Core.Path.{◌≡◌, refl, sym, ◌∙◌}
+use mathlib.Core.Path.{refl, sym, ◌∙◌}
 use native.Mathlib.Omega.{arith}
-use lib.ListN.{length, drop}
-use borrow.Author.Tests.{not-true, not-false}
-use Rattle.reader.specs.Grammar.{skip}
 use Rattle.reader.proofs.Between.{skip_stop, skip-blank, skip-none}
-use borrow.Author.Rules.{rules}
 use Rattle.reader.proofs.blanks.skip_blanks.Goals as goal
 
 pub loop-i-init : goal.loop-i-init

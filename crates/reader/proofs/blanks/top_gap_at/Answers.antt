@@ -3,7 +3,6 @@ use native.Mathlib.Omega.{arith}
 use mathlib.Core.Path.{sym, ◌∙◌}
 use Rattle.text_rules.proofs.Places.{byte_at, end-at}
 use Rattle.reader.specs.Grammar.{gap}
-use borrow.Author.Rules.{rules}
 use Rattle.reader.proofs.blanks.top_gap_at.Goals as goal
 
 pub returns-then-at-text : goal.returns-then-at-text

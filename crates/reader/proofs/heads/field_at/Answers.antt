@@ -1,7 +1,6 @@
 -- `heads::field_at` meets its contract. Assumes nothing.
 use native.Mathlib.Omega.{arith}
 use Rattle.reader.proofs.HeadSteps.{field-none, field_alone, field_here}
-use borrow.Author.Rules.{rules}
 use Rattle.reader.proofs.heads.field_at.Goals as goal
 
 pub returns-in_default : goal.returns-in_default

@@ -1,5 +1,4 @@
 -- `heads::free_of` meets its contract. Assumes nothing.
-use borrow.Author.Rules.{rules}
 use Rattle.reader.proofs.heads.free_of.Goals as goal
 
 pub returns-in-Top : goal.returns-in-Top

@@ -1,7 +1,6 @@
 -- `heads::head_at` meets its contract. Assumes nothing.
 use Rattle.reader.proofs.Laying.{laid_bound}
 use Rattle.reader.proofs.HeadSteps.{head-none, head-notes}
-use borrow.Author.Rules.{rules}
 use Rattle.reader.proofs.heads.head_at.Goals as goal
 
 pub returns-in_default : goal.returns-in_default

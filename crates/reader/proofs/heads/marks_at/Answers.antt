@@ -1,17 +1,10 @@
 -- `heads::marks_at` meets its contract. The invariant says what is left to show. Assumes nothing.
 use native.Mathlib.Omega.{arith}
-use borrow.Author.Tests.{not-true}
-use Prim.Native.Nat.{ℕ, ◌+◌, ◌-◌, ◌≤◌}
+use Prim.Native.Nat.{◌+◌, ◌-◌}
 use mathlib.Core.Path.{◌≡◌, refl, ap, ◌∙◌}
-use mathlib.Core.List.{List}
 use lib.ListN.{length}
-use Rattle.output.specs.Wrote.{limit}
-use Rattle.tokens.specs.Quoted.{raw_rule}
-use Rattle.reader.specs.Steps.{MarksAt}
-use Rattle.reader.specs.declared.heads.Run.{Run}
 use Rattle.reader.proofs.Laying.{laid_bound}
 use Rattle.reader.proofs.HeadSteps.{marks_end, marks_over, marks_more}
-use borrow.Author.Rules.{rules}
 use Rattle.reader.proofs.heads.marks_at.Goals as goal
 
 pub loop-from-init : goal.loop-from-init

@@ -1,10 +1,8 @@
 -- `heads::may_note` meets its contract. Assumes nothing.
 use native.Mathlib.Omega.{arith}
 use mathlib.Core.Path.{sym, ◌∙◌}
-use borrow.Author.Tests.{not-true}
 use Rattle.text_rules.proofs.DigitLaws.{never}
 use Rattle.reader.proofs.HeadSteps.{note-end, note-other, note_bare}
-use borrow.Author.Rules.{rules}
 use Rattle.reader.proofs.heads.may_note.Goals as goal
 
 pub returns-then-at-text : goal.returns-then-at-text

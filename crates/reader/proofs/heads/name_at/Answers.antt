@@ -4,7 +4,6 @@ use Rattle.tape.specs.declared.Frame.TheVariants.{Top, List as ListF, Sexp}
 use Rattle.tokens.specs.Quoted.{raw_rule}
 use Rattle.reader.specs.Grammar.{name}
 use Rattle.reader.proofs.HeadSteps.{name_no, name-field}
-use borrow.Author.Rules.{rules}
 use Rattle.reader.proofs.heads.name_at.Goals as goal
 
 pub returns-in-Top : goal.returns-in-Top

@@ -1,9 +1,7 @@
 -- `heads::note_at` meets its contract: a symbol is looked for first, and then written. Assumes nothing.
 use native.Mathlib.Omega.{arith}
 use mathlib.Core.Path.{refl}
-use borrow.Author.Tests.{not-true, not-false}
 use Rattle.reader.proofs.HeadSteps.{note-none, note_alone, note-again, symbol_clash}
-use borrow.Author.Rules.{rules}
 use Rattle.reader.proofs.heads.note_at.Goals as goal
 
 pub returns-in_default : goal.returns-in_default

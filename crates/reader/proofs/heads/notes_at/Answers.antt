@@ -1,10 +1,8 @@
 -- `heads::notes_at` meets its contract. Assumes nothing.
 use native.Mathlib.Omega.{arith}
 use mathlib.Core.Path.{refl}
-use borrow.Author.Tests.{not-true}
 use Rattle.reader.proofs.Laying.{laid_bound}
 use Rattle.reader.proofs.HeadSteps.{notes_no, notes-broken, notes-some}
-use borrow.Author.Rules.{rules}
 use Rattle.reader.proofs.heads.notes_at.Goals as goal
 
 pub returns-then-not-may_note : goal.returns-then-not-may_note

@@ -2,7 +2,6 @@
 use native.Mathlib.Omega.{arith}
 use Rattle.tokens.proofs.Keeping.{kept_before}
 use Rattle.reader.proofs.HeadSteps.{symbol-text, symbol-id}
-use borrow.Author.Rules.{rules}
 use Rattle.reader.proofs.heads.symbol_at.Goals as goal
 
 pub overflow_sub-e : goal.overflow_sub-e

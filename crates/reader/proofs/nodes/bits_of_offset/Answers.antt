@@ -1,6 +1,5 @@
 -- `nodes::bits_of_offset` meets its contract. Assumes nothing.
 use Rattle.reader.proofs.Signs.{through-16}
-use borrow.Author.Rules.{rules}
 use Rattle.reader.proofs.nodes.bits_of_offset.Goals as goal
 
 pub returns : goal.returns

@@ -1,7 +1,6 @@
 -- `nodes::date_word` meets its contract. Assumes nothing.
 use native.Mathlib.Omega.{arith}
 use Rattle.reader.proofs.NodeWords.{date-bytes}
-use borrow.Author.Rules.{rules}
 use Rattle.reader.proofs.nodes.date_word.Goals as goal
 
 pub returns : goal.returns

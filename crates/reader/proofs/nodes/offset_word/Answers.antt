@@ -2,7 +2,6 @@
 use mathlib.Core.Path.{sym}
 use native.Mathlib.Omega.{arith}
 use Rattle.reader.proofs.NodeWords.{offset_bytes, offset_bits}
-use borrow.Author.Rules.{rules}
 use Rattle.reader.proofs.nodes.offset_word.Goals as goal
 
 pub overflow_add-result : goal.overflow_add-result

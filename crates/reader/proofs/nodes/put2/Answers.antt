@@ -1,6 +1,5 @@
 -- `nodes::put2` meets its contract. Assumes nothing.
 use Rattle.output.proofs.Laws.{wrote_then}
-use borrow.Author.Rules.{rules}
 use Rattle.reader.proofs.nodes.put2.Goals as goal
 
 pub returns : goal.returns

@@ -3,7 +3,6 @@ use mir.Syntax.{w32}
 use mir.ValLaws.{to_z-of_z}
 use Rattle.output.proofs.Laws.{wrote_then}
 use Rattle.tape.specs.Tree.{encode_scalar}
-use borrow.Author.Rules.{rules}
 use Rattle.reader.proofs.nodes.put_decimal.Goals as goal
 
 pub returns : goal.returns

@@ -1,6 +1,5 @@
 -- `nodes::put_float` meets its contract. Assumes nothing.
 use Rattle.tape.specs.Tree.{encode_scalar}
-use borrow.Author.Rules.{rules}
 use Rattle.reader.proofs.nodes.put_float.Goals as goal
 
 pub returns : goal.returns

@@ -2,7 +2,6 @@
 use mir.Syntax.{w64}
 use mir.ValLaws.{to_z-of_z}
 use Rattle.tape.specs.Tree.{encode_scalar}
-use borrow.Author.Rules.{rules}
 use Rattle.reader.proofs.nodes.put_int.Goals as goal
 
 pub returns : goal.returns

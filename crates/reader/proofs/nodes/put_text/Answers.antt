@@ -1,7 +1,6 @@
 -- `nodes::put_text` meets its contract. Assumes nothing.
 use Rattle.output.proofs.Laws.{wrote_then}
 use Rattle.tape.specs.Tree.{sized}
-use borrow.Author.Rules.{rules}
 use Rattle.reader.proofs.nodes.put_text.Goals as goal
 
 pub returns : goal.returns

@@ -2,7 +2,6 @@
 use mathlib.Core.Path.{sym}
 use Rattle.output.proofs.Laws.{wrote_then}
 use Rattle.reader.proofs.NodeWords.{timestamp-bytes}
-use borrow.Author.Rules.{rules}
 use Rattle.reader.proofs.nodes.put_timestamp.Goals as goal
 
 pub returns : goal.returns

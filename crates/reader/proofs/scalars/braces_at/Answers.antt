@@ -1,6 +1,5 @@
 -- `scalars::braces_at` meets its contract. Assumes nothing.
 use native.Mathlib.Omega.{arith}
-use borrow.Author.Rules.{rules}
 use Rattle.reader.proofs.ScalarSteps.{braces-clob, braces-other, braces-end}
 use Rattle.reader.proofs.scalars.braces_at.Goals as goal
 use Rattle.reader.proofs.scalars.braces_at.Goals.{then-text-at-gt2+else-text-at-eq34, else-text-at-gt2}

@@ -3,7 +3,6 @@ use native.Mathlib.Omega.{arith}
 use Rattle.tokens.proofs.Keeping.{kept_before}
 use Rattle.reader.specs.Steps.{clob_node}
 use Rattle.reader.proofs.ScalarSteps.{taken_none, copied_clob}
-use borrow.Author.Rules.{rules}
 use Rattle.reader.proofs.scalars.clob_at.Goals as goal
 
 pub returns-in_default : goal.returns-in_default

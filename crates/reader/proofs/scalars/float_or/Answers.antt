@@ -3,7 +3,6 @@ use Rattle.tape.specs.Tree.{encode}
 use Rattle.reader.specs.Steps.{float_node}
 use Rattle.reader.proofs.Laying.{laid}
 use Rattle.reader.proofs.ScalarSteps.{untimed_float, untimed_other}
-use borrow.Author.Rules.{rules}
 use Rattle.reader.proofs.scalars.float_or.Goals as goal
 
 pub returns-in_default : goal.returns-in_default

@@ -3,7 +3,6 @@ use Rattle.tokens.proofs.Keeping.{kept_all}
 use Rattle.tape.specs.Tree.{encode, encode_scalar}
 use Rattle.reader.specs.Steps.{null_node}
 use Rattle.reader.proofs.ScalarSteps.{taken_none, read_some}
-use borrow.Author.Rules.{rules}
 use Rattle.reader.proofs.scalars.null_at.Goals as goal
 
 pub returns-in_default : goal.returns-in_default

@@ -2,7 +2,6 @@
 use Rattle.tape.specs.Tree.{encode}
 use Rattle.reader.proofs.Laying.{laid}
 use Rattle.reader.proofs.ScalarSteps.{timestamp_node, number-timed, number_untimed}
-use borrow.Author.Rules.{rules}
 use Rattle.reader.proofs.scalars.number_at.Goals as goal
 
 pub returns-in_default : goal.returns-in_default

@@ -5,7 +5,6 @@ use Rattle.tokens.proofs.Keeping.{kept_all}
 use Rattle.tape.specs.Tree.{encode}
 use Rattle.reader.specs.Grammar.{numeral_node}
 use Rattle.reader.proofs.ScalarSteps.{taken_none, read_some}
-use borrow.Author.Rules.{rules}
 use Rattle.reader.proofs.scalars.put_numeral.Goals as goal
 
 pub returns-in-Int : goal.returns-in-Int

@@ -3,7 +3,6 @@ use native.Mathlib.Omega.{arith}
 use mathlib.Core.Path.{sym, ◌∙◌}
 use Rattle.tokens.proofs.Keeping.{kept_all}
 use Rattle.reader.proofs.ScalarSteps.{scalar-end, scalar-string, scalar-quoted, scalar-braces, scalar-number, scalar-word}
-use borrow.Author.Rules.{rules}
 use Rattle.reader.proofs.scalars.scalar_at.Goals as goal
 
 pub returns-then-at-text : goal.returns-then-at-text

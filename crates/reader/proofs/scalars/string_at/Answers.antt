@@ -2,7 +2,6 @@
 use native.Mathlib.Omega.{arith}
 use Rattle.tokens.proofs.Keeping.{kept_before}
 use Rattle.reader.proofs.ScalarSteps.{string-none, copied_string}
-use borrow.Author.Rules.{rules}
 use Rattle.reader.proofs.scalars.string_at.Goals as goal
 
 pub returns-in_default : goal.returns-in_default

@@ -9,7 +9,6 @@ use Rattle.tokens.proofs.Keeping.{kept_all}
 use Rattle.tape.specs.Tree.{Scalar, Node, encode, encode_scalar, encode_sym}
 use Rattle.tape.proofs.Numbers.{float-bits-nan}
 use Rattle.reader.proofs.ScalarSteps.{word_none, word_here, word-null}
-use borrow.Author.Rules.{rules}
 use Rattle.reader.proofs.scalars.word_at.Goals as goal
 
 pub returns-in-Null : goal.returns-in-Null

@@ -2,17 +2,9 @@
 -- bracket before it calls `sequence`, and `sequence` calls `value` at the same place or behind it.
 -- The invariant of the loop is what is left to show: whatever holds of the rest of the sequence from the present place gives what the contract says of the whole.
 -- Assumes nothing.
-use Prim.Native.Nat.{ℕ, suc, ◌-◌, ◌*◌, ◌≤◌, ◌<◌}
-use mathlib.Core.Path.{◌≡◌, refl, ◌∙◌}
-use mathlib.Core.List.{List}
+use mathlib.Core.Path.{refl, ◌∙◌}
 use native.Mathlib.Nat.{le_refl}
 use native.Mathlib.Omega.{arith}
-use borrow.Author.Rules.{rules}
-use lib.ListN.{length}
-use Rattle.output.specs.Wrote.{limit}
-use Rattle.tokens.specs.Quoted.{raw_rule}
-use Rattle.reader.specs.Steps.{RunAt}
-use Rattle.reader.specs.declared.heads.Run.{Run}
 use Rattle.reader.proofs.Laying.{laid_bound}
 use Rattle.reader.proofs.Cycle.{opens-inside, value-at_headless, value-at-head, body_at_deep, body_at-scalar, body_at-broken, body_at_nest, run_end, run_no_child, run_no_gap, run_more}
 use Rattle.reader.proofs.values.+sequence_value.Goals as goal

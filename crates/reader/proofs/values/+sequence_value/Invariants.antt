@@ -1,7 +1,7 @@
 -- With n bytes of text left, `value` measures 2n and `sequence` 2n + 1: `value` passes the bracket before it calls `sequence`, and `sequence` calls
 -- `value` at the same place or behind it. The invariant of the loop is what is left to show: whatever holds of the rest of the sequence from the present
 -- place gives what the contract says of the whole. Assumes nothing.
-use Rattle.std.proofs.Common.{ℕ, suc, ◌+◌, ◌-◌, ◌*◌, ◌≡◌, ◌≤◌, List, length}
+use Rattle.std.proofs.Common.{ℕ, suc, ◌-◌, ◌*◌, ◌≡◌, ◌≤◌, List, length}
 use Rattle.output.specs.Wrote.{limit}
 use Rattle.tokens.specs.Quoted.{raw_rule}
 use Rattle.reader.specs.Steps.{RunAt}

@@ -4,7 +4,7 @@ use mathlib.Core.List.{List}
 use mathlib.Core.Bool.{Bool, false, ◌||◌, or-false}
 use native.Mathlib.Omega.{arith}
 use lib.ListN.{length, get_or}
-use Prim.Native.Nat.{ℕ, ◌+◌, ◌-◌, ◌<◌, ◌≤◌}
+use Prim.Native.Nat.{ℕ, ◌+◌, ◌<◌, ◌≤◌}
 use Rattle.tape.specs.Bytes.{part}
 use Rattle.tape.specs.Tree.{encode_name}
 use Rattle.tape.specs.Tape.{kind, name_of, notes_of, name_fault, walk}
@@ -21,7 +21,6 @@ use Rattle.tape.proofs.CodeFacts.{Ended, end_read, read_within, front-none}
 use Rattle.tape.proofs.Turns.{HeadSeen, LeafSeen, TreeTurn, name-refused, notes-refused, notes-turn, end_refused, size-refused, size-turn, blob-refused, blob-turn, span-refused, span-turn, other-refused, marker_refused, marker_turn}
 use Rattle.tape.proofs.CodeWalk.{Passed, passed_none, refuse, refuse_node, refuse_deep, pass, passed-all}
 use Rattle.tape.proofs.Parts.{trailed}
-use borrow.Author.Rules.{rules}
 use Rattle.tape.proofs.check.check_nodes.Reads as own
 use Rattle.tape.proofs.check.+check_nodes.Lts-check_nodes as lts
 use Rattle.tape.proofs.check.refused.Reads as refused

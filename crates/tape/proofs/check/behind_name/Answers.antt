@@ -7,7 +7,6 @@ use Rattle.tape.specs.Tape.{sym_of, name_of, sym_fault}
 use Rattle.tape.proofs.Reading.{sym_sound}
 use Rattle.tape.proofs.CodeFacts.{read_within, sym_read, name_bad, name_good}
 use Rattle.tape.proofs.Parts.{trailed}
-use borrow.Author.Rules.{rules}
 use Rattle.tape.proofs.check.behind_name.Goals as goal
 
 pub returns-then-n-eq0 : goal.returns-then-n-eq0

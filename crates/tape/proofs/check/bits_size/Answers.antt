@@ -3,7 +3,6 @@ use Prim.Native.Nat.{◌%◌}
 use mathlib.Core.Path.{sym}
 use native.Mathlib.Omega.{arith}
 use lib.Ieee.{binary64, of_bits}
-use borrow.Author.Rules.{rules}
 use borrow.Author.Tests.{eq-eqb, ne_eqb, lt-ltb, le-ltb}
 use Rattle.tape.specs.Tape.{float_as, float_fault, scalar_fault}
 use Rattle.tape.proofs.CodeFloats.{whole-low, whole-fault, inf-fault, other-fault}

@@ -8,7 +8,6 @@ use Rattle.tape.specs.Tape.{scalar_fault}
 use Rattle.tape.specs.CheckSteps.{scalar_code}
 use Rattle.tape.proofs.Parts.{part_length, part_byte}
 use Rattle.tape.proofs.CodeReading.{byte_short, byte_over, byte_some}
-use borrow.Author.Rules.{rules}
 use Rattle.tape.proofs.check.bool_size.Goals as goal
 
 pub returns-then-end-at-lt2 : goal.returns-then-end-at-lt2

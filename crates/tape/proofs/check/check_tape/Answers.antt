@@ -5,7 +5,6 @@ use lib.Dec.{eqb}
 use Rattle.output.specs.Logic.{if}
 use Rattle.tape.specs.Bytes.{first}
 use Rattle.tape.proofs.CodeVerdict.{misfit_short, misfit_long, misfit_body, refuse_misfit, refuse_nodes, accept}
-use borrow.Author.Rules.{rules}
 use Rattle.tape.proofs.check.check_tape.Goals as goal
 
 pub returns-then-n-lt8 : goal.returns-then-n-lt8

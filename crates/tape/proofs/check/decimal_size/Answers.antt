@@ -6,7 +6,6 @@ use Rattle.tape.specs.Tape.{scalar_fault}
 use Rattle.tape.specs.CheckSteps.{scalar_code}
 use Rattle.tape.proofs.Parts.{part_length, part_byte}
 use Rattle.tape.proofs.CodeReading.{decimal_short, decimal_over, decimal_some}
-use borrow.Author.Rules.{rules}
 use Rattle.tape.proofs.check.decimal_size.Goals as goal
 
 pub returns-then-end-at-lt14 : goal.returns-then-end-at-lt14

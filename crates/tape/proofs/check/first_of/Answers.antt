@@ -1,7 +1,6 @@
 -- `tape::check::first_of` meets its contract. Assumes nothing.
 use mathlib.Core.Path.{sym}
 use Rattle.tape.proofs.CodeFacts.{first_inner}
-use borrow.Author.Rules.{rules}
 use Rattle.tape.proofs.check.first_of.Goals as goal
 
 pub returns-else-p-eq0 : goal.returns-else-p-eq0

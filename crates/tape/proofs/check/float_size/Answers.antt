@@ -7,7 +7,6 @@ use Rattle.tape.specs.Tape.{float_as}
 use Rattle.tape.specs.CheckSteps.{scalar_code}
 use Rattle.tape.proofs.Parts.{part_length, part-number}
 use Rattle.tape.proofs.CodeReading.{float_short, float-some}
-use borrow.Author.Rules.{rules}
 use Rattle.tape.proofs.check.float_size.Goals as goal
 
 pub returns-then-end-at-lt9 : goal.returns-then-end-at-lt9

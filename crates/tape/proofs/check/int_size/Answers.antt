@@ -6,7 +6,6 @@ use Rattle.tape.specs.Tape.{scalar_fault}
 use Rattle.tape.specs.CheckSteps.{scalar_code}
 use Rattle.tape.proofs.Parts.{part_length}
 use Rattle.tape.proofs.CodeReading.{int_short, int_some}
-use borrow.Author.Rules.{rules}
 use Rattle.tape.proofs.check.int_size.Goals as goal
 
 pub returns-then-end-at-lt9 : goal.returns-then-end-at-lt9

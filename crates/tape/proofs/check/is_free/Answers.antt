@@ -4,7 +4,6 @@ use lib.ListN.{get_or}
 use Rattle.tape.proofs.Parts.{part-first}
 use Rattle.tape.specs.Tape.{free_at}
 use Rattle.tape.proofs.CodeReading.{if_not}
-use borrow.Author.Rules.{rules}
 use Rattle.tape.proofs.check.is_free.Goals as goal
 
 pub returns-in-Top : goal.returns-in-Top

@@ -5,7 +5,6 @@ use Rattle.tape.specs.Bytes.{part}
 use Rattle.tape.proofs.Parts.{part_length, part-first, part-number}
 use Rattle.tape.proofs.CodeReading.{sym_short}
 use Rattle.tape.proofs.CodeFacts.{number-none, number-other, number_id}
-use borrow.Author.Rules.{rules}
 use Rattle.tape.proofs.check.is_number.Goals as goal
 
 pub returns-then-tape-at-ne7 : goal.returns-then-tape-at-ne7

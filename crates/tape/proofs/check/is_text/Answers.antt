@@ -6,7 +6,6 @@ use lib.Seq.{take-take}
 use Rattle.output.specs.Wrote.{le_bytes}
 use Rattle.output.proofs.Words.{take-le}
 use Rattle.text_rules.specs.Utf8.{after, valid}
-use borrow.Author.Rules.{rules}
 use Rattle.tape.proofs.check.is_text.Goals as goal
 
 pub returns-then-n-eq0 : goal.returns-then-n-eq0

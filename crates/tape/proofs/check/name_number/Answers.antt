@@ -3,7 +3,6 @@ use mathlib.Core.Path.{◌∙◌}
 use Rattle.tape.specs.Tape.{name_of}
 use Rattle.tape.specs.CheckSteps.{name_number_in}
 use Rattle.tape.proofs.CodeFacts.{number-name}
-use borrow.Author.Rules.{rules}
 use Rattle.tape.proofs.check.name_number.Goals as goal
 
 pub returns-in-Struct : goal.returns-in-Struct

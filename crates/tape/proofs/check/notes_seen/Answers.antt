@@ -7,7 +7,6 @@ use Rattle.tape.proofs.Parts.{part_length, part-first, part_byte, part-drop}
 use Rattle.tape.proofs.CodeReading.{notes-empty, notes-none, notes_short, notes_few, notes-many}
 use Rattle.tape.proofs.CodeFacts.{front-none, front-notes}
 use Rattle.tape.proofs.Parts.{trailed}
-use borrow.Author.Rules.{rules}
 use Rattle.tape.proofs.check.notes_seen.Goals as goal
 
 pub returns-then-at-end : goal.returns-then-at-end

@@ -5,7 +5,6 @@ use Rattle.tape.specs.CheckSteps.{scalar_code}
 use Rattle.tape.proofs.Parts.{part-first}
 use Rattle.tape.proofs.CodeReading.{scalar-null, scalar-bool, scalar_int, scalar-float, scalar_decimal, scalar-timestamp, scalar-symbol, scalar-string, scalar-clob}
 use Rattle.tape.proofs.CodeFacts.{six_on, to_seven, code-symbol, code-string, code-clob}
-use borrow.Author.Rules.{rules}
 use Rattle.tape.proofs.check.scalar_size.Goals as goal
 
 pub returns-then-k-eq0 : goal.returns-then-k-eq0

@@ -4,7 +4,6 @@ use native.Mathlib.Omega.{arith}
 use Rattle.tape.specs.Bytes.{part}
 use Rattle.tape.proofs.Parts.{part_length, part-number}
 use Rattle.tape.proofs.CodeFacts.{span_short, span_over, span_fits}
-use borrow.Author.Rules.{rules}
 use Rattle.tape.proofs.check.span.Goals as goal
 
 pub returns-then-end-at-lt5 : goal.returns-then-end-at-lt5

@@ -8,7 +8,6 @@ use Rattle.tape.proofs.Parts.{part_length, part-first}
 use Rattle.tape.proofs.CodeReading.{sym_id, sym_none, sym_short}
 use Rattle.tape.proofs.CodeFacts.{code_text}
 use Rattle.tape.proofs.Parts.{trailed}
-use borrow.Author.Rules.{rules}
 use Rattle.tape.proofs.check.sym_size.Goals as goal
 
 pub returns-then-end-at-lt5 : goal.returns-then-end-at-lt5

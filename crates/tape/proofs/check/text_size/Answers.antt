@@ -10,7 +10,6 @@ use Rattle.tape.specs.Tape.{text_fault}
 use Rattle.tape.specs.CheckSteps.{code_of}
 use Rattle.tape.proofs.Parts.{part_length}
 use Rattle.tape.proofs.CodeFacts.{part_text, span_none, span-is, span_text}
-use borrow.Author.Rules.{rules}
 use Rattle.tape.proofs.check.text_size.Goals as goal
 
 pub returns-then-n-eq0 : goal.returns-then-n-eq0

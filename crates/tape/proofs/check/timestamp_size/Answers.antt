@@ -8,7 +8,6 @@ use Rattle.tape.specs.CheckSteps.{scalar_code}
 use Rattle.tape.proofs.Parts.{part_length}
 use Rattle.tape.proofs.CodeReading.{timestamp_short, timestamp-part}
 use Rattle.tape.proofs.CodeFacts.{code-timestamp}
-use borrow.Author.Rules.{rules}
 use Rattle.tape.proofs.check.timestamp_size.Goals as goal
 
 pub returns-then-end-at-lt16 : goal.returns-then-end-at-lt16

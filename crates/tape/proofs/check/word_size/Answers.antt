@@ -11,7 +11,6 @@ use Rattle.tape.specs.CheckSteps.{code_of}
 use Rattle.tape.proofs.Parts.{part_length}
 use Rattle.tape.proofs.CodeFacts.{part_text, span_none, span-is, span_text}
 use Rattle.tape.proofs.Parts.{trailed}
-use borrow.Author.Rules.{rules}
 use Rattle.tape.proofs.check.word_size.Goals as goal
 
 pub returns-then-n-eq0 : goal.returns-then-n-eq0
