@@ -19,7 +19,7 @@ for k, d in data.items():
         f.ensures, f.helpers, f.settled = [], {}, set()
         fns[norm(m.group(1))] = f
 single = len(fns) == 1
-final = text[text.rindex("= close"):]
+final = text[[m.start() for m in re.finditer(r"=\s+close\b", text)][-1]:]
 order = {}
 for m in re.finditer(r"(" + IDENT + r")-lts\.spec\b", final):
     nxt = re.search(IDENT + r"-lts\.spec\b", final[m.end():])
@@ -61,6 +61,11 @@ for x in decls:
         fields = fn.d["asked"].get(nd[0])
         if fields and len(fields) > 1:
             tp = tuple_parts(expr)
+            while tp and len(tp[1]) < len(fields) and tp[1] and tp[1][-1].startswith("(") and tuple_parts(tp[1][-1]) and not tuple_parts(tp[1][-1])[0].strip():
+                more = tuple_parts(tp[1][-1])[1]
+                if len(more) < 2:
+                    break
+                tp = (tp[0], tp[1][:-1] + more)
             if tp and len(tp[1]) == len(fields):
                 expr = tp[0] + "record { " + "; ".join(f"{a} = {b}" for a, b in zip(fields, tp[1])) + " }"
             else:

@@ -357,6 +357,8 @@ def clauses(lines, roots, fn):
         if v in roots:
             skip, full = 0, fs
         elif v in alias:
+            if alias[v][1] and alias[v][1] != ["ensures"]:
+                return m.group(0)
             full = [alias[v][0]] + alias[v][1] + fs
             skip = 1 + len(alias[v][1])
         else:

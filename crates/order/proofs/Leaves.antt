@@ -16,7 +16,7 @@ use Rattle.text_rules.specs.Text.{Sym}
 use Rattle.floats.specs.Value.{is_negative}
 use Rattle.numbers.specs.declared.timestamp.Timestamp.{Timestamp}
 use Rattle.tape.specs.Bytes.{part, le_number, signed}
-use Rattle.tape.specs.Tree.{Scalar, null, bool, int, float, timestamp, symbol, string, clob, blob, bit, timestampSize}
+use Rattle.tape.specs.Tree.{Scalar, null, bool, int, float, timestamp, symbol, string, clob, blob, bit}
 use Rattle.tape.specs.Tape.{reading, kind, length_of, float_as, decimal_of, timestamp_as, symbol_of, sized_of, scalar_of}
 use Rattle.tape.specs.declared.Place.TheVariants.{Bad as Nowhere, At}
 use Rattle.tape.proofs.Parts.{part_length, part-first, part_byte, part-number, part-inner}
@@ -220,13 +220,13 @@ module _ (s : List ℕ) (at e : ℕ) (g : Leaf s at e) where
       least t h (yes g) = g
       least t h (no g) = absurd (there (t ∙ decimal_over l h (omega arith)))
 
-  pub timestamp_key : get_or s at 0 ≡ 5 → KeyAt s at e timestampSize (by_numbers 5 (fields_of (timestamp_as (drop at s))))
+  pub timestamp_key : get_or s at 0 ≡ 5 → KeyAt s at e 16 (by_numbers 5 (fields_of (timestamp_as (drop at s))))
   unfolding key_of
   timestamp_key k =
       let t = scalar-timestamp l (first_byte ∙ k) in
       let n = len in
-      let h = long timestampSize (λ h. t ∙ timestamp_short l h) in
-      record { room = omega arith; key = key_from (timestamp (timestamp_as l)) timestampSize (t ∙ timestamp-some l h) ∙ ap (λ (x : Timestamp). by_numbers 5 (fields_of x)) (sym (timestamp-part s at e (omega arith))) }
+      let h = long 16 (λ h. t ∙ timestamp_short l h) in
+      record { room = omega arith; key = key_from (timestamp (timestamp_as l)) 16 (t ∙ timestamp-some l h) ∙ ap (λ (x : Timestamp). by_numbers 5 (fields_of x)) (sym (timestamp-part s at e (omega arith))) }
 
   head_key : 5 ≤ length l → length_of l ≡ number_at s at 4 1
   head_key h = let n = len in part-number s at e 4 1 (omega arith)

@@ -1,12 +1,13 @@
 // The order on accepted tapes.
 #![tactic(auto)]
+
 ghost use Rattle.std.specs.Prelude.{◌≡◌, List, ℕ, ◌+◌, ◌-◌, ◌*◌, ◌^◌, ◌<◌, ◌≤◌, not, length, get_or, take, drop};
 ghost use Rattle.std.proofs.Math.Option.{none};
 ghost use Rattle.std.specs.Float.{binary64};
 ghost use Rattle.std.specs.Float.Ieee.{of_bits};
 ghost use Rattle.floats.specs.Whole.{most_whole};
 ghost use Rattle.floats.specs.Value.{magnitude};
-ghost use Rattle.tape.specs.Tree.{bit, timestampSize};
+ghost use Rattle.tape.specs.Tree.{bit};
 ghost use Rattle.tape.specs.Bytes.{part, le_number, signed};
 ghost use Rattle.tape.specs.Tape.{scalar_of, syms_of, name_of, notes_of, head_of, timestamp_as, walk};
 ghost use Rattle.order.specs.declared.Order.{Order as OrderS};
@@ -372,6 +373,12 @@ fn wide16(x: u16) -> u64
     x as u64
 }
 
+fn wide32(x: u32) -> u64
+    ensures { result ≡ x }
+{
+    x as u64
+}
+
 fn then_numbers(x: u64, y: u64, c: u8) -> u8
     ensures { result ≡ then_code (code (numbers x y)) c }
 {
@@ -388,7 +395,7 @@ fn then_bytes(x: u8, y: u8, c: u8) -> u8
 fn compare_late(x: Timestamp, y: Timestamp) -> u8
     ensures { result ≡ code (lists integers (late_of x) (late_of y)) }
 {
-    let c = compare_numbers(x.fraction, y.fraction);
+    let c = compare_numbers(wide32(x.fraction), wide32(y.fraction));
     let d = then_bytes(x.digits, y.digits, c);
     then_numbers(biased16(x.offset), biased16(y.offset), d)
 }
@@ -407,8 +414,8 @@ fn compare_times(x: Timestamp, y: Timestamp) -> u8
 }
 
 fn compare_timestamp(a: &[u8], p: usize, b: &[u8], q: usize) -> u8
-    requires timestamp_size_in_bounds { p + timestampSize ≤ length a.now }
-    requires timestamp_size_in_bounds_2 { q + timestampSize ≤ length b.now }
+    requires timestamp_size_in_bounds { p + 16 ≤ length a.now }
+    requires timestamp_size_in_bounds_2 { q + 16 ≤ length b.now }
     ensures { result ≡ code (lists integers (fields_of (timestamp_as (drop p a.now))) (fields_of (timestamp_as (drop q b.now)))) }
 {
     let x = tape::timestamp_of(a, p);

@@ -1,0 +1,15 @@
+-- `order::pass_known` meets its contract. Assumes nothing.
+use mathlib.Core.Path.{◌≡◌, refl}
+use native.Mathlib.Omega.{arith}
+use Prim.Native.Nat.{◌+◌, ◌-◌, ◌<◌}
+use Rattle.tape.specs.Fine.{Bytes}
+use Rattle.order.specs.Steps.{Passed}
+use Rattle.order.proofs.SharedLaws.{value_here, passed_none, passed_on}
+use Rattle.order.proofs.ValueLaws.{no_depth}
+use Rattle.order.proofs.pass_known.Given as goal
+
+abbrev pub invariant-loop-x : goal.invariant-loop-x
+invariant-loop-x l = (l.stop ≡ l.at + l.known) × Passed l.depth l.frame l.tape l.at l.end l.known l.x
+
+abbrev pub decreases-loop-x : goal.decreases-loop-x
+decreases-loop-x l = l.stop - l.x
