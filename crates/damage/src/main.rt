@@ -5,7 +5,8 @@
 // Before that come document 01's two examples, on the first tape, answer by answer. A tape stands in a frame: u32 length, and its bytes. The
 // tapes and what they must give come from tests/damage.py.
 #![tactic(auto)]
-use libc::{STDIN_FILENO, STDOUT_FILENO};
+
+use std::io;
 use tape::answer::Answer;
 
 const PRIME: u64 = 4294967291;
@@ -29,16 +30,13 @@ fn feed_bytes(start: u64, bytes: &[u8]) -> u64 {
     d
 }
 
-fn say_number(n: u64) {
-    io::print_decimal(STDOUT_FILENO, n);
-}
-
 // The tape in hex, the refusal or `end`, on a line.
-fn say(a: Answer, out: &[u8]) {
+fn say(rt: &impl Print, a: Answer, out: &[u8]) -> io::Result<()> {
     let mut line = [0u8; 1024];
     let p = program_io::put_answer(&mut line, 0, a, out);
     let e = output::put(&mut line, p, b'\n');
-    program_io::print(&line, e);
+    program_io::print(rt, &line, e)?;
+    Ok(())
 }
 
 // Minus a refusal, modulo the prime.
@@ -84,7 +82,7 @@ fn feed_after(d: u64, text: &[u8], out: &mut [u8]) -> u64 {
 
 // A digest with the calls on a text through the end mark, each from what the last one left, in a buffer of 256 bytes that is `#` all over
 // at first. Aloud, a line for each answer is printed.
-fn feed_calls(start: u64, text: &[u8], aloud: bool) -> u64 {
+fn feed_calls(rt: &impl Print, start: u64, text: &[u8], aloud: bool) -> io::Result<u64> {
     let mut out = [b'#'; 256];
     let mut d = start;
     let mut at: usize = 0;
@@ -95,14 +93,14 @@ fn feed_calls(start: u64, text: &[u8], aloud: bool) -> u64 {
         at = c.at;
         d = feed_call(d, answer, at, &out);
         if aloud {
-            say(answer, &out);
+            say(rt, answer, &out)?;
         }
         if is_end(answer) {
-            return feed_after(d, text, &mut out);
+            return Ok(feed_after(d, text, &mut out));
         }
         calls += 1;
     }
-    d
+    Ok(d)
 }
 
 // Two calls more, the first as the last of a list of n.
@@ -163,51 +161,56 @@ fn one_more(n: u64) -> u64 {
     if n < 1000000 { n + 1 } else { n }
 }
 
-fn feed_damaged(d: u64, differ: u64, text: &[u8], from: usize, to: usize, new: &[u8]) -> Fed {
+fn feed_damaged(
+    rt: &impl Print,
+    fed: Fed,
+    text: &[u8],
+    from: usize,
+    to: usize,
+    new: &[u8],
+) -> io::Result<Fed> {
     let mut made = [0u8; 256];
     let n = replace(text, from, to, new, &mut made);
     if 256 < n {
-        return Fed {
-            digest: d,
-            differ: one_more(differ),
-        };
+        return Ok(Fed {
+            digest: fed.digest,
+            differ: one_more(fed.differ),
+        });
     }
-    let digest = feed_calls(d, &made[0..n], false);
-    if digest == feed_lists(d, &made[0..n]) {
-        return Fed { digest, differ };
+    let digest = feed_calls(rt, fed.digest, &made[0..n], false)?;
+    if digest == feed_lists(fed.digest, &made[0..n]) {
+        return Ok(Fed {
+            digest,
+            differ: fed.differ,
+        });
     }
-    Fed {
+    Ok(Fed {
         digest,
-        differ: one_more(differ),
-    }
+        differ: one_more(fed.differ),
+    })
 }
 
 // How many texts, their digest, and on how many of them the lists of calls differ.
-fn say_digest(texts: usize, d: u64, differ: u64) {
-    io::write_all(STDOUT_FILENO, b": ");
-    say_number(texts as u64);
-    io::write_all(STDOUT_FILENO, b" texts, ");
-    say_number(d);
-    io::write_all(STDOUT_FILENO, b", lists differ on ");
-    say_number(differ);
-    io::write_all(STDOUT_FILENO, b"\n");
+fn say_digest(rt: &impl Print, texts: usize, fed: Fed) -> io::Result<()> {
+    let Fed { digest, differ } = fed;
+    println!(rt; ": {texts} texts, {digest}, lists differ on {differ}")
 }
 
 // Each run of so many bytes replaced by the same bytes.
-fn replace_each(text: &[u8], width: usize, new: &[u8]) {
-    let mut d: u64 = 0;
-    let mut differ: u64 = 0;
+fn replace_each(rt: &impl Print, text: &[u8], width: usize, new: &[u8]) -> io::Result<()> {
+    let mut fed = Fed {
+        digest: 0,
+        differ: 0,
+    };
     let mut i: usize = 0;
     while i <= text.len() {
         if text.len() - i < width {
             break;
         }
-        let f = feed_damaged(d, differ, text, i, i + width, new);
-        d = f.digest;
-        differ = f.differ;
+        fed = feed_damaged(rt, fed, text, i, i + width, new)?;
         i += 1;
     }
-    say_digest(i, d, differ);
+    say_digest(rt, i, fed)
 }
 
 fn following(b: u8) -> u8 {
@@ -215,83 +218,67 @@ fn following(b: u8) -> u8 {
 }
 
 // Each byte replaced by the byte with the next number.
-fn raise(text: &[u8]) {
-    let mut d: u64 = 0;
-    let mut differ: u64 = 0;
+fn raise(rt: &impl Print, text: &[u8]) -> io::Result<()> {
+    let mut fed = Fed {
+        digest: 0,
+        differ: 0,
+    };
     let mut i: usize = 0;
     while i < text.len() {
-        let new = [following(text[i])];
-        let f = feed_damaged(d, differ, text, i, i + 1, &new);
-        d = f.digest;
-        differ = f.differ;
+        fed = feed_damaged(rt, fed, text, i, i + 1, &[following(text[i])])?;
         i += 1;
     }
-    io::write_all(STDOUT_FILENO, b"raised");
-    say_digest(i, d, differ);
+    print!(rt; "raised")?;
+    say_digest(rt, i, fed)
 }
 
 // Each byte changed to `b`.
-fn change(text: &[u8], b: u8) {
-    io::write_all(STDOUT_FILENO, b"changed to ");
-    say_number(wide(b));
-    replace_each(text, 1, &[b]);
+fn change(rt: &impl Print, text: &[u8], b: u8) -> io::Result<()> {
+    print!(rt; "changed to {b}")?;
+    replace_each(rt, text, 1, &[b])
 }
 
 // Each run of `n` bytes cut.
-fn cut(text: &[u8], n: usize) {
-    io::write_all(STDOUT_FILENO, b"cut ");
-    say_number(n as u64);
-    replace_each(text, n, b"");
+fn cut(rt: &impl Print, text: &[u8], n: usize) -> io::Result<()> {
+    print!(rt; "cut {n}")?;
+    replace_each(rt, text, n, b"")
 }
 
 // `b` inserted at each place.
-fn insert(text: &[u8], b: u8) {
-    io::write_all(STDOUT_FILENO, b"inserted ");
-    say_number(wide(b));
-    replace_each(text, 0, &[b]);
+fn insert(rt: &impl Print, text: &[u8], b: u8) -> io::Result<()> {
+    print!(rt; "inserted {b}")?;
+    replace_each(rt, text, 0, &[b])
 }
 
-fn change_each(text: &[u8]) {
-    change(text, b'\n');
-    change(text, b'x');
-    change(text, b'"');
-    change(text, b'[');
-    change(text, b'\'');
-    change(text, 0);
-    change(text, 255);
-    raise(text);
+fn change_each(rt: &impl Print, text: &[u8]) -> io::Result<()> {
+    for b in [b'\n', b'x', b'"', b'[', b'\'', 0, 255] {
+        change(rt, text, b)?;
+    }
+    raise(rt, text)
 }
 
-fn cut_each(text: &[u8]) {
-    cut(text, 1);
-    cut(text, 2);
-    cut(text, 3);
-    cut(text, 4);
-    cut(text, 5);
-    cut(text, 6);
-    cut(text, 7);
-    cut(text, 8);
+fn cut_each(rt: &impl Print, text: &[u8]) -> io::Result<()> {
+    for n in 1..9usize {
+        cut(rt, text, n)?;
+    }
+    Ok(())
 }
 
-fn insert_each(text: &[u8]) {
-    insert(text, b'\n');
-    insert(text, b'"');
-    insert(text, b'\'');
-    insert(text, b'[');
-    insert(text, b']');
-    insert(text, b'{');
-    insert(text, b'(');
-    insert(text, b'\\');
-    insert(text, b',');
+fn insert_each(rt: &impl Print, text: &[u8]) -> io::Result<()> {
+    for b in [b'\n', b'"', b'\'', b'[', b']', b'{', b'(', b'\\', b','] {
+        insert(rt, text, b)?;
+    }
+    Ok(())
 }
 
-fn show_damaged(text: &[u8], from: usize, to: usize) {
+fn show_damaged(rt: &impl Print, text: &[u8], from: usize, to: usize) -> io::Result<()> {
     let mut made = [0u8; 256];
     let n = replace(text, from, to, b"x", &mut made);
     if n <= 256 {
-        io::write_all(STDOUT_FILENO, &made[0..n]);
-        feed_calls(0, &made[0..n], true);
+        rt.write_all(&made[0..n])?;
+        feed_calls(rt, 0, &made[0..n], true)?;
     }
+    Ok(())
 }
 
 // Whether the buffer starts with the tape and is `#` behind it.
@@ -332,15 +319,11 @@ fn layouts_back(quoted: bool, tape: &[u8]) -> u64 {
 }
 
 // Under both settings.
-fn say_back(tape: &[u8]) {
+fn say_back(rt: &impl Print, tape: &[u8]) -> io::Result<()> {
     let off = layouts_back(false, tape);
     let on = layouts_back(true, tape);
-    io::write_all(
-        STDOUT_FILENO,
-        b"written and read back, differs in layouts: ",
-    );
-    say_number((off % 4) + (on % 4));
-    io::write_all(STDOUT_FILENO, b"\n");
+    let both = (off % 4) + (on % 4);
+    println!(rt; "written and read back, differs in layouts: {both}")
 }
 
 // Whether the buffer is the text with what stands behind it, but `#` at a place, which may lie past its end.
@@ -437,72 +420,70 @@ fn texts_measured(quoted: bool, tape: &[u8], text: &[u8]) -> u64 {
 }
 
 // Under both settings.
-fn say_measured(tape: &[u8], text: &[u8]) {
+fn say_measured(rt: &impl Print, tape: &[u8], text: &[u8]) -> io::Result<()> {
     let off = texts_measured(false, tape, text);
     let on = texts_measured(true, tape, text);
-    io::write_all(STDOUT_FILENO, b"measured and written, differs in texts: ");
-    say_number((off % 8) + (on % 8));
-    io::write_all(STDOUT_FILENO, b"\n");
+    let both = (off % 8) + (on % 8);
+    println!(rt; "measured and written, differs in texts: {both}")
 }
 
-fn damage(tape: &[u8], text: &[u8], first: bool) {
+fn damage(rt: &impl Print, tape: &[u8], text: &[u8], first: bool) -> io::Result<()> {
     if first {
-        show_damaged(text, 2, 4);
-        show_damaged(text, 2, 3);
+        show_damaged(rt, text, 2, 4)?;
+        show_damaged(rt, text, 2, 3)?;
     }
-    say_back(tape);
-    say_measured(tape, text);
-    io::write_all(STDOUT_FILENO, text);
-    change_each(text);
-    cut_each(text);
-    insert_each(text);
+    say_back(rt, tape)?;
+    say_measured(rt, tape, text)?;
+    rt.write_all(text)?;
+    change_each(rt, text)?;
+    cut_each(rt, text)?;
+    insert_each(rt, text)
 }
 
-fn write_and_damage(tape: &[u8], first: bool) -> bool {
+fn write_and_damage(rt: &impl Print, tape: &[u8], first: bool) -> io::Result<bool> {
     let mut out = [0u8; 256];
     let a = writer::writer::write_stream(1, tape, &mut out);
     match a {
         Answer::Count(n) => {
             if 256 < n {
-                return false;
+                return Ok(false);
             }
-            damage(tape, &out[0..n], first);
-            true
+            damage(rt, tape, &out[0..n], first)?;
+            Ok(true)
         }
-        _ => false,
+        _ => Ok(false),
     }
 }
 
 // Whether a frame is one whose text can be damaged.
-fn frame(frame: &[u8], first: bool) -> bool {
+fn frame(rt: &impl Print, frame: &[u8], first: bool) -> io::Result<bool> {
     if frame.len() < 4 {
-        return false;
+        return Ok(false);
     }
-    write_and_damage(&frame[4..], first)
+    write_and_damage(rt, &frame[4..], first)
 }
 
 // Whether all of the input is frames. Stops before the first that is malformed.
-fn all(input: &[u8]) -> bool {
+fn all(rt: &impl Print, input: &[u8]) -> io::Result<bool> {
     let mut at: usize = 0;
     while at < input.len() {
         let end = program_io::frame_end(input, at, 4);
         if end == at {
-            return false;
+            return Ok(false);
         }
-        if !frame(&input[at..end], at == 0) {
-            return false;
+        if !frame(rt, &input[at..end], at == 0)? {
+            return Ok(false);
         }
         at = end;
     }
-    true
+    Ok(true)
 }
 
-fn main() {
-    let mut input = io::large_buffer();
-    let n = io::read_full(STDIN_FILENO, &mut input);
-    if n <= 65536 {
-        if !all(&input[0..n]) {
-            io::write_all(STDOUT_FILENO, b"malformed input\n");
-        }
+fn main(rt: HostRuntime) -> io::Result<()> {
+    let mut input = [0u8; 65536];
+    let n = program_io::read_full(&mut rt.stdin(), &mut input)?;
+    if !all(&rt, &input[0..n])? {
+        println!(rt; "malformed input")?;
     }
+    Ok(())
 }

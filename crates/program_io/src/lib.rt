@@ -1,13 +1,17 @@
-// What the programs share: hex digits and refusals put into a buffer, a buffer printed, and where the parts of an input end.
+// What the programs share: hex digits and refusals put into a buffer, a buffer printed, what the system refused told, an input read, and where
+// the parts of an input end.
 #![tactic(auto)]
-ghost use Rattle.std.specs.Prelude.{◌≡◌, true, ◌+◌, ◌<◌, ◌≤◌, length, drop};
+
+ghost use Rattle.std.specs.Prelude.{◌≡◌, true, ◌+◌, ◌<◌, ◌≤◌, length, drop, IfOk};
 ghost use Rattle.output.specs.Wrote.{Wrote, limit};
 ghost use Rattle.text_rules.specs.Escapes.{hex_digit};
 ghost use Rattle.tape.specs.Answer.{outcome};
 ghost use Rattle.program_io.specs.Shown.{hex_text, refusal_text, answer_text};
 ghost use Rattle.program_io.specs.Framed.{framed, distance};
 
-use libc::STDOUT_FILENO;
+use std::fmt::{Display, InlineText};
+use std::io;
+use std::io::Read;
 use tape::answer::Answer;
 
 // ---- what is printed
@@ -63,14 +67,44 @@ pub fn put_answer(buf: &mut [u8], pos: usize, a: Answer, out: &[u8]) -> usize
     }
 }
 
-// The first n bytes of a buffer on standard output. Says whether it has so many and all of them are out.
-pub fn print(buf: &[u8], n: usize) -> bool
-    ensures { result ≡ true → n ≤ length buf.now }
+// The first n bytes of a buffer on standard output. Says whether the buffer has so many, or why they are not out.
+pub fn print(rt: &impl Print, buf: &[u8], n: usize) -> io::Result<bool>
+    ensures { IfOk result (λ whole. whole ≡ true → n ≤ length buf.now) }
 {
     if buf.len() < n {
-        return false;
+        return Ok(false);
     }
-    io::write_all(STDOUT_FILENO, &buf[0..n])
+    rt.write_all(&buf[0..n])?;
+    Ok(true)
+}
+
+// A line on standard error: what the system refused, a colon, and why in C's words, without the number that std puts behind them. Where it cannot
+// be written there is no other place for it.
+pub fn fail(rt: &impl Eprint, what: impl Display + Drop, error: &io::Error) {
+    let said = InlineText::<96>::of(error);
+    let said = said.as_str();
+    let why = match said.split_once(" (os error ") {
+        Some((why, _)) => why,
+        None => said,
+    };
+    let _ = eprintln!(rt; "{what}: {why}");
+}
+
+// ---- what is read
+
+// Reads until the buffer is full or the input ends, and answers how many bytes of the input stand at the buffer's start.
+pub fn read_full(input: &mut impl Read, buf: &mut [u8]) -> io::Result<usize>
+    ensures { IfOk result (λ n. n ≤ length buf.new) }
+{
+    let mut count: usize = 0;
+    while count < buf.len() {
+        let n = input.read(&mut buf[count..])?;
+        if n == 0 {
+            return Ok(count);
+        }
+        count += n;
+    }
+    Ok(count)
 }
 
 // ---- where the parts of an input end

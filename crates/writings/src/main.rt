@@ -2,10 +2,11 @@
 // A tape stands in a frame: a byte layout, or `t` for the tree text, u32 room (at most 4096), u32 length, and its bytes. The buffer has `room` bytes, each `#`
 // before the call. The frames and what they must give are the table of tests/writings.py.
 #![tactic(auto)]
+
 ghost use Rattle.std.specs.Prelude.{◌≤◌};
 ghost use Rattle.output.specs.Wrote.{limit};
 
-use libc::{STDIN_FILENO, STDOUT_FILENO};
+use std::io;
 use tape::answer::Answer;
 
 fn write(layout: u8, tape: &[u8], out: &mut [u8]) -> Answer {
@@ -25,52 +26,52 @@ fn put_count(line: &mut [u8], a: Answer) -> usize
     }
 }
 
-fn show(layout: u8, tape: &[u8], out: &mut [u8]) {
+fn show(rt: &impl Print, layout: u8, tape: &[u8], out: &mut [u8]) -> io::Result<()> {
     let mut line = [0u8; 8224];
     let a = write(layout, tape, out);
     let p = put_count(&mut line, a);
     let q = output::put(&mut line, p, b' ');
     let r = program_io::put_hex(&mut line, q, out);
     let e = output::put(&mut line, r, b'\n');
-    program_io::print(&line, e);
+    program_io::print(rt, &line, e)?;
+    Ok(())
 }
 
 // Whether a frame asks for a buffer that it can have.
-fn frame(frame: &[u8]) -> bool {
+fn frame(rt: &impl Print, frame: &[u8]) -> io::Result<bool> {
     let mut out = [b'#'; 4096];
     if frame.len() < 9 {
-        return false;
+        return Ok(false);
     }
     let room = tape::u32_at(frame, 1) as usize;
     if 4096 < room {
-        return false;
+        return Ok(false);
     }
-    show(frame[0], &frame[9..], &mut out[0..room]);
-    true
+    show(rt, frame[0], &frame[9..], &mut out[0..room])?;
+    Ok(true)
 }
 
 // Whether all of the input is frames. Stops before the first that is malformed.
-fn all(input: &[u8]) -> bool {
+fn all(rt: &impl Print, input: &[u8]) -> io::Result<bool> {
     let mut at: usize = 0;
     while at < input.len() {
         let end = program_io::frame_end(input, at, 9);
         if end == at {
-            return false;
+            return Ok(false);
         }
-        if !frame(&input[at..end]) {
-            return false;
+        if !frame(rt, &input[at..end])? {
+            return Ok(false);
         }
         at = end;
     }
-    true
+    Ok(true)
 }
 
-fn main() {
-    let mut input = io::large_buffer();
-    let n = io::read_full(STDIN_FILENO, &mut input);
-    if n <= 65536 {
-        if !all(&input[0..n]) {
-            io::write_all(STDOUT_FILENO, b"malformed input\n");
-        }
+fn main(rt: HostRuntime) -> io::Result<()> {
+    let mut input = [0u8; 65536];
+    let n = program_io::read_full(&mut rt.stdin(), &mut input)?;
+    if !all(&rt, &input[0..n])? {
+        println!(rt; "malformed input")?;
     }
+    Ok(())
 }
