@@ -1,5 +1,6 @@
 // Replays the published examples of Ion 1.0: each text with the tape that it means here, or refusal 8. tests/examples.py makes the list.
 #![tactic(auto)]
+
 use std::io;
 
 fn main(rt: HostRuntime) -> io::Result<()> {

@@ -5,6 +5,7 @@ ghost use Rattle.listing.specs.Due.{Decides, due, filled, AsDue};
 ghost use Rattle.listing.specs.Seen.{Keeps, Judged};
 
 use crate::report;
+use std::io;
 use tape::answer::Answer;
 
 // The answer is the refusal, or, where that is 0, the count.
@@ -49,6 +50,7 @@ pub fn holds(out: &[u8], bytes: &[u8], rest: u8) -> bool
 
 // Compares what a call answered, and its whole buffer, with what is due, and reports a difference.
 pub fn judge(
+    rt: &impl Print,
     what: u8,
     a: Answer,
     refusal: u8,
@@ -56,15 +58,15 @@ pub fn judge(
     rest: u8,
     out: &[u8],
     seen: &mut [usize; 8],
-)
+) -> io::Result<()>
     ensures judged { Judged (AsDue (outcome a) out.now refusal bytes.now rest) seen.old seen.new }
     ensures keeps { Keeps seen.old seen.new }
 {
     if !answers(a, refusal, bytes.len()) {
-        report::differs(what, refusal, bytes, a, out, seen);
-        return;
+        return report::differs(rt, what, refusal, bytes, a, out, seen);
     }
     if !holds(out, bytes, rest) {
-        report::differs(what, refusal, bytes, a, out, seen);
+        report::differs(rt, what, refusal, bytes, a, out, seen)?;
     }
+    Ok(())
 }

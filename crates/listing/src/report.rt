@@ -1,8 +1,8 @@
 // What was seen so far, as eight numbers, and what is printed.
-ghost use Rattle.std.specs.Prelude.{◌≡◌, ◌<◌, get_or, set, eqb};
+ghost use Rattle.std.specs.Prelude.{◌≡◌, ◌<◌, get_or, set, eqb, IfOk};
 ghost use Rattle.listing.specs.Seen.{one_more, differences, Keeps, Differs};
 
-use libc::STDOUT_FILENO;
+use std::io;
 use tape::answer::Answer;
 
 // The places of the numbers: the line of the list, the length of its current tape, and how many were met.
@@ -53,113 +53,109 @@ pub fn tape_length(seen: &[usize; 8]) -> usize
     seen[LENGTH]
 }
 
-fn say(s: &[u8]) {
-    io::write_all(STDOUT_FILENO, s);
-}
-
-fn say_number(n: usize) {
-    io::print_decimal(STDOUT_FILENO, n as u64);
-}
-
 // Every byte as two hex digits. No buffer that is compared has more than half of this room.
-fn say_hex(bytes: &[u8]) {
-    let mut digits = io::large_buffer();
+fn say_hex(rt: &impl Print, bytes: &[u8]) -> io::Result<()> {
+    let mut digits = [0u8; 65536];
     let n = program_io::put_hex(&mut digits, 0, bytes);
-    program_io::print(&digits, n);
+    program_io::print(rt, &digits, n)?;
+    Ok(())
 }
 
 // `line` and its number; every difference starts so.
-fn difference(seen: &mut [usize; 8])
+fn difference(rt: &impl Print, seen: &mut [usize; 8]) -> io::Result<()>
     ensures { Differs seen.old seen.new }
 {
     count(seen, DIFFERENCES);
-    say(b"line ");
-    say_number(seen[LINE]);
+    print!(rt; "line {}", seen[LINE])
 }
 
 // A line of the list that is none: a difference too.
-pub fn malformed(seen: &mut [usize; 8])
+pub fn malformed(rt: &impl Print, seen: &mut [usize; 8]) -> io::Result<()>
     ensures { Differs seen.old seen.new }
 {
-    difference(seen);
-    say(b": malformed\n");
+    difference(rt, seen)?;
+    println!(rt; ": malformed")
 }
 
 // The number of a refusal, or 0 and the count.
-fn say_answer(refusal: u8, count: usize) {
+fn say_answer(rt: &impl Print, refusal: u8, count: usize) -> io::Result<()> {
     if refusal == 0 {
-        say_number(count);
-        return;
+        return print!(rt; "{count}");
     }
-    say(b"refused ");
-    say_number(refusal as usize);
+    print!(rt; "refused {refusal}")
 }
 
 // What was done, with how much room.
-fn doing(what: u8, room: usize) {
-    say(b" ");
-    say(&[what]);
-    say(b" room ");
-    say_number(room);
+fn doing(rt: &impl Print, what: u8, room: usize) -> io::Result<()> {
+    rt.write_all(&[b' ', what])?;
+    print!(rt; " room {room}")
 }
 
 // The answer and the bytes that were due, but for what the buffer keeps behind them.
-fn expected(refusal: u8, bytes: &[u8]) {
-    say(b": expected ");
-    say_answer(refusal, bytes.len());
-    say(b" ");
-    say_hex(bytes);
+fn expected(rt: &impl Print, refusal: u8, bytes: &[u8]) -> io::Result<()> {
+    print!(rt; ": expected ")?;
+    say_answer(rt, refusal, bytes.len())?;
+    print!(rt; " ")?;
+    say_hex(rt, bytes)
 }
 
 // The answer and the whole buffer.
-fn found(a: Answer, out: &[u8]) {
-    say(b" found ");
+fn found(rt: &impl Print, a: Answer, out: &[u8]) -> io::Result<()> {
+    print!(rt; " found ")?;
     match a {
-        Answer::Count(n) => say_number(n),
-        Answer::End => say(b"the end mark"),
-        _ => say_answer(tape::answer::number(a), 0),
+        Answer::Count(n) => print!(rt; "{n}")?,
+        Answer::End => print!(rt; "the end mark")?,
+        _ => say_answer(rt, tape::answer::number(a), 0)?,
     }
-    say(b" ");
-    say_hex(out);
-    say(b"\n");
+    print!(rt; " ")?;
+    say_hex(rt, out)?;
+    println!(rt)
 }
 
 // A call that did not answer what was due, or did not leave its buffer so.
-pub fn differs(what: u8, refusal: u8, bytes: &[u8], a: Answer, out: &[u8], seen: &mut [usize; 8])
+pub fn differs(
+    rt: &impl Print,
+    what: u8,
+    refusal: u8,
+    bytes: &[u8],
+    a: Answer,
+    out: &[u8],
+    seen: &mut [usize; 8],
+) -> io::Result<()>
     ensures { Differs seen.old seen.new }
 {
-    difference(seen);
-    doing(what, out.len());
-    expected(refusal, bytes);
-    found(a, out);
+    difference(rt, seen)?;
+    doing(rt, what, out.len())?;
+    expected(rt, refusal, bytes)?;
+    found(rt, a, out)
 }
 
 // The same for a line call: where it went on, and the nodes of the text.
-pub fn line_differs(next: usize, nodes: &[u8], a: Answer, out: &[u8], seen: &mut [usize; 8])
+pub fn line_differs(
+    rt: &impl Print,
+    next: usize,
+    nodes: &[u8],
+    a: Answer,
+    out: &[u8],
+    seen: &mut [usize; 8],
+) -> io::Result<()>
     ensures { Differs seen.old seen.new }
 {
-    difference(seen);
-    say(b" line call to ");
-    say_number(next);
-    say(b": expected a node of ");
-    say_hex(nodes);
-    found(a, out);
-}
-
-fn say_count(n: usize, of: &[u8]) {
-    say_number(n);
-    say(of);
+    difference(rt, seen)?;
+    print!(rt; " line call to {next}: expected a node of ")?;
+    say_hex(rt, nodes)?;
+    found(rt, a, out)
 }
 
 // Whether nothing differed; how much was compared is printed.
-pub fn sum(seen: &[usize; 8]) -> bool
-    ensures { result ≡ eqb (differences seen.now) 0 }
+pub fn sum(rt: &impl Print, seen: &[usize; 8]) -> io::Result<bool>
+    ensures { IfOk result (λ same. same ≡ eqb (differences seen.now) 0) }
 {
-    say_count(seen[TAPES], b" tapes, ");
-    say_count(seen[TEXTS], b" texts, ");
-    say_count(seen[REFUSALS], b" refusals; ");
-    say_count(seen[WRITES], b" writes and lengths, ");
-    say_count(seen[READS], b" reads; ");
-    say_count(seen[DIFFERENCES], b" differences\n");
-    seen[DIFFERENCES] == 0
+    print!(rt; "{} tapes, {} texts, ", seen[TAPES], seen[TEXTS])?;
+    print!(rt;
+        "{} refusals; {} writes and lengths, ",
+        seen[REFUSALS], seen[WRITES]
+    )?;
+    println!(rt; "{} reads; {} differences", seen[READS], seen[DIFFERENCES])?;
+    Ok(seen[DIFFERENCES] == 0)
 }

@@ -1,72 +1,77 @@
 // Writes the texts of worked values, a line for each, reads each back, and writes what was read behind a tab. A text that is not read to
 // its end has `!` there. What it must print was asked of the Rust (tests/texts.py).
 #![tactic(auto)]
+
 ghost use Rattle.std.specs.Prelude.{◌<◌};
 
 use floats::float::FloatRead;
 use numbers::numeral::NumeralRead;
 use numbers::timestamp::{Timestamp, TimestampRead};
+use std::io;
 use tokens::quoted::Step;
 use tokens::values::{BoolRead, NullRead, SymbolRead};
 
 // ---- lines of output
 
 // The first n bytes of a buffer, and a byte behind them.
-fn put(buf: &[u8], n: usize, last: u8) {
-    program_io::print(buf, n);
-    program_io::print(&[last], 1);
+fn put(rt: &impl Print, buf: &[u8], n: usize, last: u8) -> io::Result<()> {
+    program_io::print(rt, buf, n)?;
+    rt.write_all(&[last])
 }
 
 // What was read back, if all of the text was read; else `!`.
-fn back(buf: &[u8], n: usize, end: usize, text: &[u8]) {
+fn back(rt: &impl Print, buf: &[u8], n: usize, end: usize, text: &[u8]) -> io::Result<()> {
     if end == text.len() {
-        put(buf, n, b'\n');
+        put(rt, buf, n, b'\n')
     } else {
-        bad();
+        bad(rt)
     }
 }
 
-fn bad() {
-    program_io::print(b"!\n", 2);
+fn bad(rt: &impl Print) -> io::Result<()> {
+    println!(rt; "!")
 }
 
 // ---- ints and decimals
 
-fn reread_number(text: &[u8]) {
+fn reread_number(rt: &impl Print, text: &[u8]) -> io::Result<()> {
     let mut buf = [0u8; 64];
     let r = numbers::numeral::numeral_at(text, 0);
     match r {
         NumeralRead::Int(z, end) => {
             let n = numbers::int::format_integer(&mut buf, 0, z);
-            back(&buf, n, end, text);
+            back(rt, &buf, n, end, text)?;
         }
         NumeralRead::Decimal(negative, m, e, end) => {
             let n = numbers::decimal::format_text(&mut buf, 0, negative, m, e);
-            back(&buf, n, end, text);
+            back(rt, &buf, n, end, text)?;
         }
-        NumeralRead::Bad => bad(),
+        NumeralRead::Bad => bad(rt)?,
     }
+    Ok(())
 }
 
-fn int(z: i64) {
+fn int(rt: &impl Print, z: i64) -> io::Result<()> {
     let mut buf = [0u8; 64];
     let n = numbers::int::format_integer(&mut buf, 0, z);
-    put(&buf, n, b'\t');
+    put(rt, &buf, n, b'\t')?;
     if n <= 64 {
-        reread_number(&buf[0..n]);
+        reread_number(rt, &buf[0..n])?;
     }
+    Ok(())
 }
 
-fn decimal(negative: bool, m: u64, e: i32) {
+fn decimal(rt: &impl Print, negative: bool, m: u64, e: i32) -> io::Result<()> {
     let mut buf = [0u8; 64];
     let n = numbers::decimal::format_text(&mut buf, 0, negative, m, e);
-    put(&buf, n, b'\t');
+    put(rt, &buf, n, b'\t')?;
     if n <= 64 {
-        reread_number(&buf[0..n]);
+        reread_number(rt, &buf[0..n])?;
     }
+    Ok(())
 }
 
-fn ints() {
+fn ints(rt: &impl Print) -> io::Result<()> {
     let zs: [i64; 12] = [
         0,
         1,
@@ -81,11 +86,10 @@ fn ints() {
         9223372036854775807,
         -9223372036854775808,
     ];
-    let mut i: usize = 0;
-    while i < 12 {
-        int(zs[i]);
-        i += 1;
+    for z in zs {
+        int(rt, z)?;
     }
+    Ok(())
 }
 
 // The exponents from -30 to 30, by their numbers from 0.
@@ -99,17 +103,16 @@ fn exponent(i: u32) -> i32
 }
 
 // A magnitude with each of them, of both signs.
-fn sums(m: u64) {
-    let mut i: u32 = 0;
-    while i < 61 {
+fn sums(rt: &impl Print, m: u64) -> io::Result<()> {
+    for i in 0..61u32 {
         let e = exponent(i);
-        decimal(false, m, e);
-        decimal(true, m, e);
-        i += 1;
+        decimal(rt, false, m, e)?;
+        decimal(rt, true, m, e)?;
     }
+    Ok(())
 }
 
-fn decimals() {
+fn decimals(rt: &impl Print) -> io::Result<()> {
     let ms: [u64; 20] = [
         0,
         7,
@@ -132,213 +135,220 @@ fn decimals() {
         10000000000000000000,
         18446744073709551615,
     ];
-    let mut i: usize = 0;
-    while i < 20 {
-        sums(ms[i]);
-        i += 1;
+    for m in ms {
+        sums(rt, m)?;
     }
+    Ok(())
 }
 
 // The largest and the smallest exponents.
-fn extremes() {
+fn extremes(rt: &impl Print) -> io::Result<()> {
     let ms: [u64; 4] = [0, 9, 1234567, 18446744073709551615];
-    let mut i: usize = 0;
-    while i < 4 {
-        let m = ms[i];
-        decimal(false, m, 2147483647);
-        decimal(true, m, 2147483646);
-        decimal(false, m, -2147483647);
-        decimal(true, m, -2147483648);
-        i += 1;
+    for m in ms {
+        decimal(rt, false, m, 2147483647)?;
+        decimal(rt, true, m, 2147483646)?;
+        decimal(rt, false, m, -2147483647)?;
+        decimal(rt, true, m, -2147483648)?;
     }
+    Ok(())
 }
 
 // ---- timestamps
 
-fn reread_timestamp(text: &[u8]) {
+fn reread_timestamp(rt: &impl Print, text: &[u8]) -> io::Result<()> {
     let mut buf = [0u8; 64];
     let r = numbers::timestamp::timestamp_at(text, 0);
     match r {
         TimestampRead::Is(t, end) => {
             let n = numbers::timestamp::format(&mut buf, 0, t);
-            back(&buf, n, end, text);
+            back(rt, &buf, n, end, text)?;
         }
-        TimestampRead::Bad => bad(),
+        TimestampRead::Bad => bad(rt)?,
     }
+    Ok(())
 }
 
-fn timestamp(t: Timestamp) {
+fn timestamp(rt: &impl Print, t: Timestamp) -> io::Result<()> {
     let mut buf = [0u8; 64];
     let n = numbers::timestamp::format(&mut buf, 0, t);
-    put(&buf, n, b'\t');
+    put(rt, &buf, n, b'\t')?;
     if n <= 64 {
-        reread_timestamp(&buf[0..n]);
+        reread_timestamp(rt, &buf[0..n])?;
     }
+    Ok(())
 }
 
 // A date, to a precision of a day at most.
-fn date(precision: u8, year: u16, month: u8, day: u8) {
-    timestamp(Timestamp {
-        precision,
-        year,
-        month,
-        day,
-        hour: 0,
-        minute: 0,
-        second: 0,
-        offset: 32767,
-        digits: 0,
-        fraction: 0,
-    });
+fn date(rt: &impl Print, precision: u8, year: u16, month: u8, day: u8) -> io::Result<()> {
+    timestamp(
+        rt,
+        Timestamp {
+            precision,
+            year,
+            month,
+            day,
+            hour: 0,
+            minute: 0,
+            second: 0,
+            offset: 32767,
+            digits: 0,
+            fraction: 0,
+        },
+    )
 }
 
 // A minute of 29 February 2024.
-fn minute(hour: u8, minute: u8, offset: i16) {
-    timestamp(Timestamp {
-        precision: 3,
-        year: 2024,
-        month: 2,
-        day: 29,
-        hour,
-        minute,
-        second: 0,
-        offset,
-        digits: 0,
-        fraction: 0,
-    });
+fn minute(rt: &impl Print, hour: u8, minute: u8, offset: i16) -> io::Result<()> {
+    timestamp(
+        rt,
+        Timestamp {
+            precision: 3,
+            year: 2024,
+            month: 2,
+            day: 29,
+            hour,
+            minute,
+            second: 0,
+            offset,
+            digits: 0,
+            fraction: 0,
+        },
+    )
 }
 
 // The last second of 1999, with a fraction.
-fn second(offset: i16, digits: u8, fraction: u32) {
-    timestamp(Timestamp {
-        precision: 4,
-        year: 1999,
-        month: 12,
-        day: 31,
-        hour: 23,
-        minute: 59,
-        second: 59,
-        offset,
-        digits,
-        fraction,
-    });
+fn second(rt: &impl Print, offset: i16, digits: u8, fraction: u32) -> io::Result<()> {
+    timestamp(
+        rt,
+        Timestamp {
+            precision: 4,
+            year: 1999,
+            month: 12,
+            day: 31,
+            hour: 23,
+            minute: 59,
+            second: 59,
+            offset,
+            digits,
+            fraction,
+        },
+    )
 }
 
-fn precisions() {
-    date(0, 1, 0, 0);
-    date(0, 9999, 0, 0);
-    date(1, 2026, 1, 0);
-    date(1, 2026, 12, 0);
-    date(2, 2000, 2, 29);
-    date(2, 1900, 2, 28);
-    date(2, 2026, 11, 15);
-    minute(0, 0, 0);
+fn precisions(rt: &impl Print) -> io::Result<()> {
+    date(rt, 0, 1, 0, 0)?;
+    date(rt, 0, 9999, 0, 0)?;
+    date(rt, 1, 2026, 1, 0)?;
+    date(rt, 1, 2026, 12, 0)?;
+    date(rt, 2, 2000, 2, 29)?;
+    date(rt, 2, 1900, 2, 28)?;
+    date(rt, 2, 2026, 11, 15)?;
+    minute(rt, 0, 0, 0)
 }
 
-fn offsets() {
+fn offsets(rt: &impl Print) -> io::Result<()> {
     let offsets: [i16; 11] = [32767, 0, 1, -1, 5, -5, 59, -60, 330, 1439, -1439];
-    let mut i: usize = 0;
-    while i < 11 {
-        minute(23, 59, offsets[i]);
-        second(offsets[i], 0, 0);
-        i += 1;
+    for offset in offsets {
+        minute(rt, 23, 59, offset)?;
+        second(rt, offset, 0, 0)?;
     }
+    Ok(())
 }
 
 // Every count of digits, with the least, a middle and the largest fraction.
-fn fractions() {
+fn fractions(rt: &impl Print) -> io::Result<()> {
     let mut top: u32 = 1;
-    let mut digits: u8 = 0;
-    while digits < 10 {
-        second(0, digits, 0);
-        second(32767, digits, top / 7);
-        second(-5, digits, top - 1);
-        digits += 1;
+    for digits in 0..10u8 {
+        second(rt, 0, digits, 0)?;
+        second(rt, 32767, digits, top / 7)?;
+        second(rt, -5, digits, top - 1)?;
         if top < 400000000 {
             top = top * 10;
         }
     }
+    Ok(())
 }
 
 // ---- nulls, bools, floats, symbols, strings, clobs and blobs
 
-fn null(t: u8) {
+fn null(rt: &impl Print, t: u8) -> io::Result<()> {
     let mut buf = [0u8; 32];
     let n = text_rules::text_formatter::format_null(&mut buf, 0, t);
-    put(&buf, n, b'\t');
+    put(rt, &buf, n, b'\t')?;
     if n <= 32 {
         let r = tokens::values::null_at(&buf[0..n], 0);
         let mut again = [0u8; 32];
         match r {
             NullRead::Is(u, end) => {
                 let m = text_rules::text_formatter::format_null(&mut again, 0, u);
-                back(&again, m, end, &buf[0..n]);
+                back(rt, &again, m, end, &buf[0..n])?;
             }
-            NullRead::Bad => bad(),
+            NullRead::Bad => bad(rt)?,
         }
     }
+    Ok(())
 }
 
-fn boolean(b: bool) {
+fn boolean(rt: &impl Print, b: bool) -> io::Result<()> {
     let mut buf = [0u8; 32];
     let n = text_rules::text_formatter::format_bool(&mut buf, 0, b);
-    put(&buf, n, b'\t');
+    put(rt, &buf, n, b'\t')?;
     if n <= 32 {
         let r = tokens::values::bool_at(&buf[0..n], 0);
         let mut again = [0u8; 32];
         match r {
             BoolRead::Is(c, end) => {
                 let m = text_rules::text_formatter::format_bool(&mut again, 0, c);
-                back(&again, m, end, &buf[0..n]);
+                back(rt, &again, m, end, &buf[0..n])?;
             }
-            BoolRead::Bad => bad(),
+            BoolRead::Bad => bad(rt)?,
         }
     }
+    Ok(())
 }
 
-fn float(x: f64) {
+fn float(rt: &impl Print, x: f64) -> io::Result<()> {
     let mut buf = [0u8; 32];
     let n = floats::float::format_float(&mut buf, 0, x);
-    put(&buf, n, b'\t');
+    put(rt, &buf, n, b'\t')?;
     if n <= 32 {
         let r = floats::float::float_at(&buf[0..n], 0);
         let mut again = [0u8; 32];
         match r {
             FloatRead::Is(y, end) => {
                 let m = floats::float::format_float(&mut again, 0, y);
-                back(&again, m, end, &buf[0..n]);
+                back(rt, &again, m, end, &buf[0..n])?;
             }
-            FloatRead::Bad => bad(),
+            FloatRead::Bad => bad(rt)?,
         }
     }
+    Ok(())
 }
 
-fn words() {
-    let mut t: u8 = 0;
-    while t < 13 {
-        null(t);
-        t += 1;
+fn words(rt: &impl Print) -> io::Result<()> {
+    for t in 0..13u8 {
+        null(rt, t)?;
     }
-    boolean(true);
-    boolean(false);
-    float(0.0 / 0.0);
-    float(1.0 / 0.0);
-    float(-1.0 / 0.0);
-    float(0.0);
-    float(-0.0);
-    float(1.0);
-    float(15.0);
-    float(100.0);
-    float(-250.0);
-    float(12345678.0);
-    float(123456789.0);
-    float(1000000000000000.0);
-    float(-9007199254740991.0);
-    float(9007199254740992.0);
+    boolean(rt, true)?;
+    boolean(rt, false)?;
+    float(rt, 0.0 / 0.0)?;
+    float(rt, 1.0 / 0.0)?;
+    float(rt, -1.0 / 0.0)?;
+    float(rt, 0.0)?;
+    float(rt, -0.0)?;
+    float(rt, 1.0)?;
+    float(rt, 15.0)?;
+    float(rt, 100.0)?;
+    float(rt, -250.0)?;
+    float(rt, 12345678.0)?;
+    float(rt, 123456789.0)?;
+    float(rt, 1000000000000000.0)?;
+    float(rt, -9007199254740991.0)?;
+    float(rt, 9007199254740992.0)
 }
 
 // The symbol that a text starts with, written again.
-fn reread_symbol(text: &[u8]) {
+fn reread_symbol(rt: &impl Print, text: &[u8]) -> io::Result<()> {
     let mut content = [0u8; 256];
     let mut again = [0u8; 1024];
     let r = tokens::values::symbol_at(text, 0, false, &mut content, 0);
@@ -350,64 +360,69 @@ fn reread_symbol(text: &[u8]) {
                     0,
                     &content[0..pos],
                 );
-                back(&again, m, at, text);
+                back(rt, &again, m, at, text)?;
             }
         }
         SymbolRead::Id { n, at } => {
             let m = text_rules::text_formatter::format_symbol_id(&mut again, 0, n);
-            back(&again, m, at, text);
+            back(rt, &again, m, at, text)?;
         }
-        SymbolRead::Bad => bad(),
+        SymbolRead::Bad => bad(rt)?,
     }
+    Ok(())
 }
 
-fn symbol(s: &[u8]) {
+fn symbol(rt: &impl Print, s: &[u8]) -> io::Result<()> {
     let mut buf = [0u8; 1024];
     let n = text_rules::text_formatter::format_symbol_token(&mut buf, 0, s);
-    put(&buf, n, b'\t');
+    put(rt, &buf, n, b'\t')?;
     if n <= 1024 {
-        reread_symbol(&buf[0..n]);
+        reread_symbol(rt, &buf[0..n])?;
     }
+    Ok(())
 }
 
-fn identifier(i: u32) {
+fn identifier(rt: &impl Print, i: u32) -> io::Result<()> {
     let mut buf = [0u8; 1024];
     let n = text_rules::text_formatter::format_symbol_id(&mut buf, 0, i);
-    put(&buf, n, b'\t');
+    put(rt, &buf, n, b'\t')?;
     if n <= 1024 {
-        reread_symbol(&buf[0..n]);
+        reread_symbol(rt, &buf[0..n])?;
     }
+    Ok(())
 }
 
 // The string that a text starts with, behind its mark, written again.
-fn reread_string(text: &[u8]) {
+fn reread_string(rt: &impl Print, text: &[u8]) -> io::Result<()> {
     let mut content = [0u8; 256];
     let mut again = [0u8; 1024];
     if text.len() == 0 {
-        return;
+        return Ok(());
     }
     let r = tokens::quoted::characters_at(text, 1, b'"', false, &mut content, 0);
     match r {
         Step::Next { at, pos } => {
             if pos <= 256 {
                 let m = text_rules::text_formatter::format_string(&mut again, 0, &content[0..pos]);
-                back(&again, m, at, text);
+                back(rt, &again, m, at, text)?;
             }
         }
-        Step::Bad => bad(),
+        Step::Bad => bad(rt)?,
     }
+    Ok(())
 }
 
-fn string(s: &[u8]) {
+fn string(rt: &impl Print, s: &[u8]) -> io::Result<()> {
     let mut buf = [0u8; 1024];
     let n = text_rules::text_formatter::format_string(&mut buf, 0, s);
-    put(&buf, n, b'\t');
+    put(rt, &buf, n, b'\t')?;
     if n <= 1024 {
-        reread_string(&buf[0..n]);
+        reread_string(rt, &buf[0..n])?;
     }
+    Ok(())
 }
 
-fn reread_clob(text: &[u8]) {
+fn reread_clob(rt: &impl Print, text: &[u8]) -> io::Result<()> {
     let mut content = [0u8; 256];
     let mut again = [0u8; 1024];
     let r = tokens::quoted::clob_at(text, 0, &mut content, 0);
@@ -415,23 +430,25 @@ fn reread_clob(text: &[u8]) {
         Step::Next { at, pos } => {
             if pos <= 256 {
                 let m = text_rules::clobs::format_clob(&mut again, 0, &content[0..pos]);
-                back(&again, m, at, text);
+                back(rt, &again, m, at, text)?;
             }
         }
-        Step::Bad => bad(),
+        Step::Bad => bad(rt)?,
     }
+    Ok(())
 }
 
-fn clob(s: &[u8]) {
+fn clob(rt: &impl Print, s: &[u8]) -> io::Result<()> {
     let mut buf = [0u8; 1024];
     let n = text_rules::clobs::format_clob(&mut buf, 0, s);
-    put(&buf, n, b'\t');
+    put(rt, &buf, n, b'\t')?;
     if n <= 1024 {
-        reread_clob(&buf[0..n]);
+        reread_clob(rt, &buf[0..n])?;
     }
+    Ok(())
 }
 
-fn reread_blob(text: &[u8]) {
+fn reread_blob(rt: &impl Print, text: &[u8]) -> io::Result<()> {
     let mut content = [0u8; 256];
     let mut again = [0u8; 1024];
     let r = tokens::blobs::blob_at(text, 0, &mut content, 0);
@@ -439,123 +456,115 @@ fn reread_blob(text: &[u8]) {
         Step::Next { at, pos } => {
             if pos <= 256 {
                 let m = text_rules::blobs::format_blob_at(&mut again, 0, &content, 0, pos);
-                back(&again, m, at, text);
+                back(rt, &again, m, at, text)?;
             }
         }
-        Step::Bad => bad(),
+        Step::Bad => bad(rt)?,
     }
+    Ok(())
 }
 
-fn blob(s: &[u8]) {
+fn blob(rt: &impl Print, s: &[u8]) -> io::Result<()> {
     let mut buf = [0u8; 1024];
     let n = text_rules::blobs::format_blob_at(&mut buf, 0, s, 0, s.len());
-    put(&buf, n, b'\t');
+    put(rt, &buf, n, b'\t')?;
     if n <= 1024 {
-        reread_blob(&buf[0..n]);
+        reread_blob(rt, &buf[0..n])?;
     }
+    Ok(())
 }
 
 // Every character of one byte, and some of two, three and four.
-fn strings() {
-    let mut b: u8 = 0;
-    while b < 128 {
-        let s = [b];
-        string(&s);
-        b += 1;
+fn strings(rt: &impl Print) -> io::Result<()> {
+    for b in 0..128u8 {
+        string(rt, &[b])?;
     }
-    string(b"");
-    string(b"a \"b\" c\td\n\\ 'e'");
+    string(rt, b"")?;
+    string(rt, b"a \"b\" c\td\n\\ 'e'")?;
     let wide = [
         0xC2, 0x80, 0xDF, 0xBF, 0xE0, 0xA0, 0x80, 0xED, 0x9F, 0xBF, 0xEE, 0x80, 0x80, 0xEF, 0xBF,
         0xBF, 0xF0, 0x90, 0x80, 0x80, 0xF4, 0x8F, 0xBF, 0xBF,
     ];
-    string(&wide);
+    string(rt, &wide)
 }
 
-fn keywords() {
-    symbol(b"");
-    symbol(b"true");
-    symbol(b"false");
-    symbol(b"nan");
-    symbol(b"null");
-    symbol(b"True");
-    symbol(b"inf");
-    symbol(b"nulls");
+fn keywords(rt: &impl Print) -> io::Result<()> {
+    symbol(rt, b"")?;
+    symbol(rt, b"true")?;
+    symbol(rt, b"false")?;
+    symbol(rt, b"nan")?;
+    symbol(rt, b"null")?;
+    symbol(rt, b"True")?;
+    symbol(rt, b"inf")?;
+    symbol(rt, b"nulls")
 }
 
-fn dollars() {
-    symbol(b"$");
-    symbol(b"$7");
-    symbol(b"$007");
-    symbol(b"$7a");
-    symbol(b"$ion");
-    symbol(b"$ion_");
-    symbol(b"$ion_1_0");
-    symbol(b"$ion_12_34");
+fn dollars(rt: &impl Print) -> io::Result<()> {
+    symbol(rt, b"$")?;
+    symbol(rt, b"$7")?;
+    symbol(rt, b"$007")?;
+    symbol(rt, b"$7a")?;
+    symbol(rt, b"$ion")?;
+    symbol(rt, b"$ion_")?;
+    symbol(rt, b"$ion_1_0")?;
+    symbol(rt, b"$ion_12_34")
 }
 
-fn markers() {
-    symbol(b"$ion_1_0_0");
-    symbol(b"$ion_1_");
-    symbol(b"$ion__0");
-    symbol(b"$ion_symbol_table");
-    symbol(b"_");
-    symbol(b"a b");
-    symbol(b"7up");
-    symbol(b"norad_id");
+fn markers(rt: &impl Print) -> io::Result<()> {
+    symbol(rt, b"$ion_1_0_0")?;
+    symbol(rt, b"$ion_1_")?;
+    symbol(rt, b"$ion__0")?;
+    symbol(rt, b"$ion_symbol_table")?;
+    symbol(rt, b"_")?;
+    symbol(rt, b"a b")?;
+    symbol(rt, b"7up")?;
+    symbol(rt, b"norad_id")
 }
 
-fn symbols() {
-    let mut b: u8 = 0;
-    while b < 128 {
-        let s = [b];
-        symbol(&s);
-        b += 1;
+fn symbols(rt: &impl Print) -> io::Result<()> {
+    for b in 0..128u8 {
+        symbol(rt, &[b])?;
     }
-    keywords();
-    dollars();
-    markers();
-    identifier(0);
-    identifier(10);
-    identifier(4294967295);
+    keywords(rt)?;
+    dollars(rt)?;
+    markers(rt)?;
+    identifier(rt, 0)?;
+    identifier(rt, 10)?;
+    identifier(rt, 4294967295)
 }
 
 // Every byte, and all of them together.
-fn clobs() {
+fn clobs(rt: &impl Print) -> io::Result<()> {
     let mut all = [0u8; 256];
-    let mut i: usize = 0;
-    while i < 256 {
-        let b = (i % 256) as u8;
-        let s = [b];
-        clob(&s);
-        all[i] = b;
-        i += 1;
+    for b in 0..=255u8 {
+        clob(rt, &[b])?;
+        all[b as usize] = b;
     }
-    clob(b"");
-    clob(&all[0..200]);
+    clob(rt, b"")?;
+    clob(rt, &all[0..200])
 }
 
 // Of every length up to 99.
-fn blobs() {
+fn blobs(rt: &impl Print) -> io::Result<()> {
     let mut all = [0u8; 100];
-    let mut i: usize = 0;
-    while i < 100 {
-        blob(&all[0..i]);
+    for i in 0..100usize {
+        blob(rt, &all[0..i])?;
         all[i] = i as u8;
-        i += 1;
     }
+    Ok(())
 }
 
-fn main() {
-    ints();
-    decimals();
-    extremes();
-    precisions();
-    offsets();
-    fractions();
-    words();
-    strings();
-    symbols();
-    clobs();
-    blobs();
+fn main(rt: HostRuntime) -> io::Result<()> {
+    let rt = &rt;
+    ints(rt)?;
+    decimals(rt)?;
+    extremes(rt)?;
+    precisions(rt)?;
+    offsets(rt)?;
+    fractions(rt)?;
+    words(rt)?;
+    strings(rt)?;
+    symbols(rt)?;
+    clobs(rt)?;
+    blobs(rt)
 }

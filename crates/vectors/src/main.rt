@@ -1,5 +1,6 @@
 // Replays tapes with the texts that the Rust gives for them, or the refusals of document 01. tests/vectors.py makes the list.
 #![tactic(auto)]
+
 use std::io;
 
 fn main(rt: HostRuntime) -> io::Result<()> {
