@@ -1,7 +1,13 @@
 // The input: a file by its name, or standard input by the name `-`.
-ghost use Rattle.std.specs.Prelude.{◌≤◌, length};
+ghost use Rattle.std.specs.Prelude.{◌≤◌, length, IfOk};
 
-use libc::STDIN_FILENO;
+use std::io::Read;
+use std::rt::Runtime;
+use std::{fs, io, str};
+use text_rules::words::same_word;
+
+// The error of a name that is no text, by C's number: std opens files by names in UTF-8 alone.
+const EILSEQ: i32 = 84;
 
 // How many bytes of the input the buffer has, and whether these are all. Where they are not, it was said why.
 #[derive(Clone, Copy)]
@@ -10,59 +16,52 @@ pub struct Input {
     pub whole: bool,
 }
 
-// Whether nothing stands behind a full buffer.
-fn is_at_end(fd: i32, name: &[u8], room: usize) -> bool {
-    let mut more = [0u8; 1];
-    let got = libc::read(fd, &mut more);
-    if got < 0 {
-        crate::cannot_read(name);
-    }
-    if got > 0 {
-        crate::too_long(room);
-    }
-    got == 0
+// Reads until the input ends or the buffer is full.
+fn fill(input: &mut impl Read, buf: &mut [u8]) -> io::Result<Input>
+    ensures { IfOk result (λ i. i.count ≤ length buf.new) }
+{
+    let count = program_io::read_full(input, buf)?;
+    let whole = count < buf.len() || program_io::read_full(input, &mut [0u8; 1])? == 0;
+    Ok(Input { count, whole })
 }
 
-// Reads until the input ends or the buffer is full.
-fn fill(fd: i32, name: &[u8], buf: &mut [u8]) -> Input
-    ensures { result.count ≤ length buf.new }
+fn fill_by_name(rt: &impl Runtime, name: &[u8], buf: &mut [u8]) -> io::Result<Input>
+    ensures { IfOk result (λ i. i.count ≤ length buf.new) }
 {
-    let mut count: usize = 0;
-    while count < buf.len() {
-        let got = libc::read(fd, &mut buf[count..]);
-        if got < 0 {
-            crate::cannot_read(name);
-            return Input {
-                count,
-                whole: false,
-            };
-        }
-        let n = io::count(got, &buf[count..]);
-        if n == 0 {
-            return Input { count, whole: true };
-        }
-        count += n;
+    if same_word(name, b"-") {
+        return fill(&mut rt.reader(), buf);
     }
-    let whole = is_at_end(fd, name, buf.len());
-    Input { count, whole }
+    match str::from_utf8(name) {
+        Ok(path) => fill(&mut fs::open(rt, path)?, buf),
+        Err(_) => Err(io::Error::from_raw_os_error(EILSEQ)),
+    }
+}
+
+// What a sentence calls the input of a name.
+fn called(name: &[u8]) -> &str {
+    if same_word(name, b"-") {
+        return "standard input";
+    }
+    str::from_utf8(name).unwrap_or("the file")
 }
 
 // Reads the input of a name into the buffer.
-pub fn read(name: &[u8], buf: &mut [u8]) -> Input
+pub fn read(rt: &impl Runtime, name: &[u8], buf: &mut [u8]) -> Input
     ensures { result.count ≤ length buf.new }
 {
-    if text_rules::words::same_word(name, b"-") {
-        return fill(STDIN_FILENO, b"standard input", buf);
+    match fill_by_name(rt, name, buf) {
+        Ok(i) => {
+            if !i.whole {
+                crate::too_long(rt, buf.len());
+            }
+            i
+        }
+        Err(e) => {
+            crate::cannot_read(rt, called(name), &e);
+            Input {
+                count: 0,
+                whole: false,
+            }
+        }
     }
-    let fd = os::open_read(name);
-    if fd < 0 {
-        crate::cannot_read(name);
-        return Input {
-            count: 0,
-            whole: false,
-        };
-    }
-    let i = fill(fd, name, buf);
-    libc::close(fd);
-    i
 }

@@ -2,15 +2,20 @@
 // standard input; before a word for one of the four texts, or for its length, `--quoted` has every symbol text quoted. What it gives goes to standard
 // output, and a sentence for each refusal to standard error. The kit has no exit status: the script `ion` of the repository makes it from these sentences.
 #![tactic(auto)]
+
 mod input;
 mod words;
 
-ghost use Rattle.std.specs.Prelude.{◌≡◌, ◌+◌, ◌<◌, ◌≤◌, length};
+ghost use Rattle.std.specs.Prelude.{◌≡◌, ◌+◌, ◌<◌, ◌≤◌, IfOk, vec_len};
 
 use field_index::{Key, Looked};
 use ion_show::{line, show};
-use libc::STDERR_FILENO;
 use line_reader::Called;
+use program_io::{fail, say};
+use std::alloc::{AllocError, Global};
+use std::env::FillError;
+use std::io;
+use std::rt::{Env, Runtime};
 use tape::answer::Answer;
 use text_rules::digits::Joined;
 use text_rules::words::Kind;
@@ -18,99 +23,87 @@ use words::Word;
 
 // ---- sentences on standard error. The script `ion` tells the exit status by how they start
 
-fn say(s: &[u8]) {
-    io::write_all(STDERR_FILENO, s);
+// Why a file or standard input cannot be read, as errno has it.
+fn cannot_read(rt: &impl Eprint, name: &str, error: &io::Error) {
+    fail(rt, format_args!("ion: cannot read {name}"), error);
 }
 
-fn say_number(s: &[u8], n: u64) {
-    say(s);
-    io::print_decimal(STDERR_FILENO, n);
+fn too_long(rt: &impl Eprint, room: usize) {
+    say(
+        rt,
+        format_args!("ion: the input is longer than {room} bytes, which is all there is room for"),
+    );
 }
 
-// What errno says of a file or of standard input.
-fn cannot_read(name: &[u8]) {
-    say(b"ion: cannot read ");
-    os::fail(name);
-}
-
-fn too_long(room: usize) {
-    say_number(b"ion: the input is longer than ", room as u64);
-    say(b" bytes, which is all there is room for\n");
-}
-
-fn tape_reason(number: u8) {
+fn tape_reason(number: u8) -> &'static str {
     match number {
-        1 => say(
-            b"the tape has under 8 or over 1,048,576 bytes, or its trailer does not tell its length",
-        ),
-        2 => say(
-            b"a node is outside the layout of tapes, or the number of top-level nodes is wrong",
-        ),
-        3 => say(b"a container is opened while 64 are open"),
-        4 => say(b"a float is finite and no whole number of magnitude up to 2^53"),
-        _ => say(
-            b"compact, lines and pretty take no annotations; tree takes one value, no marker and no identifier but $0",
-        ),
+        1 => {
+            "the tape has under 8 or over 1,048,576 bytes, or its trailer does not tell its length"
+        }
+        2 => "a node is outside the layout of tapes, or the number of top-level nodes is wrong",
+        3 => "a container is opened while 64 are open",
+        4 => "a float is finite and no whole number of magnitude up to 2^53",
+        _ => {
+            "compact, lines and pretty take no annotations; tree takes one value, no marker and no identifier but $0"
+        }
     }
 }
 
-fn text_reason(number: u8) {
+fn text_reason(number: u8) -> &'static str {
     match number {
-        6 => say(b"the text is longer than 4,200,000 bytes"),
-        7 => say(b"there is no such layout"),
-        8 => say(b"the text is outside the grammar (split shows it line by line)"),
-        9 => say(b"the tape is longer than 1,048,576 bytes"),
-        10 => say(b"the offset is past the text"),
-        11 => say(b"no struct starts at the offset (show tells the offsets)"),
-        12 => say(b"the struct has more than 65,536 fields"),
-        13 => say(
-            b"the text is outside the old grammar, which takes control characters raw (split shows its lines by the strict one)",
-        ),
-        _ => say(b"the output is longer than the buffer"),
+        6 => "the text is longer than 4,200,000 bytes",
+        7 => "there is no such layout",
+        8 => "the text is outside the grammar (split shows it line by line)",
+        9 => "the tape is longer than 1,048,576 bytes",
+        10 => "the offset is past the text",
+        11 => "no struct starts at the offset (show tells the offsets)",
+        12 => "the struct has more than 65,536 fields",
+        13 => {
+            "the text is outside the old grammar, which takes control characters raw (split shows its lines by the strict one)"
+        }
+        _ => "the output is longer than the buffer",
     }
 }
 
-fn because(number: u8) {
-    say(b": ");
+fn reason(number: u8) -> &'static str {
     if number < 6 {
-        tape_reason(number);
+        tape_reason(number)
     } else {
-        text_reason(number);
+        text_reason(number)
     }
-    say(b" (docs/FORMAT.md)\n");
 }
 
 // A refusal of the table.
-fn refusal(number: u8) {
-    say_number(b"ion: refusal ", number as u64);
-    because(number);
+fn refusal(rt: &impl Eprint, number: u8) {
+    let why = reason(number);
+    say(
+        rt,
+        format_args!("ion: refusal {number}: {why} (docs/FORMAT.md)"),
+    );
 }
 
 // A refusal whose cause stands at an offset.
-fn refusal_at(number: u8, offset: usize) {
-    say_number(b"ion: refusal ", number as u64);
-    say_number(b" at offset ", offset as u64);
-    because(number);
+fn refusal_at(rt: &impl Eprint, number: u8, offset: usize) {
+    let why = reason(number);
+    say(
+        rt,
+        format_args!("ion: refusal {number} at offset {offset}: {why} (docs/FORMAT.md)"),
+    );
 }
 
 // How many lines of a text were refused.
-fn refused_lines(refused: usize, lines: usize) {
-    say_number(b"ion: refused lines: ", refused as u64);
-    say_number(b" of ", lines as u64);
-    say(b"\n");
+fn refused_lines(rt: &impl Eprint, refused: usize, lines: usize) {
+    say(rt, format_args!("ion: refused lines: {refused} of {lines}"));
 }
 
 // How many characters of a text were replaced, which is no refusal.
-fn replaced_characters(replaced: usize) {
-    say_number(b"ion: replaced characters: ", replaced as u64);
-    say(b"\n");
+fn replaced_characters(rt: &impl Eprint, replaced: usize) {
+    say(rt, format_args!("ion: replaced characters: {replaced}"));
 }
 
 // What the words do.
-fn help(fd: i32) {
-    let whole = io::write_all(
-        fd,
-        b"use: ion [--quoted] WORD [FILE], ion [--quoted] length compact|lines|pretty|tree [FILE], or ion find OFFSET NAME [FILE]
+const HELP: &str =
+    "use: ion [--quoted] WORD [FILE], ion [--quoted] length compact|lines|pretty|tree [FILE], or ion find OFFSET NAME [FILE]
 From a tape, of at most 1,048,576 bytes:
   compact  its Ion text, values parted by blanks
   lines    its Ion text, one value a line
@@ -126,35 +119,32 @@ From an Ion text, of at most 4,200,000 bytes:
   split    its lines: number, offset, length, and what each is
   convert  a stored text, the raw control characters that read refuses as \\x escapes; how many were replaced is said on standard error
 No FILE, or -: standard input. What is refused is said on standard error.
-docs/FORMAT.md says what tapes and texts are, and when each refusal comes.
-",
-    );
-    if !whole {
-        os::fail(b"ion: cannot write to standard output");
+docs/FORMAT.md says what tapes and texts are, and when each refusal comes.";
+
+fn help(rt: &(impl Print + Eprint)) {
+    if let Err(e) = rt.println(HELP) {
+        fail(rt, "ion: cannot write to standard output", &e);
     }
 }
 
 // A sentence on how the program was called, and what the words do.
-fn wrong_use(why: &[u8]) {
-    say(b"ion: wrong use: ");
-    say(why);
-    say(b"\n");
-    help(libc::STDERR_FILENO);
+fn wrong_use(rt: &impl Eprint, why: &str) {
+    say(rt, format_args!("ion: wrong use: {why}\n{HELP}"));
 }
 
 // ---- tapes
 
 // A refusal of a tape; 2, 3 and 4 with the offset of what is wrong, which is the trailer's where all nodes are good.
-fn refuse(number: u8, tape: &[u8], text: &mut [u8], spare: &mut [u8]) {
+fn refuse(rt: &(impl Print + Eprint), number: u8, tape: &[u8], text: &mut [u8], spare: &mut [u8]) {
     if number < 2 {
-        refusal(number);
+        refusal(rt, number);
         return;
     }
     if 4 < number {
-        refusal(number);
+        refusal(rt, number);
         return;
     }
-    refusal_at(number, show::walk(tape, false, text, spare));
+    refusal_at(rt, number, show::walk(rt, tape, false, text, spare));
 }
 
 // A text in a layout, or the tree text.
@@ -168,13 +158,20 @@ fn write(quoted: bool, word: Word, tape: &[u8], text: &mut [u8]) -> Answer {
 }
 
 // A text to standard output, or why there is none.
-fn give_text(quoted: bool, word: Word, tape: &[u8], text: &mut [u8], spare: &mut [u8]) {
+fn give_text(
+    rt: &(impl Print + Eprint),
+    quoted: bool,
+    word: Word,
+    tape: &[u8],
+    text: &mut [u8],
+    spare: &mut [u8],
+) {
     let a = write(quoted, word, tape, text);
     let Answer::Count(n) = a else {
-        refuse(tape::answer::number(a), tape, text, spare);
+        refuse(rt, tape::answer::number(a), tape, text, spare);
         return;
     };
-    line::emit(text, n);
+    line::emit(rt, text, n);
 }
 
 // The length of a text in a layout, or of the tree text.
@@ -188,48 +185,62 @@ fn length(quoted: bool, word: Word, tape: &[u8]) -> Answer {
 }
 
 // The length of a text to standard output, or why there is none.
-fn give_length(quoted: bool, word: Word, tape: &[u8], text: &mut [u8], spare: &mut [u8]) {
+fn give_length(
+    rt: &(impl Print + Eprint),
+    quoted: bool,
+    word: Word,
+    tape: &[u8],
+    text: &mut [u8],
+    spare: &mut [u8],
+) {
     let a = length(quoted, word, tape);
     let Answer::Count(n) = a else {
-        refuse(tape::answer::number(a), tape, text, spare);
+        refuse(rt, tape::answer::number(a), tape, text, spare);
         return;
     };
     let p = text_rules::digits::put_digits(text, 0, n as u64);
     let e = output::put(text, p, b'\n');
-    line::emit(text, e);
+    line::emit(rt, text, e);
 }
 
-fn praise(length: usize, count: usize, text: &mut [u8]) {
+fn praise(rt: &(impl Print + Eprint), length: usize, count: usize, text: &mut [u8]) {
     let p = output::put_bytes(text, 0, b"good tape: bytes ");
     let q = text_rules::digits::put_digits(text, p, length as u64);
     let r = output::put_bytes(text, q, b", top-level nodes ");
     let s = text_rules::digits::put_digits(text, r, count as u64);
     let e = output::put(text, s, b'\n');
-    line::emit(text, e);
+    line::emit(rt, text, e);
 }
 
 // Whether a tape is good; before that, where `aloud` asks for them, its nodes up to the first that is not.
-fn check(tape: &[u8], aloud: bool, text: &mut [u8], spare: &mut [u8]) {
+fn check(rt: &(impl Print + Eprint), tape: &[u8], aloud: bool, text: &mut [u8], spare: &mut [u8]) {
     let c = tape::check::check_tape(tape);
     if c.fault == 1 {
-        refusal(1);
+        refusal(rt, 1);
         return;
     }
-    let stopped = show::walk(tape, aloud, text, spare);
+    let stopped = show::walk(rt, tape, aloud, text, spare);
     if c.fault != 0 {
-        refuse(c.fault, tape, text, spare);
+        refuse(rt, c.fault, tape, text, spare);
         return;
     }
     if stopped == show::body_end(tape) {
-        praise(tape.len(), c.count, text);
+        praise(rt, tape.len(), c.count, text);
     }
 }
 
-fn with_tape(quoted: bool, word: Word, tape: &[u8], text: &mut [u8], spare: &mut [u8]) {
+fn with_tape(
+    rt: &(impl Print + Eprint),
+    quoted: bool,
+    word: Word,
+    tape: &[u8],
+    text: &mut [u8],
+    spare: &mut [u8],
+) {
     match word {
-        Word::Check => check(tape, false, text, spare),
-        Word::Show => check(tape, true, text, spare),
-        _ => give_text(quoted, word, tape, text, spare),
+        Word::Check => check(rt, tape, false, text, spare),
+        Word::Show => check(rt, tape, true, text, spare),
+        _ => give_text(rt, quoted, word, tape, text, spare),
     }
 }
 
@@ -284,79 +295,106 @@ fn looked_up<'a>(tape: &'a [u8], at: usize, name: &'a [u8]) -> Looked {
 }
 
 // Where a field's name and value stand.
-fn places(name: usize, value: usize, text: &mut [u8]) {
+fn places(rt: &(impl Print + Eprint), name: usize, value: usize, text: &mut [u8]) {
     let p = output::put_bytes(text, 0, b"name at offset ");
     let q = text_rules::digits::put_digits(text, p, name as u64);
     let r = output::put_bytes(text, q, b", value at offset ");
     let s = text_rules::digits::put_digits(text, r, value as u64);
     let e = output::put(text, s, b'\n');
-    line::emit(text, e);
+    line::emit(rt, text, e);
 }
 
 // The latest field with a name: where it stands, and its nodes as `show` has them; or why there is none.
-fn find<'a>(tape: &'a [u8], at: usize, name: &'a [u8], text: &mut [u8], spare: &mut [u8]) {
+fn find<'a>(
+    rt: &(impl Print + Eprint),
+    tape: &'a [u8],
+    at: usize,
+    name: &'a [u8],
+    text: &mut [u8],
+    spare: &mut [u8],
+) {
     let found = looked_up(tape, at, name);
     match found {
         Looked::Field(e) => {
-            places(e.name, e.value, text);
-            show::field(tape, e.name, text, spare);
+            places(rt, e.name, e.value, text);
+            show::field(rt, tape, e.name, text, spare);
         }
-        Looked::Nothing => say(b"ion: no field of the struct has this name\n"),
-        Looked::Refused(number) => refuse(number, tape, text, spare),
+        Looked::Nothing => say(rt, "ion: no field of the struct has this name"),
+        Looked::Refused(number) => refuse(rt, number, tape, text, spare),
     }
 }
 
 // ---- texts
 
-fn give_tape(text: &[u8], tape: &mut [u8]) {
+fn give_tape(rt: &(impl Print + Eprint), text: &[u8], tape: &mut [u8]) {
     let a = reader::read_text(text, tape);
     let Answer::Count(n) = a else {
-        refusal(tape::answer::number(a));
+        refusal(rt, tape::answer::number(a));
         return;
     };
-    line::emit(tape, n);
+    line::emit(rt, tape, n);
 }
 
 // ---- a text line by line: what each line is, or which refusal it got, so that a damaged list can be looked at
 
 // Behind a position, the tree text of a tape, or the line itself where it has none. Says whether it is out.
-fn value_out(tape: &[u8], own: &[u8], spare: &mut [u8], pos: usize) -> bool {
+fn value_out(
+    rt: &(impl Print + Eprint),
+    tape: &[u8],
+    own: &[u8],
+    spare: &mut [u8],
+    pos: usize,
+) -> bool {
     if spare.len() < pos {
         return false;
     }
     let a = tree::write_tree(tape, &mut spare[pos..]);
     let Answer::Count(n) = a else {
-        if line::emit(spare, pos) {
-            return line::emit(own, own.len());
+        if line::emit(rt, spare, pos) {
+            return line::emit(rt, own, own.len());
         }
         return false;
     };
-    if line::emit(spare, output::ahead(pos, n)) {
-        return line::emit(b"\n", 1);
+    if line::emit(rt, spare, output::ahead(pos, n)) {
+        return line::emit(rt, b"\n", 1);
     }
     false
 }
 
 // A line that is a value, whose tape was read: its kind and its text.
-fn value_line(own: &[u8], tape: &[u8], number: usize, offset: usize, spare: &mut [u8]) -> bool {
+fn value_line(
+    rt: &(impl Print + Eprint),
+    own: &[u8],
+    tape: &[u8],
+    number: usize,
+    offset: usize,
+    spare: &mut [u8],
+) -> bool {
     if tape.len() == 0 {
         return false;
     }
     let p = line::put_place(spare, number, offset, own.len());
     let q = line::put_kind(spare, p, tape[0]);
     let r = output::put(spare, q, b' ');
-    value_out(tape, own, spare, r)
+    value_out(rt, tape, own, spare, r)
 }
 
 // A line that was refused, and its bytes.
-fn refused_line(own: &[u8], refusal: u8, number: usize, offset: usize, spare: &mut [u8]) -> bool {
+fn refused_line(
+    rt: &(impl Print + Eprint),
+    own: &[u8],
+    refusal: u8,
+    number: usize,
+    offset: usize,
+    spare: &mut [u8],
+) -> bool {
     let p = line::put_place(spare, number, offset, own.len());
     let q = output::put_bytes(spare, p, b"refusal ");
     let r = text_rules::digits::put_digits(spare, q, refusal as u64);
     let s = output::put(spare, r, b' ');
     let t = line::put_clipped(spare, s, own);
     let e = output::put(spare, t, b'\n');
-    line::emit(spare, e)
+    line::emit(rt, spare, e)
 }
 
 fn is_too_long(a: Answer) -> bool {
@@ -379,6 +417,7 @@ fn call(text: &[u8], at: usize, tape: &mut [u8]) -> Called {
 
 // What a line is.
 fn line_out(
+    rt: &(impl Print + Eprint),
     own: &[u8],
     a: Answer,
     number: usize,
@@ -387,12 +426,12 @@ fn line_out(
     spare: &mut [u8],
 ) -> bool {
     let Answer::Count(n) = a else {
-        return refused_line(own, tape::answer::number(a), number, offset, spare);
+        return refused_line(rt, own, tape::answer::number(a), number, offset, spare);
     };
     if tape.len() < n {
         return false;
     }
-    value_line(own, &tape[0..n], number, offset, spare)
+    value_line(rt, own, &tape[0..n], number, offset, spare)
 }
 
 // The next offset: a call goes on by at least one byte and stays in the text.
@@ -420,15 +459,15 @@ fn counting(refused: usize, a: Answer) -> usize
     }
 }
 
-fn end_mark(number: usize, offset: usize, spare: &mut [u8]) {
+fn end_mark(rt: &(impl Print + Eprint), number: usize, offset: usize, spare: &mut [u8]) {
     let p = line::put_place(spare, number, offset, 0);
     let e = output::put_bytes(spare, p, b"end mark\n");
-    line::emit(spare, e);
+    line::emit(rt, spare, e);
 }
 
 // The lines of a text and the end mark, and on standard error how many were refused.
-fn split(text: &[u8], tape: &mut [u8], spare: &mut [u8]) {
-    if !line::emit(b"   line  offset  length\n", 24) {
+fn split(rt: &(impl Print + Eprint), text: &[u8], tape: &mut [u8], spare: &mut [u8]) {
+    if !line::emit(rt, b"   line  offset  length\n", 24) {
         return;
     }
     let mut at: usize = 0;
@@ -438,16 +477,16 @@ fn split(text: &[u8], tape: &mut [u8], spare: &mut [u8]) {
         let c = call(text, at, tape);
         let next = later(c.at, at, text.len());
         let a = c.answer;
-        if !line_out(&text[at..next], a, number + 1, at, tape, spare) {
+        if !line_out(rt, &text[at..next], a, number + 1, at, tape, spare) {
             return;
         }
         refused = counting(refused, a);
         number += 1;
         at = next;
     }
-    end_mark(number + 1, at, spare);
+    end_mark(rt, number + 1, at, spare);
     if 0 < refused {
-        refused_lines(refused, number);
+        refused_lines(rt, refused, number);
     }
 }
 
@@ -462,12 +501,12 @@ fn part_end(at: usize, end: usize) -> usize
 }
 
 // The text converted, part by part. Says whether it is out.
-fn converted_out(text: &[u8], spare: &mut [u8]) -> bool {
+fn converted_out(rt: &(impl Print + Eprint), text: &[u8], spare: &mut [u8]) -> bool {
     let mut at: usize = 0;
     while at < text.len() {
         let end = part_end(at, text.len());
         let n = converter::put_converted(spare, 0, &text[at..end]);
-        if !line::emit(spare, n) {
+        if !line::emit(rt, spare, n) {
             return false;
         }
         at = end;
@@ -476,41 +515,51 @@ fn converted_out(text: &[u8], spare: &mut [u8]) -> bool {
 }
 
 // The text converted, and on standard error how many characters were replaced.
-fn convert(text: &[u8], spare: &mut [u8]) {
+fn convert(rt: &(impl Print + Eprint), text: &[u8], spare: &mut [u8]) {
     if !converter::is_old(text) {
-        refusal(13);
+        refusal(rt, 13);
         return;
     }
-    if converted_out(text, spare) {
-        replaced_characters(converter::replaced_count(text));
+    if converted_out(rt, text, spare) {
+        replaced_characters(rt, converter::replaced_count(text));
     }
 }
 
-fn with_text(word: Word, text: &[u8], tape: &mut [u8], spare: &mut [u8]) {
+fn with_text(
+    rt: &(impl Print + Eprint),
+    word: Word,
+    text: &[u8],
+    tape: &mut [u8],
+    spare: &mut [u8],
+) {
     match word {
-        Word::Read => give_tape(text, tape),
-        Word::Convert => convert(text, spare),
-        _ => split(text, tape, spare),
+        Word::Read => give_tape(rt, text, tape),
+        Word::Convert => convert(rt, text, spare),
+        _ => split(rt, text, tape, spare),
     }
 }
 
 // ---- the command line
 
+// The error of a name that is too long, by C's number.
+const ENAMETOOLONG: i32 = 36;
+
 // Room for a text. The line of a node that fills a tape fits too: at most four bytes for each of its own.
-fn text_buffer() -> [u8; 4200000]
-    ensures { 4200000 ≡ length result }
+fn text_buffer(alloc: Global) -> Result<Vec<u8>, AllocError>
+    ensures { IfOk result (λ v. 4200000 ≡ vec_len v) }
 {
-    [0; 4200000]
+    Ok(vec![in alloc; 0; 4200000]?)
 }
 
 // Room for the longest tape.
-fn tape_buffer() -> [u8; 1048576]
-    ensures { 1048576 ≡ length result }
+fn tape_buffer(alloc: Global) -> Result<Vec<u8>, AllocError>
+    ensures { IfOk result (λ v. 1048576 ≡ vec_len v) }
 {
-    [0; 1048576]
+    Ok(vec![in alloc; 0; 1048576]?)
 }
 
 fn on_tape(
+    rt: &impl Runtime,
     quoted: bool,
     word: Word,
     name: &[u8],
@@ -518,23 +567,31 @@ fn on_tape(
     tape: &mut [u8],
     spare: &mut [u8],
 ) {
-    let i = input::read(name, tape);
+    let i = input::read(rt, name, tape);
     let n = i.count;
     if i.whole {
-        with_tape(quoted, word, &tape[0..n], text, spare);
+        with_tape(rt, quoted, word, &tape[0..n], text, spare);
     }
 }
 
-fn on_text(word: Word, name: &[u8], text: &mut [u8], tape: &mut [u8], spare: &mut [u8]) {
-    let i = input::read(name, text);
+fn on_text(
+    rt: &impl Runtime,
+    word: Word,
+    name: &[u8],
+    text: &mut [u8],
+    tape: &mut [u8],
+    spare: &mut [u8],
+) {
+    let i = input::read(rt, name, text);
     let n = i.count;
     if i.whole {
-        with_text(word, &text[0..n], tape, spare);
+        with_text(rt, word, &text[0..n], tape, spare);
     }
 }
 
 // The length of the text that the word behind `length` names.
 fn on_length(
+    rt: &impl Runtime,
     quoted: bool,
     word: Word,
     name: &[u8],
@@ -542,35 +599,45 @@ fn on_length(
     tape: &mut [u8],
     spare: &mut [u8],
 ) {
-    let i = input::read(name, tape);
+    let i = input::read(rt, name, tape);
     let n = i.count;
     if i.whole {
-        give_length(quoted, word, &tape[0..n], text, spare);
+        give_length(rt, quoted, word, &tape[0..n], text, spare);
+    }
+}
+
+// A word that the program was started with, by its number, at the start of the buffer; none where it is missing or longer than the buffer.
+fn argument<'a>(rt: &impl Env, i: usize, buf: &'a mut [u8]) -> &'a [u8] {
+    match rt.arg(i, buf) {
+        Ok(n) => &buf[..n],
+        Err(_) => b"",
     }
 }
 
 // The field that the words behind `find` name.
-fn on_find(name: &[u8], text: &mut [u8], tape: &mut [u8], spare: &mut [u8]) {
+fn on_find(rt: &impl Runtime, name: &[u8], text: &mut [u8], tape: &mut [u8], spare: &mut [u8]) {
     let mut digits = [0u8; 32];
-    let d = os::arg(2, &mut digits);
-    let Offset::At(at) = offset_of(&digits[..d]) else {
-        wrong_use(b"find takes an offset, a number below 2^64 in at most 32 digits, and a name");
+    let Offset::At(at) = offset_of(argument(rt, 2, &mut digits)) else {
+        wrong_use(
+            rt,
+            "find takes an offset, a number below 2^64 in at most 32 digits, and a name",
+        );
         return;
     };
-    let mut field = io::buffer();
-    let k = os::arg(3, &mut field);
-    if os::errno() != 0 {
-        wrong_use(b"find takes an offset and a name of at most 4,096 bytes");
+    let mut field = [0u8; 4096];
+    let Ok(k) = rt.arg(3, &mut field) else {
+        wrong_use(rt, "find takes an offset and a name of at most 4,096 bytes");
         return;
-    }
-    let i = input::read(name, tape);
+    };
+    let i = input::read(rt, name, tape);
     let n = i.count;
     if i.whole {
-        find(&tape[0..n], at, &field[..k], text, spare);
+        find(rt, &tape[0..n], at, &field[..k], text, spare);
     }
 }
 
 fn obey_length(
+    rt: &impl Runtime,
     quoted: bool,
     word: Word,
     name: &[u8],
@@ -579,11 +646,11 @@ fn obey_length(
     spare: &mut [u8],
 ) {
     match word {
-        Word::Compact => on_length(quoted, word, name, text, tape, spare),
-        Word::Lines => on_length(quoted, word, name, text, tape, spare),
-        Word::Pretty => on_length(quoted, word, name, text, tape, spare),
-        Word::Tree => on_length(quoted, word, name, text, tape, spare),
-        _ => wrong_use(b"length takes compact, lines, pretty or tree"),
+        Word::Compact => on_length(rt, quoted, word, name, text, tape, spare),
+        Word::Lines => on_length(rt, quoted, word, name, text, tape, spare),
+        Word::Pretty => on_length(rt, quoted, word, name, text, tape, spare),
+        Word::Tree => on_length(rt, quoted, word, name, text, tape, spare),
+        _ => wrong_use(rt, "length takes compact, lines, pretty or tree"),
     }
 }
 
@@ -601,6 +668,7 @@ fn takes_quoted(word: Word) -> bool {
 
 // Does what the word says, with the input of a name; where it is `length`, of the text that `text_word` names.
 fn obey(
+    rt: &impl Runtime,
     quoted: bool,
     word: Word,
     text_word: Word,
@@ -610,22 +678,25 @@ fn obey(
     spare: &mut [u8],
 ) {
     match word {
-        Word::Length => obey_length(quoted, text_word, name, text, tape, spare),
-        Word::Find => on_find(name, text, tape, spare),
-        Word::Unknown => wrong_use(b"no such word"),
-        Word::Help => help(libc::STDOUT_FILENO),
-        Word::Read => on_text(word, name, text, tape, spare),
-        Word::Split => on_text(word, name, text, tape, spare),
-        Word::Convert => on_text(word, name, text, tape, spare),
-        _ => on_tape(quoted, word, name, text, tape, spare),
+        Word::Length => obey_length(rt, quoted, text_word, name, text, tape, spare),
+        Word::Find => on_find(rt, name, text, tape, spare),
+        Word::Unknown => wrong_use(rt, "no such word"),
+        Word::Help => help(rt),
+        Word::Read => on_text(rt, word, name, text, tape, spare),
+        Word::Split => on_text(rt, word, name, text, tape, spare),
+        Word::Convert => on_text(rt, word, name, text, tape, spare),
+        _ => on_tape(rt, quoted, word, name, text, tape, spare),
     }
 }
 
-// A word that the program was started with, by its number.
-fn word_at(i: usize) -> Word {
+// Whether the program was started with a word of this number.
+fn is_given(rt: &impl Env, i: usize) -> bool {
+    !matches!(rt.arg(i, &mut []), Err(FillError::NotPresent))
+}
+
+fn word_at(rt: &impl Env, i: usize) -> Word {
     let mut s = [0u8; 16];
-    let n = os::arg(i, &mut s);
-    words::word_of(&s[..n])
+    words::word_of(argument(rt, i, &mut s))
 }
 
 // The number of the word that is the file's name, where the first word has this number: `length` has a word of its own before it, `find` two.
@@ -641,47 +712,61 @@ fn name_at(word: Word, at: usize) -> usize
 }
 
 // Does what the words from one on say.
-fn run_from(at: usize, quoted: bool, text: &mut [u8], tape: &mut [u8], spare: &mut [u8])
+fn run_from(
+    rt: &impl Runtime,
+    at: usize,
+    quoted: bool,
+    text: &mut [u8],
+    tape: &mut [u8],
+    spare: &mut [u8],
+)
     requires { at ≤ 2 }
 {
-    let count = os::arg_count();
-    let word = word_at(at);
+    let word = word_at(rt, at);
     let last = name_at(word, at);
-    if last + 1 < count {
-        wrong_use(b"more than a word and a file");
+    if is_given(rt, last + 1) {
+        wrong_use(rt, "more than a word and a file");
         return;
     }
-    let text_word = word_at(at + 1);
-    if count <= last {
-        obey(quoted, word, text_word, b"-", text, tape, spare);
+    let text_word = word_at(rt, at + 1);
+    if !is_given(rt, last) {
+        obey(rt, quoted, word, text_word, b"-", text, tape, spare);
         return;
     }
-    let mut name = io::buffer();
-    let n = os::arg(last, &mut name);
-    if os::errno() != 0 {
-        cannot_read(b"the file");
+    let mut name = [0u8; 4096];
+    let Ok(n) = rt.arg(last, &mut name) else {
+        cannot_read(rt, "the file", &io::Error::from_raw_os_error(ENAMETOOLONG));
         return;
-    }
-    obey(quoted, word, text_word, &name[..n], text, tape, spare);
+    };
+    obey(rt, quoted, word, text_word, &name[..n], text, tape, spare);
 }
 
-fn run(text: &mut [u8], tape: &mut [u8], spare: &mut [u8]) {
-    let first = word_at(1);
+fn run(rt: &impl Runtime, text: &mut [u8], tape: &mut [u8], spare: &mut [u8]) {
+    let first = word_at(rt, 1);
     match first {
         Word::Quoted => {
-            if !takes_quoted(word_at(2)) {
-                wrong_use(b"--quoted stands before compact, lines, pretty, tree or length");
+            if !takes_quoted(word_at(rt, 2)) {
+                wrong_use(
+                    rt,
+                    "--quoted stands before compact, lines, pretty, tree or length",
+                );
                 return;
             }
-            run_from(2, true, text, tape, spare);
+            run_from(rt, 2, true, text, tape, spare);
         }
-        _ => run_from(1, false, text, tape, spare),
+        _ => run_from(rt, 1, false, text, tape, spare),
     }
 }
 
-fn main() {
-    let mut text = text_buffer();
-    let mut tape = tape_buffer();
-    let mut spare = tape_buffer();
-    run(&mut text, &mut tape, &mut spare);
+fn main(rt: HostRuntime) -> Result<(), AllocError> {
+    let mut text = text_buffer(rt.alloc())?;
+    let mut tape = tape_buffer(rt.alloc())?;
+    let mut spare = tape_buffer(rt.alloc())?;
+    run(
+        &rt,
+        text.as_mut_slice(),
+        tape.as_mut_slice(),
+        spare.as_mut_slice(),
+    );
+    Ok(())
 }

@@ -82,19 +82,18 @@ pub fn put_clipped(line: &mut [u8], pos: usize, s: &[u8]) -> usize
 }
 
 // The first n bytes of a buffer to standard output: all of them, or a sentence and false.
-pub fn emit(line: &[u8], n: usize) -> bool
+pub fn emit(rt: &(impl Print + Eprint), line: &[u8], n: usize) -> bool
     ensures { result ≡ true → n ≤ length line.now }
 {
     if line.len() < n {
-        io::write_all(
-            libc::STDERR_FILENO,
-            b"ion: a line is longer than the program's buffer\n",
-        );
+        program_io::say(rt, "ion: a line is longer than the program's buffer");
         return false;
     }
-    let whole = io::write_all(libc::STDOUT_FILENO, &line[0..n]);
-    if !whole {
-        os::fail(b"ion: cannot write to standard output");
+    match rt.write_all(&line[0..n]) {
+        Ok(()) => true,
+        Err(e) => {
+            program_io::fail(rt, "ion: cannot write to standard output", &e);
+            false
+        }
     }
-    whole
 }

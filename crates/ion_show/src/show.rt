@@ -140,7 +140,13 @@ fn alone(node: &[u8], spare: &mut [u8]) -> usize {
 }
 
 // Behind a position, the Lines text of a tape of one node, which ends in LF. Says whether the node is good and, aloud, the line is out.
-fn node_text(tape: &[u8], aloud: bool, text: &mut [u8], pos: usize) -> bool {
+fn node_text(
+    rt: &(impl Print + Eprint),
+    tape: &[u8],
+    aloud: bool,
+    text: &mut [u8],
+    pos: usize,
+) -> bool {
     if text.len() < pos {
         return false;
     }
@@ -149,13 +155,21 @@ fn node_text(tape: &[u8], aloud: bool, text: &mut [u8], pos: usize) -> bool {
         return false;
     };
     if aloud {
-        return line::emit(text, output::ahead(pos, n));
+        return line::emit(rt, text, output::ahead(pos, n));
     }
     true
 }
 
 // The line of a node without a body.
-fn leaf(node: &[u8], offset: usize, kind: u8, how: How, text: &mut [u8], spare: &mut [u8]) -> bool
+fn leaf(
+    rt: &(impl Print + Eprint),
+    node: &[u8],
+    offset: usize,
+    kind: u8,
+    how: How,
+    text: &mut [u8],
+    spare: &mut [u8],
+) -> bool
     requires { how.level ≤ 64 }
 {
     let n = alone(node, spare);
@@ -165,11 +179,18 @@ fn leaf(node: &[u8], offset: usize, kind: u8, how: How, text: &mut [u8], spare: 
     if spare.len() < n {
         return false;
     }
-    node_text(&spare[0..n], how.aloud, text, r)
+    node_text(rt, &spare[0..n], how.aloud, text, r)
 }
 
 // The line before or behind the nodes of a container.
-fn bracket(offset: usize, what: &[u8], kind: u8, how: How, text: &mut [u8]) -> bool
+fn bracket(
+    rt: &(impl Print + Eprint),
+    offset: usize,
+    what: &[u8],
+    kind: u8,
+    how: How,
+    text: &mut [u8],
+) -> bool
     requires { how.level ≤ 64 }
 {
     if !how.aloud {
@@ -179,13 +200,21 @@ fn bracket(offset: usize, what: &[u8], kind: u8, how: How, text: &mut [u8]) -> b
     let q = output::put_bytes(text, p, what);
     let r = line::put_kind(text, q, kind);
     let s = output::put(text, r, b'\n');
-    line::emit(text, s)
+    line::emit(rt, text, s)
 }
 
 // ---- nodes. Each function answers the offset where it stopped: behind the last node, or of the first one that is not as it must be
 
 // Symbols side by side: a name, or annotations.
-fn syms(part: &[u8], offset: usize, kind: u8, how: How, text: &mut [u8], spare: &mut [u8]) -> usize
+fn syms(
+    rt: &(impl Print + Eprint),
+    part: &[u8],
+    offset: usize,
+    kind: u8,
+    how: How,
+    text: &mut [u8],
+    spare: &mut [u8],
+) -> usize
     requires part_bound { offset + length part.now ≤ limit }
     requires level_bound { how.level ≤ 64 }
     ensures { (offset ≤ result) × (result ≤ offset + length part.now) }
@@ -196,7 +225,7 @@ fn syms(part: &[u8], offset: usize, kind: u8, how: How, text: &mut [u8], spare: 
         if next == at {
             return offset + at;
         }
-        if !leaf(&part[at..next], offset + at, kind, how, text, spare) {
+        if !leaf(rt, &part[at..next], offset + at, kind, how, text, spare) {
             return offset + at;
         }
         at = next;
@@ -205,14 +234,21 @@ fn syms(part: &[u8], offset: usize, kind: u8, how: How, text: &mut [u8], spare: 
 }
 
 // What stands before a value: the name and, behind a kind byte and their number, the annotations.
-fn head(part: &[u8], offset: usize, how: How, text: &mut [u8], spare: &mut [u8]) -> usize
+fn head(
+    rt: &(impl Print + Eprint),
+    part: &[u8],
+    offset: usize,
+    how: How,
+    text: &mut [u8],
+    spare: &mut [u8],
+) -> usize
     requires part_bound { offset + length part.now ≤ limit }
     requires level_bound { how.level ≤ 64 }
     ensures { (offset ≤ result) × (result ≤ offset + length part.now) }
 {
     let frame = how.frame;
     let name = name_end(part, 0, frame);
-    let n = syms(&part[0..name], offset, line::NAME, how, text, spare);
+    let n = syms(rt, &part[0..name], offset, line::NAME, how, text, spare);
     if n != offset + name {
         return n;
     }
@@ -220,6 +256,7 @@ fn head(part: &[u8], offset: usize, how: How, text: &mut [u8], spare: &mut [u8])
         return offset + part.len();
     }
     syms(
+        rt,
         &part[name + 2..],
         offset + name + 2,
         line::ANNOTATION,
@@ -243,7 +280,14 @@ fn inside(kind: u8, how: How) -> How
 }
 
 #[cycle(nodes_value)]
-fn value(node: &[u8], offset: usize, how: How, text: &mut [u8], spare: &mut [u8]) -> usize
+fn value(
+    rt: &(impl Print + Eprint),
+    node: &[u8],
+    offset: usize,
+    how: How,
+    text: &mut [u8],
+    spare: &mut [u8],
+) -> usize
     requires node_nonzero { 0 < length node.now }
     requires node_bound { offset + length node.now ≤ limit }
     requires level_bound { how.level ≤ 64 }
@@ -252,7 +296,7 @@ fn value(node: &[u8], offset: usize, how: How, text: &mut [u8], spare: &mut [u8]
     let end = offset + node.len();
     let kind = node[0];
     if !is_container(kind) {
-        if leaf(node, offset, kind, how, text, spare) {
+        if leaf(rt, node, offset, kind, how, text, spare) {
             return end;
         }
         return offset;
@@ -263,21 +307,28 @@ fn value(node: &[u8], offset: usize, how: How, text: &mut [u8], spare: &mut [u8]
     if node.len() < 5 {
         return offset;
     }
-    if !bracket(offset, b"", kind, how, text) {
+    if !bracket(rt, offset, b"", kind, how, text) {
         return offset;
     }
-    let stopped = nodes(&node[5..], offset + 5, inside(kind, how), text, spare);
+    let stopped = nodes(rt, &node[5..], offset + 5, inside(kind, how), text, spare);
     if stopped != end {
         return stopped;
     }
-    if bracket(end, b"end of ", kind, how, text) {
+    if bracket(rt, end, b"end of ", kind, how, text) {
         return end;
     }
     offset
 }
 
 #[cycle(nodes_value)]
-fn nodes(body: &[u8], offset: usize, how: How, text: &mut [u8], spare: &mut [u8]) -> usize
+fn nodes(
+    rt: &(impl Print + Eprint),
+    body: &[u8],
+    offset: usize,
+    how: How,
+    text: &mut [u8],
+    spare: &mut [u8],
+) -> usize
     requires body_bound { offset + length body.now ≤ limit }
     requires level_bound { how.level ≤ 64 }
     ensures { (offset ≤ result) × (result ≤ offset + length body.now) }
@@ -291,11 +342,11 @@ fn nodes(body: &[u8], offset: usize, how: How, text: &mut [u8], spare: &mut [u8]
         if next == from {
             return offset + at;
         }
-        let h = head(&body[at..from], offset + at, how, text, spare);
+        let h = head(rt, &body[at..from], offset + at, how, text, spare);
         if h != offset + from {
             return h;
         }
-        let v = value(&body[from..next], offset + from, how, text, spare);
+        let v = value(rt, &body[from..next], offset + from, how, text, spare);
         if v != offset + next {
             return v;
         }
@@ -312,7 +363,13 @@ pub fn body_end(tape: &[u8]) -> usize
 }
 
 // The offset where the walk over a tape's nodes stopped: their end, or the first that is not as it must be.
-pub fn walk(tape: &[u8], aloud: bool, text: &mut [u8], spare: &mut [u8]) -> usize
+pub fn walk(
+    rt: &(impl Print + Eprint),
+    tape: &[u8],
+    aloud: bool,
+    text: &mut [u8],
+    spare: &mut [u8],
+) -> usize
     ensures { result ≤ length tape.now - 8 }
 {
     let end = body_end(tape);
@@ -321,11 +378,17 @@ pub fn walk(tape: &[u8], aloud: bool, text: &mut [u8], spare: &mut [u8]) -> usiz
         level: 0,
         aloud,
     };
-    nodes(&tape[0..end], 0, how, text, spare)
+    nodes(rt, &tape[0..end], 0, how, text, spare)
 }
 
 // The field whose name stands at an offset, a line for each of its nodes. The offset where it stopped.
-pub fn field(tape: &[u8], at: usize, text: &mut [u8], spare: &mut [u8]) -> usize
+pub fn field(
+    rt: &(impl Print + Eprint),
+    tape: &[u8],
+    at: usize,
+    text: &mut [u8],
+    spare: &mut [u8],
+) -> usize
     ensures { result ≤ length tape.now }
 {
     let end = body_end(tape);
@@ -340,5 +403,5 @@ pub fn field(tape: &[u8], at: usize, text: &mut [u8], spare: &mut [u8]) -> usize
         level: 0,
         aloud: true,
     };
-    nodes(&body[0..next], at, how, text, spare)
+    nodes(rt, &body[0..next], at, how, text, spare)
 }

@@ -78,8 +78,12 @@ pub fn print(rt: &impl Print, buf: &[u8], n: usize) -> io::Result<bool>
     Ok(true)
 }
 
-// A line on standard error: what the system refused, a colon, and why in C's words, without the number that std puts behind them. Where it cannot
-// be written there is no other place for it.
+// A sentence on standard error. Where it cannot be written there is no other place for it.
+pub fn say(rt: &impl Eprint, sentence: impl Display + Drop) {
+    let _ = rt.eprintln(sentence);
+}
+
+// The sentence that the system refused something: what, a colon, and why in C's words, without the number that std puts behind them.
 pub fn fail(rt: &impl Eprint, what: impl Display + Drop, error: &io::Error) {
     let said = InlineText::<96>::of(error);
     let said = said.as_str();
@@ -87,7 +91,7 @@ pub fn fail(rt: &impl Eprint, what: impl Display + Drop, error: &io::Error) {
         Some((why, _)) => why,
         None => said,
     };
-    let _ = eprintln!(rt; "{what}: {why}");
+    say(rt, format_args!("{what}: {why}"));
 }
 
 // ---- what is read
