@@ -1,6 +1,6 @@
 // One program for the command line: `ion WORD [FILE]`, `ion length WORD [FILE]`, or `ion find OFFSET NAME [FILE]`. The word says what to do with a tape or a text, which comes from the file or from
 // standard input; before a word for one of the four texts, or for its length, `--quoted` has every symbol text quoted. What it gives goes to standard
-// output, and a sentence for each refusal to standard error. The kit has no exit status: the script `ion` of the repository makes it from these sentences.
+// output, and a sentence for each refusal to standard error. The script `ion` of the repository makes the exit status from these sentences.
 #![tactic(auto)]
 
 mod input;
