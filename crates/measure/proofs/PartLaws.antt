@@ -19,7 +19,7 @@ use Rattle.numbers.specs.Decimal.{int_text, pointed, scientific, above, below, f
 use Rattle.numbers.specs.Timestamp.{timestamp_text}
 use Rattle.numbers.specs.declared.timestamp.Timestamp.{Timestamp}
 use Rattle.tape.specs.Bytes.{part, le_number, signed}
-use Rattle.tape.specs.Tree.{Scalar, Head, null, bool, int, decimal, timestamp, symbol, string, clob, blob, encode_sym, encode_scalar}
+use Rattle.tape.specs.Tree.{Scalar, Head, null, bool, int, decimal, timestamp, symbol, string, clob, encode_sym, encode_scalar}
 use Rattle.tape.specs.Tape.{reading, kind, length_of, text_of, sym_of, syms_of, name_of, notes_of, head_of, byte_of, int_of, float_as, float_of, decimal_of, timestamp_as, timestamp_of, symbol_of, sized_of, scalar_of, text_fault, sym_fault, scalar_fault}
 use Rattle.tape.specs.Steps.{place_of, head_at, size_taken}
 use Rattle.tape.specs.CheckSteps.{code_of, scalar_code, span_of, syms_front, notes_front}

@@ -1,5 +1,6 @@
 // The length of a tape's text, worked out in place of writing it.
 #![tactic(auto)]
+
 ghost use Rattle.std.specs.Prelude.{◌≡◌};
 ghost use Rattle.tape.specs.Answer.{outcome};
 ghost use Rattle.measure.specs.Outcome.{text_length, text_length_with};
