@@ -1,5 +1,6 @@
 // The tree text: one element of a tape, as the Rust's `format_element` prints it.
 #![tactic(auto)]
+
 ghost use Rattle.std.specs.Prelude.{◌≡◌, length};
 ghost use Rattle.tape.specs.Answer.{outcome};
 ghost use Rattle.tree.specs.Outcome.{written, leaves, tree_length, written_with, leaves_with, tree_length_with};
