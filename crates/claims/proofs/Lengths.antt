@@ -1,16 +1,15 @@
 -- The length before the writing: it is that of the text written, and for the layouts 0 and 1 at most nine times the tape's. Assumes nothing.
-use Prim.Native.Nat.{ℕ, zero, suc, ◌+◌, ◌*◌, ◌-◌, ◌≤◌}
-use mathlib.Core.Path.{◌≡◌, refl, ap, sym, subst, ◌∙◌}
-use mathlib.Core.List.{List, [], ◌∷◌, ◌++◌}
+use Prim.Native.Nat.{ℕ, zero, suc, ◌+◌, ◌*◌, ◌≤◌}
+use mathlib.Core.Path.{◌≡◌, refl, ap, subst, ◌∙◌}
+use mathlib.Core.List.{List}
 use mathlib.Core.Bool.{Bool, true, false}
-use mathlib.Core.Option.{none}
 use native.Mathlib.Omega.{arith}
 use lib.Dec.{leb, ltb}
-use lib.ListN.{length, length-append}
+use lib.ListN.{length}
 use borrow.Author.Tests.{le-leb, lt-leb, le-ltb}
-use Rattle.output.specs.Logic.{if, ascii}
+use Rattle.output.specs.Logic.{if}
 use Rattle.tape.specs.Bytes.{first}
-use Rattle.tape.specs.Tree.{Nodes, marker, nil, more, encode_head, encode_name, encode_notes, encode, encodes, tape}
+use Rattle.tape.specs.Tree.{Nodes, encode_head, encode_name, encode_notes, encode, encodes, tape}
 use Rattle.tape.specs.Tape.{nodes_of}
 use Rattle.tape.specs.Verdict.{verdict}
 use Rattle.tape.specs.Refusal.{noted, noteds, scalar_numbered, syms_numbered, head_numbered, numbered}
@@ -21,14 +20,13 @@ use Rattle.tape.proofs.Accepted.{tape-length, tape_accepted, tape_nodes}
 use Rattle.text_rules.specs.Digits as Digits
 use Rattle.text_rules.specs.Digits.{pad, digits}
 use Rattle.numbers.specs.Decimal.{int_text}
-use Rattle.writer.specs.Text.{scalar_text, name_text, notes_text, opening, closing, separator, text, texts, stream_text}
+use Rattle.writer.specs.Text.{scalar_text, name_text, notes_text, opening, closing, separator, text, stream_text}
 use Rattle.writer.specs.Outcome.{laid, refusal, measured, answered, left, streamed_with, leaves_with}
 use Rattle.tape.proofs.Verdicts.{verdict_most}
 use Rattle.tree.specs.Text.{lead, element, tree_text}
 use Rattle.tree.specs.Outcome as tree
 use Rattle.measure.specs.Outcome.{text_length, text_length_with, longest}
 use Rattle.measure.proofs.Bound.{length_bound}
-use Rattle.claims.specs.Writing.{WritesText}
 use Rattle.claims.specs.Lengths.{TellsLength, markers}
 use Rattle.claims.specs.Examples.{list, list_tape}
 use Rattle.claims.proofs.Marked.{list-tape, list_fine, marked}

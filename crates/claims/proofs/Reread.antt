@@ -1,16 +1,13 @@
 -- Writing and then reading: what the writer finished is its text, and that text reads as the tape. Assumes nothing.
 use Prim.Native.Nat.{ℕ, zero, suc, ◌≤◌, min}
 use mathlib.Core.Path.{◌≡◌, refl, ap, sym, ◌∙◌}
-use mathlib.Core.List.{List, [], ◌∷◌, ◌++◌}
+use mathlib.Core.List.{List, ◌++◌}
 use mathlib.Core.Bool.{Bool, true, false}
 use mathlib.Core.Option.{Option, none, some}
 use native.Mathlib.Omega.{arith}
 use lib.Dec.{leb}
 use lib.ListN.{length, take, drop}
 use lib.Seq.{take-take, take_at, take-append_seam}
-use types.Run.{OneOf, miss}
-use denote.Enum.Declared.{tag_of}
-use Rattle.tape.specs.contracts.answer.Answer.{the_type}
 use borrow.Author.Tests.{leb-true}
 use Rattle.output.specs.Logic.{if, on}
 use Rattle.tape.specs.Tree.{Nodes, tape}
@@ -74,8 +71,8 @@ unfolding read.leaves
 text_leaves quoted y t o b e = rw (means quoted y t b e) (ap (λ (x : List ℕ). tape_leaves x o) (tape_back t b (through y t e).0))
 
 -- an answer that is no count is handed on
-pub handed_on : (a : Answer) → OneOf (1 ∷ 2 ∷ 3 ∷ 4 ∷ 5 ∷ 6 ∷ 7 ∷ 8 ∷ 9 ∷ 10 ∷ 11 ∷ 12 ∷ 13 ∷ []) (tag_of the_type a) → (t o : List ℕ) → (back_answer (outcome a) t (length o) ≡ outcome a) × (back_leaves (outcome a) t o ≡ o)
-handed_on (A.Count n) h t o = absurd (miss (1 ∷ 2 ∷ 3 ∷ 4 ∷ 5 ∷ 6 ∷ 7 ∷ 8 ∷ 9 ∷ 10 ∷ 11 ∷ 12 ∷ 13 ∷ []) 0 tt h)
+pub handed_on : (a : Answer) → ((n : ℕ) → a ≡ A.Count n → ⊥) → (t o : List ℕ) → (back_answer (outcome a) t (length o) ≡ outcome a) × (back_leaves (outcome a) t o ≡ o)
+handed_on (A.Count n) h t o = absurd (h n refl)
 handed_on A.End h t o = (refl, refl)
 handed_on A.Misfit h t o = (refl, refl)
 handed_on A.BadNode h t o = (refl, refl)

@@ -1,27 +1,23 @@
 -- A text that is measured and then written in as many bytes as it has, or in one less. Assumes nothing.
 use Prim.Native.Nat.{ℕ, zero, suc, ◌-◌, ◌≤◌, ◌<◌}
-use mathlib.Core.Path.{◌≡◌, refl, sym, ap, ◌∙◌}
-use mathlib.Core.List.{List, [], ◌∷◌, ◌++◌}
+use mathlib.Core.Path.{◌≡◌, refl, ap, ◌∙◌}
+use mathlib.Core.List.{List, ◌++◌}
 use mathlib.Core.Bool.{Bool, true, false}
 use native.Mathlib.Omega.{arith}
 use lib.ListN.{length, take, drop}
 use lib.Seq.{length-take-le, take-append-le}
-use types.Run.{OneOf, miss}
-use denote.Enum.Declared.{tag_of}
 use borrow.Author.Tests.{le-leb, lt-leb}
-use Rattle.tape.specs.Answer.{Outcome, counted, ended, refused, outcome}
+use Rattle.tape.specs.Answer.{Outcome, counted, refused, outcome}
 use Rattle.tape.specs.declared.answer.Answer.{Answer}
 use Rattle.tape.specs.declared.answer.Answer.TheVariants as A
-use Rattle.tape.specs.contracts.answer.Answer.{the_type}
 use Rattle.writer.specs.Outcome.{laid}
-use Rattle.claims.specs.Writing.{WritesText}
 use Rattle.claims.specs.Lengths.{TellsLength}
 use Rattle.claims.specs.Reserved.{room_for, reserved_answer, reserved_leaves}
 
 -- an answer that is no count is handed on
-pub handed : (less : Bool) (a : Answer) → OneOf (1 ∷ 2 ∷ 3 ∷ 4 ∷ 5 ∷ 6 ∷ 7 ∷ 8 ∷ 9 ∷ 10 ∷ 11 ∷ 12 ∷ 13 ∷ []) (tag_of the_type a) → (s b : List ℕ)
+pub handed : (less : Bool) (a : Answer) → ((n : ℕ) → a ≡ A.Count n → ⊥) → (s b : List ℕ)
     → (reserved_answer less (outcome a) (length b) ≡ outcome a) × (reserved_leaves less (outcome a) s b ≡ b)
-handed less (A.Count n) h s b = absurd (miss (1 ∷ 2 ∷ 3 ∷ 4 ∷ 5 ∷ 6 ∷ 7 ∷ 8 ∷ 9 ∷ 10 ∷ 11 ∷ 12 ∷ 13 ∷ []) 0 tt h)
+handed less (A.Count n) h s b = absurd (h n refl)
 handed less A.End h s b = (refl, refl)
 handed less A.Misfit h s b = (refl, refl)
 handed less A.BadNode h s b = (refl, refl)

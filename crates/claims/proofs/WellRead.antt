@@ -23,7 +23,7 @@ use Rattle.floats.specs.Float.{float}
 use Rattle.numbers.specs.Numeral.{Numeral, numeral}
 use Rattle.numbers.specs.Timestamp.{well_formed}
 use Rattle.numbers.specs.TimestampRead.{timestamp}
-use Rattle.tape.specs.Tree.{Scalar, Head, Node, Nodes, nest, marker, nil, more, encode_sym, encode_syms, encode_name, encode_notes, encode_head, encode, encodes}
+use Rattle.tape.specs.Tree.{Scalar, Head, Node, Nodes, nest, more, encode_sym, encode_syms, encode_name, encode_notes, encode_head, encode, encodes}
 use Rattle.tape.specs.Fine.{Bytes, FineSyms, FineScalar, FineName, FineHead, FineMarker, FineFloat, Inner, Fine, Fines}
 use Rattle.tape.specs.declared.Frame.{Frame}
 use Rattle.tape.specs.declared.Frame.TheVariants.{Top, List as ListF, Sexp, Struct}

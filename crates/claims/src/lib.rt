@@ -1,6 +1,7 @@
 // The claims: theorems over the definitions below, and, as running code, the round trip and the length before the writing. docs/CLAIMS.md is their
 // index.
 #![tactic(auto)]
+
 ghost use Rattle.std.specs.Prelude.{◌≡◌, length};
 ghost use Rattle.tape.specs.Answer.{outcome};
 ghost use Rattle.tape.specs.Tape.{nodes_of};
