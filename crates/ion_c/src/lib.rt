@@ -1,6 +1,7 @@
 // The same calls for C and Rust: numbers, byte slices and slices of entries. A slice passes as a pointer and a length. A call answers a count, of
 // bytes finished or measured or of fields, or minus the number of a refusal of document 01 or 02; a lookup answers a place, or -1.
 #![tactic(auto)]
+
 ghost use Rattle.std.specs.Prelude.{◌≡◌, true, length};
 ghost use Rattle.text_rules.specs.Text.{Sym};
 ghost use Rattle.tape.specs.Answer.{outcome};

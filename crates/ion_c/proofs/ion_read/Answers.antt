@@ -1,0 +1,14 @@
+-- `ion_c::ion_read` meets its contract. Assumes nothing.
+use mathlib.Core.Path.{ap, ◌∙◌}
+use mir.Syntax.{w64}
+use mir.ValLaws.{to_z-of_z}
+use Rattle.ion_c.specs.Code.{code}
+use Rattle.ion_c.proofs.Small.{answer-small}
+use Rattle.ion_c.proofs.ion_read.Goals as goal
+
+pub code_of-requires : goal.code_of-requires
+code_of-requires c = rw c.read_text-a.ensures.answer (answer-small _ _)
+
+pub returns : goal.returns
+returns c =
+    record { answer = to_z-of_z w64 c.code_of.result (record { sfits = c.code_of.type_inv }) ∙ c.code_of.ensures ∙ ap code c.read_text-a.ensures.answer; buffer = c.read_text-a.ensures.buffer }
