@@ -1,0 +1,20 @@
+-- `program_io::frame_end` meets its contract. Assumes nothing.
+use mathlib.Core.Path.{refl, sym}
+use native.Mathlib.Omega.{arith}
+use Rattle.program_io.proofs.Parts.{whole-frame, cut-frame}
+use Rattle.program_io.proofs.frame_end.Goals as goal
+
+pub returns-then-left-head : goal.returns-then-left-head
+returns-then-left-head c =
+    let a = c.args in
+    (sym (cut-frame a.input.now a.at a.head _ refl (omega arith)), omega arith, omega arith)
+
+pub returns-then-left-head-2 : goal.returns-then-left-head-2
+returns-then-left-head-2 c =
+    let a = c.args in
+    (sym (cut-frame a.input.now a.at a.head _ c.u32_at-n.ensures.0 (omega arith)), omega arith, omega arith)
+
+pub returns : goal.returns
+returns c =
+    let a = c.args in
+    (sym (whole-frame a.input.now a.at a.head _ c.u32_at-n.ensures.0 (omega arith)), omega arith, omega arith)
