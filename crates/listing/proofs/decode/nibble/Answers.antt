@@ -3,68 +3,46 @@ use Prim.Native.Nat.{◌+◌, ◌-◌}
 use native.Mathlib.Omega.{arith}
 use borrow.Author.Tests.{le-leb, lt-leb, lt-ltb}
 use Rattle.text_rules.specs.Escapes.{hex_value}
-use borrow.Author.Rules.{rules}
-use Rattle.listing.proofs.decode.nibble.Statement.{statement}
-use Rattle.listing.proofs.decode.nibble.Tie as tie
+use Rattle.listing.proofs.decode.nibble.Goals as goal
 
-returns : tie.Need-returns
+pub returns-then-b-lt48 : goal.returns-then-b-lt48
 unfolding hex_value
-returns c =
-    let b = c.before.args.b in
+returns-then-b-lt48 c =
+    let b = c.args.b in
     simp (lt-leb 48 b (omega arith), lt-leb 97 b (omega arith), lt-leb 65 b (omega arith))
 
-returns-2 : tie.Need-returns-2
+pub returns-then-b-le57 : goal.returns-then-b-le57
 unfolding hex_value
-returns-2 c =
-    let b = c.before.before.args.b in
+returns-then-b-le57 c =
+    let b = c.args.b in
     simp (le-leb 48 b (omega arith), le-leb b 57 (omega arith), lt-ltb (b - 48) 16 (omega arith))
 
-returns-3 : tie.Need-returns-3
+pub returns-then-b-lt65 : goal.returns-then-b-lt65
 unfolding hex_value
-returns-3 c =
-    let b = c.before.before.before.args.b in
+returns-then-b-lt65 c =
+    let b = c.args.b in
     simp (le-leb 48 b (omega arith), lt-leb b 57 (omega arith), lt-leb 97 b (omega arith), lt-leb 65 b (omega arith))
 
-add-result : tie.Need-overflow-add-result
-add-result c = search rules
-
-returns-4 : tie.Need-returns-4
+pub returns-then-b-le70 : goal.returns-then-b-le70
 unfolding hex_value
-returns-4 c =
-    let b = c.before.before.before.before.args.b in
+returns-then-b-le70 c =
+    let b = c.args.b in
     simp (le-leb 48 b (omega arith), lt-leb b 57 (omega arith), lt-leb 97 b (omega arith), le-leb 65 b (omega arith), le-leb b 70 (omega arith), lt-ltb (10 + (b - 65)) 16 (omega arith))
 
-returns-5 : tie.Need-returns-5
+pub returns-then-b-lt97 : goal.returns-then-b-lt97
 unfolding hex_value
-returns-5 c =
-    let b = c.before.before.before.before.before.args.b in
+returns-then-b-lt97 c =
+    let b = c.args.b in
     simp (le-leb 48 b (omega arith), lt-leb b 57 (omega arith), lt-leb 97 b (omega arith), le-leb 65 b (omega arith), lt-leb b 70 (omega arith))
 
-add-result-2 : tie.Need-overflow-add-result-2
-add-result-2 c = search rules
-
-returns-6 : tie.Need-returns-6
+pub returns-then-b-le102 : goal.returns-then-b-le102
 unfolding hex_value
-returns-6 c =
-    let b = c.before.before.before.before.before.before.args.b in
+returns-then-b-le102 c =
+    let b = c.args.b in
     simp (le-leb 48 b (omega arith), lt-leb b 57 (omega arith), le-leb 97 b (omega arith), le-leb b 102 (omega arith), lt-ltb (10 + (b - 97)) 16 (omega arith))
 
-returns-7 : tie.Need-returns-7
+pub returns : goal.returns
 unfolding hex_value
-returns-7 c =
-    let b = c.before.before.before.before.before.before.args.b in
+returns c =
+    let b = c.args.b in
     simp (le-leb 48 b (omega arith), lt-leb b 57 (omega arith), le-leb 97 b (omega arith), lt-leb b 102 (omega arith), le-leb 65 b (omega arith), lt-leb b 70 (omega arith))
-
-pub nibble-spec : {M : Type 1} → statement M
-nibble-spec =
-    tie.close
-    (tie.spec
-    returns
-    returns-2
-    returns-3
-    add-result
-    returns-4
-    returns-5
-    add-result-2
-    returns-6
-    returns-7)
