@@ -1,0 +1,6 @@
+-- `replay::pieces` keeps what was counted. Assumes nothing.
+use Rattle.listing.specs.Seen.{Keeps}
+use Rattle.replay.proofs.pieces.Given as goal
+
+abbrev pub invariant-loop : goal.invariant-loop
+invariant-loop g l = Keeps l.initial.seen l.seen
