@@ -176,11 +176,12 @@ pub fn format_token_at(buf: &mut [u8], pos: usize, s: &[u8], from: usize, n: usi
     format_symbol_token(buf, pos, &s[from..to])
 }
 
-// The same where every symbol text is quoted. Up to eight bytes, with as many in s, that need no escape are put at once.
+// These bytes between quote marks, whatever they are: a symbol's text where every one is quoted. Up to eight bytes, with as many in s, that need no escape are put at once.
 pub fn format_quoted_at(buf: &mut [u8], pos: usize, s: &[u8], from: usize, n: usize) -> usize
     requires pos_le_limit { pos ≤ limit }
     requires n_in_bounds { from + n ≤ length s.now }
-    ensures { Wrote buf.old buf.new pos result (symbol_text true (take n (drop from s.now))) }
+    ensures between { Wrote buf.old buf.new pos result (marked (byte "'") (take n (drop from s.now))) }
+    ensures always { Wrote buf.old buf.new pos result (symbol_text true (take n (drop from s.now))) }
 {
     if 1 <= n {
         if n <= 8 {

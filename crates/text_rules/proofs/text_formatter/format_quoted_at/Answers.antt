@@ -14,10 +14,13 @@ returns-then-is_raw_word c =
     let x = c.word_at-x.result in
     let e : le_bytes a.n x ≡ take a.n (drop a.from a.s.now) = word-part a.s.now a.from a.n x c.if-n-le8.true c.word_at-x.ensures in
     let k = sym c.is_raw_word.ensures ∙ c.if-is_raw_word.true in
-    rw (sym e, symbol_always (le_bytes a.n x), marked-raw (le_bytes a.n x) (raw_word a.n x k)) c.put_quoted_word.ensures
+    record {
+      between = rw (sym e, marked-raw (le_bytes a.n x) (raw_word a.n x k)) c.put_quoted_word.ensures;
+      always = rw (sym e, symbol_always (le_bytes a.n x), marked-raw (le_bytes a.n x) (raw_word a.n x k)) c.put_quoted_word.ensures;
+    }
 
 pub returns : goal.returns
 returns c =
     let a = c.args in
     let e : a.from + a.n - a.from ≡ a.n = omega arith in
-    rw (symbol_always (take a.n (drop a.from a.s.now))) (rw e at c.put_marked.ensures)
+    record { between = rw e at c.put_marked.ensures; always = rw (symbol_always (take a.n (drop a.from a.s.now))) (rw e at c.put_marked.ensures) }

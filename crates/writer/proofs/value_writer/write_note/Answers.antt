@@ -8,7 +8,7 @@ pub returns-then-quoted : goal.returns-then-quoted
 returns-then-quoted c =
     let a = c.args in
     let h = c.requires.n_bound in
-    rw (c.if-quoted.true, part_text a.tape.now a.at a.end a.n (omega arith)) (wrote_then c.format_quoted_at-p.ensures c.write_colons.ensures)
+    rw (c.if-quoted.true, part_text a.tape.now a.at a.end a.n (omega arith)) (wrote_then c.format_quoted_at-p.ensures.always c.write_colons.ensures)
 
 pub returns : goal.returns
 returns c =

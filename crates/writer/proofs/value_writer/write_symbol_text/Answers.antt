@@ -7,7 +7,7 @@ pub returns-then-quoted : goal.returns-then-quoted
 returns-then-quoted c =
     let a = c.args in
     let h = c.requires.n_bound in
-    rw (c.if-quoted.true, part_text a.tape.now a.at a.end a.n (omega arith)) c.format_quoted_at.ensures
+    rw (c.if-quoted.true, part_text a.tape.now a.at a.end a.n (omega arith)) c.format_quoted_at.ensures.always
 
 pub returns : goal.returns
 returns c =
