@@ -3,7 +3,9 @@
 
 ghost use Rattle.std.specs.Prelude.{◌≡◌, true, ◌+◌, ◌≤◌, ◌<◌, length, get_or, take, drop};
 ghost use Rattle.output.specs.Wrote.{le_bytes};
-ghost use Rattle.characters.specs.Utf8.{lead_of, is_cont, value2, value3, value4, is_scalar, ok2, ok3, ok4, char_of, char_at, valid};
+ghost use Rattle.characters.specs.Utf8.{lead_of, is_cont, is_scalar, ok2, ok3, ok4, char_of, char_at, valid};
+
+const HIGH_BITS: u64 = 0x8080_8080_8080_8080;
 
 // The number of bytes that a first byte announces, 0 for a byte that starts no character: the leading zeros of the inverted byte are the
 // leading ones of the byte.
@@ -23,124 +25,67 @@ fn lead(b: u8) -> usize
     0
 }
 
+// A byte behind a character's first.
+#[tactic(auto, unfolding(crate::specs::Utf8::is_cont))]
 fn cont(b: u8) -> bool
     ensures { result ≡ is_cont b }
 {
-    if b < 0x80 {
-        return false;
-    }
-    b < 0xC0
-}
-
-fn val2(a: u8, b: u8) -> u32
-    ensures { result ≡ value2 a b }
-{
-    (a as u32) % 32 * 64 + (b as u32) % 64
-}
-
-fn val3(a: u8, b: u8, c: u8) -> u32
-    ensures { result ≡ value3 a b c }
-{
-    (a as u32) % 16 * 4096 + (b as u32) % 64 * 64 + (c as u32) % 64
-}
-
-fn val4(a: u8, b: u8, c: u8, d: u8) -> u32
-    ensures { result ≡ value4 a b c d }
-{
-    (a as u32) % 8 * 262144 + (b as u32) % 64 * 4096 + (c as u32) % 64 * 64 + (d as u32) % 64
+    0x80 <= b && b < 0xC0
 }
 
 // A scalar value: no surrogate, nothing past hex 10FFFF.
 pub fn is_scalar(v: u32) -> bool
     ensures { result ≡ is_scalar v }
 {
-    if v < 0xD800 {
-        return true;
-    }
-    if v < 0xE000 {
-        return false;
-    }
-    v < 0x11_0000
+    char::from_u32(v).is_some()
 }
 
+#[tactic(auto, unfolding(crate::specs::Utf8::ok2))]
 fn two(a: u8, b: u8) -> bool
     ensures { result ≡ ok2 a b }
 {
-    if !cont(b) {
-        return false;
-    }
-    0x80 <= val2(a, b)
+    let v = u32::from(a) % 32 * 64 + u32::from(b) % 64;
+    cont(b) && 0x80 <= v
 }
 
+#[tactic(auto, unfolding(crate::specs::Utf8::ok3))]
 fn three(a: u8, b: u8, c: u8) -> bool
     ensures { result ≡ ok3 a b c }
 {
-    if !cont(b) {
-        return false;
-    }
-    if !cont(c) {
-        return false;
-    }
-    let v = val3(a, b, c);
-    if v < 0x800 {
-        return false;
-    }
-    is_scalar(v)
+    let v = u32::from(a) % 16 * 4096 + u32::from(b) % 64 * 64 + u32::from(c) % 64;
+    cont(b) && cont(c) && 0x800 <= v && is_scalar(v)
 }
 
+#[tactic(auto, unfolding(crate::specs::Utf8::ok4))]
 fn four(a: u8, b: u8, c: u8, d: u8) -> bool
     ensures { result ≡ ok4 a b c d }
 {
-    if !cont(b) {
-        return false;
-    }
-    if !cont(c) {
-        return false;
-    }
-    if !cont(d) {
-        return false;
-    }
-    let v = val4(a, b, c, d);
-    if v < 0x1_0000 {
-        return false;
-    }
-    is_scalar(v)
+    let v = u32::from(a) % 8 * 262144
+        + u32::from(b) % 64 * 4096
+        + u32::from(c) % 64 * 64
+        + u32::from(d) % 64;
+    cont(b) && cont(c) && cont(d) && 0x1_0000 <= v && is_scalar(v)
 }
 
 // The length of the character that starts with these bytes, 0 if none does.
+#[tactic(auto, unfolding(crate::specs::Utf8::char_of))]
 fn char_of(a: u8, b: u8, c: u8, d: u8) -> usize
     ensures { result ≡ char_of a b c d }
 {
-    let n = lead(a);
-    if n == 1 {
-        return 1;
+    match lead(a) {
+        1 => 1,
+        2 if two(a, b) => 2,
+        3 if three(a, b, c) => 3,
+        4 if four(a, b, c, d) => 4,
+        _ => 0,
     }
-    if n == 2 {
-        if two(a, b) {
-            return 2;
-        }
-        return 0;
-    }
-    if n == 3 {
-        if three(a, b, c) {
-            return 3;
-        }
-        return 0;
-    }
-    if n == 4 {
-        if four(a, b, c, d) {
-            return 4;
-        }
-        return 0;
-    }
-    0
 }
 
 // The byte at a place, 0 past the end.
 fn byte(s: &[u8], i: usize) -> u8
     ensures { result ≡ get_or s.now i 0 }
 {
-    if i < s.len() { s[i] } else { 0 }
+    s.get(i).copied().unwrap_or(0)
 }
 
 // The length of the character at a place of a slice, 0 if none is whole there.
@@ -152,10 +97,7 @@ pub fn char_len(s: &[u8], at: usize) -> usize
     if a < 0x80 {
         return 1;
     }
-    let b = byte(s, at + 1);
-    let c = byte(s, at + 2);
-    let d = byte(s, at + 3);
-    char_of(a, b, c, d)
+    char_of(a, byte(s, at + 1), byte(s, at + 2), byte(s, at + 3))
 }
 
 // Every bit that some of the first m bytes has. There is no way out of the loop, so that the compiler makes it a vector loop.
@@ -163,13 +105,11 @@ fn or_first(s: &[u8], m: usize) -> u8
     requires { m ≤ length s.now }
     ensures { result < 0x80 → valid s.now ≡ valid (drop m s.now) }
 {
-    let mut n = 0;
-    let mut i = 0;
-    while i < m {
-        n = n | s[i];
-        i += 1;
+    let mut bits = 0;
+    for b in &s[..m] {
+        bits |= *b;
     }
-    n
+    bits
 }
 
 // The place behind the words of eight bytes below hex 80 from a place on.
@@ -177,14 +117,14 @@ fn ascii_words(s: &[u8], from: usize) -> usize
     requires { from ≤ length s.now }
     ensures { (result ≤ length s.now) × (valid (drop from s.now) ≡ valid (drop result s.now)) }
 {
-    let mut i = from;
-    while i + 8 <= s.len() {
-        if output::word_at(s, i) & 0x8080808080808080 != 0 {
+    let words = (s.len() - from) / 8;
+    for k in 0..words {
+        let i = from + 8 * k;
+        if output::word_at(s, i) & HIGH_BITS != 0 {
             return i;
         }
-        i += 8;
     }
-    i
+    from + 8 * words
 }
 
 // Whether the bytes from a place on are characters, one after the other.
@@ -193,6 +133,7 @@ fn valid_chars(s: &[u8], from: usize) -> bool
     ensures { result ≡ valid (drop from s.now) }
 {
     let mut i = from;
+    // A walk: the step is the character's length.
     while i < s.len() {
         let n = char_len(s, i);
         if n == 0 {
@@ -210,10 +151,8 @@ fn valid_from(s: &[u8], from: usize) -> bool
 {
     let n = s.len();
     let i = ascii_words(s, from);
-    if n < i + 8 {
-        if output::word_at(s, n - 8) & 0x8080808080808080 == 0 {
-            return true;
-        }
+    if n < i + 8 && output::word_at(s, n - 8) & HIGH_BITS == 0 {
+        return true;
     }
     valid_chars(s, i)
 }
@@ -224,10 +163,7 @@ pub fn valid_utf8(s: &[u8]) -> bool
 {
     let n = s.len();
     if n < 8 {
-        if or_first(s, n) < 0x80 {
-            return true;
-        }
-        return valid_chars(s, 0);
+        return or_first(s, n) < 0x80 || valid_chars(s, 0);
     }
     let m = n / 32 * 32;
     if or_first(s, m) < 0x80 {

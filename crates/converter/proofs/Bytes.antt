@@ -45,17 +45,6 @@ pub escape-clean : (c : ℕ) → replaced c ≡ true → clean (hex_escape c) �
 unfolding replaced old_raw strict_raw clean hex_digit
 escape-clean = gone_same (λ c. clean (hex_escape c)) (λ c. true) refl
 
--- nor are 9 to 13
-pub middle_kept : (c : ℕ) → 9 ≤ c → c ≤ 13 → replaced c ≡ false
-middle_kept c l h = not-true (replaced c) (low-replaced c (omega arith) ∙ rw (le-leb 9 c l, le-leb c 13 h))
-
--- from 9 on, those from hex 0E on are
-pub upper_replaced : (c : ℕ) → 9 ≤ c → c < 0x20 → leb 0x0E c ≡ replaced c
-upper_replaced c l h = ap (λ (b : Bool). if b (leb 0x0E c) (replaced c)) (sym (le-leb 9 c l)) ∙ table c h
-  where
-    table : (c : ℕ) → c < 0x20 → if (leb 9 c) (leb 0x0E c) (replaced c) ≡ replaced c
-    table = unfold replaced old_raw strict_raw in same (λ c. if (leb 9 c) (leb 0x0E c) (replaced c)) replaced 0x20 refl
-
 -- ---- classes of bytes
 
 -- no replaced byte is in the class, and the backslash is not

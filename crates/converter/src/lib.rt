@@ -7,70 +7,41 @@ ghost use Rattle.tape.specs.Answer.{outcome};
 ghost use Rattle.converter.specs.Convert.{replaced, replacement, converted};
 ghost use Rattle.converter.specs.Outcome.{is_old, answer, leaves};
 
-use reader::Made;
 use tape::answer::Answer;
 
 // Whether a byte is written as `\x` and two hex digits.
+#[tactic(auto, using(std::proofs::lemmas::Bool::Decides::nat_tests), unfolding(crate::specs::Convert::replaced, tokens::specs::Quoted::old_raw, tokens::specs::Quoted::strict_raw))]
 fn is_replaced(b: u8) -> bool
     ensures { result ≡ replaced b }
 {
-    if 0x20 <= b {
-        return false;
-    }
-    if b <= 8 {
-        return true;
-    }
-    0x0E <= b
+    matches!(b, 0..=8 | 0x0E..=0x1F)
 }
 
-// 0 only for a byte that stays as it is.
-fn may_be_replaced(b: u8) -> u8
-    ensures { result ≡ 0 → replaced b ≡ false }
+// Whether any byte is replaced. There is no way out of the loop, so that the compiler makes it a vector loop.
+fn any_replaced(s: &[u8]) -> bool
+    ensures { result ≡ false → converted s.now ≡ s.now }
 {
-    if b <= 8 {
-        return 1;
+    let mut any = false;
+    for b in s {
+        any = any | is_replaced(*b);
     }
-    if b < 0x0E {
-        return 0;
-    }
-    if b < 0x20 {
-        return 1;
-    }
-    0
-}
-
-// 0 only where every byte stays as it is. There is no way out of the loop, so that the compiler makes it a vector loop.
-fn any_replaced(s: &[u8]) -> u8
-    ensures { result ≡ 0 → converted s.now ≡ s.now }
-{
-    let mut n = 0;
-    let mut i = 0;
-    while i < s.len() {
-        n = n | may_be_replaced(s[i]);
-        i += 1;
-    }
-    n
+    any
 }
 
 // 1 for a byte that is replaced, which takes three bytes more.
 fn count_byte(b: u8) -> usize
     ensures { (1 + 3 * result ≡ length (replacement b)) × (result ≤ 1) }
 {
-    if is_replaced(b) {
-        return 1;
-    }
-    0
+    if is_replaced(b) { 1 } else { 0 }
 }
 
-// How many bytes are replaced, one by one.
+// How many bytes are replaced, one by one. A sum becomes a vector loop: `filter` and `count` do not, and take 13 % more branches in converting.
 fn count_bytes(s: &[u8]) -> usize
     ensures { length s.now + 3 * result ≡ length (converted s.now) }
 {
-    let mut c: usize = 0;
-    let mut i = 0;
-    while i < s.len() {
-        c = c + count_byte(s[i]);
-        i += 1;
+    let mut c = 0;
+    for b in s {
+        c += count_byte(*b);
     }
     c
 }
@@ -79,10 +50,7 @@ fn count_bytes(s: &[u8]) -> usize
 fn count_block(s: &[u8]) -> usize
     ensures { length s.now + 3 * result ≡ length (converted s.now) }
 {
-    if any_replaced(s) == 0 {
-        return 0;
-    }
-    count_bytes(s)
+    if any_replaced(s) { count_bytes(s) } else { 0 }
 }
 
 // The end of the block at a place: what was looked at is copied while it is near.
@@ -90,7 +58,7 @@ fn block_end(at: usize, end: usize) -> usize
     requires { at < end }
     ensures { (at < result) × (result ≤ end) }
 {
-    if end - at <= 1024 { end } else { at + 1024 }
+    end.min(at.saturating_add(1024))
 }
 
 // How many bytes of a text are replaced.
@@ -99,6 +67,7 @@ pub fn replaced_count(s: &[u8]) -> usize
 {
     let mut c: usize = 0;
     let mut i: usize = 0;
+    // A walk: the step is a block.
     while i < s.len() {
         let e = block_end(i, s.len());
         c = c + count_block(&s[i..e]);
@@ -109,7 +78,6 @@ pub fn replaced_count(s: &[u8]) -> usize
 
 // One byte.
 fn put_converted_byte(buf: &mut [u8], pos: usize, b: u8) -> usize
-    requires { pos ≤ limit }
     ensures { Wrote buf.old buf.new pos result (replacement b) }
 {
     if is_replaced(b) {
@@ -120,24 +88,20 @@ fn put_converted_byte(buf: &mut [u8], pos: usize, b: u8) -> usize
 
 // The bytes of s, one by one.
 fn put_converted_bytes(buf: &mut [u8], pos: usize, s: &[u8]) -> usize
-    requires { pos ≤ limit }
     ensures { Wrote buf.old buf.new pos result (converted s.now) }
 {
-    let mut p = pos;
-    let mut i = 0;
-    while i < s.len() {
-        p = put_converted_byte(buf, p, s[i]);
-        i += 1;
+    let mut p = output::bounded(pos);
+    for b in s {
+        p = put_converted_byte(buf, p, *b);
     }
     p
 }
 
 // The same, where a block is likely to stay as it is.
 fn put_converted_block(buf: &mut [u8], pos: usize, s: &[u8]) -> usize
-    requires { pos ≤ limit }
     ensures { Wrote buf.old buf.new pos result (converted s.now) }
 {
-    if any_replaced(s) == 0 {
+    if !any_replaced(s) {
         return output::put_bytes(buf, pos, s);
     }
     put_converted_bytes(buf, pos, s)
@@ -145,11 +109,11 @@ fn put_converted_block(buf: &mut [u8], pos: usize, s: &[u8]) -> usize
 
 // The whole text, block by block.
 pub fn put_converted(buf: &mut [u8], pos: usize, s: &[u8]) -> usize
-    requires { pos ≤ limit }
     ensures { Wrote buf.old buf.new pos result (converted s.now) }
 {
-    let mut p = pos;
+    let mut p = output::bounded(pos);
     let mut i: usize = 0;
+    // A walk: the step is a block.
     while i < s.len() {
         let e = block_end(i, s.len());
         p = put_converted_block(buf, p, &s[i..e]);
@@ -174,10 +138,7 @@ pub fn is_old(text: &[u8]) -> bool
     ensures { result ≡ is_old text.now }
 {
     let mut spare = [0u8; 1];
-    let Made::Length(_, _) = reader::write_tape(text, true, &mut spare) else {
-        return false;
-    };
-    true
+    reader::write_tape(text, true, &mut spare).is_some()
 }
 
 // Writes a text of the old grammar again, each raw control character that the strict grammar refuses as `\x` and two hex digits: the number of bytes

@@ -1,23 +1,26 @@
 -- What an index is: sorted, with each field once and no others, and the only such list; and names are equal where comparing finds no difference.
 -- That a lookup over it gives the latest field with the name is `lookup_over_index` (LookLaws). Assumes nothing.
 use Prim.Native.Nat.{ℕ, zero, suc, ◌+◌, ◌<◌, ◌≤◌}
-use mathlib.Core.Path.{◌≡◌, refl, ap, ◌∙◌}
-use mathlib.Core.List.{List, [], ◌∷◌, ◌++◌}
+use mathlib.Core.Path.{◌≡◌, ap}
+use mathlib.Core.List.{List, [], ◌++◌}
 use mathlib.Core.Bool.{true}
 use mathlib.Core.Option.{Option, none, some}
 use native.Mathlib.Omega.{arith}
 use lib.ListN.{length, get_or}
+use Rattle.std.proofs.lemmas.Cmp.{tied_itself}
+use Rattle.std.proofs.lemmas.Map.Lookups.{exact_unsigned, exact_bytes}
+use Rattle.std.specs.declared.cmp.Ordering.TheVariants.{Equal}
+use Rattle.std.specs.Ordering.{is_eq}
 use Rattle.output.specs.Logic.{on}
 use Rattle.text_rules.specs.Text.{Sym}
 use Rattle.tape.specs.Tree.{Nodes, nil, more, encode_head, encode}
 use Rattle.field_index.specs.declared.Entry.{Entry}
-use Rattle.field_index.specs.declared.names.Way.TheVariants.{Equal}
-use Rattle.field_index.specs.Names.{no_entry, compared_numbers, compared_texts, compared_names, before}
+use Rattle.field_index.specs.Names.{no_entry, compared_names, before}
 use Rattle.field_index.specs.Sorted.{Same, Sorted}
 use Rattle.field_index.specs.Structs.{struct_at, fields_from}
 use Rattle.field_index.specs.Index.{fields_at, index_at}
 use Rattle.field_index.specs.Lookup.{is_named}
-use Rattle.field_index.proofs.OrderLaws.{equal_means, equal_is, both_equal, before_order}
+use Rattle.field_index.proofs.OrderLaws.{names, before_order}
 use Rattle.field_index.proofs.SortedLaws.{sorted-sorted, sorted-same, is_sorted}
 use Rattle.field_index.proofs.LookLaws.{child_some, equal_of}
 
@@ -64,30 +67,12 @@ module _ (t : List ℕ) (at : ℕ) where
 
 -- ---- equal names
 
-texts_equal : (s t : List ℕ) → compared_texts s t ≡ Equal → s ≡ t
-unfolding compared_texts
-texts_equal [] [] e = refl
-texts_equal [] (y ∷ t) e = let z : ◌≡◌ {A = ℕ} 0 1 = cc in absurd (omega arith)
-texts_equal (x ∷ s) [] e = let z : ◌≡◌ {A = ℕ} 0 1 = cc in absurd (omega arith)
-texts_equal (x ∷ s) (y ∷ t) e =
-    let b = both_equal (compared_numbers x y) (compared_texts s t) e in
-    ap (λ (z : ℕ). z ∷ s) (equal_means x y b.0) ∙ ap (λ (l : List ℕ). y ∷ l) (texts_equal s t b.1)
-
-texts_same : (s : List ℕ) → compared_texts s s ≡ Equal
-unfolding compared_texts
-texts_same [] = refl
-texts_same (x ∷ s) = rw (equal_is x x refl) (texts_same s)
-
 names_equal : (m n : Sym) → compared_names m n ≡ Equal → m ≡ n
-names_equal (Sym.id x) (Sym.id y) e = ap Sym.id (equal_means x y e)
-names_equal (Sym.id x) (Sym.text t) e = let z : ◌≡◌ {A = ℕ} 0 1 = cc in absurd (omega arith)
-names_equal (Sym.text s) (Sym.id y) e = let z : ◌≡◌ {A = ℕ} 0 1 = cc in absurd (omega arith)
-names_equal (Sym.text s) (Sym.text t) e = ap Sym.text (texts_equal s t e)
+names_equal (Sym.id x) (Sym.id y) e = ap Sym.id (exact_unsigned x y e)
+names_equal (Sym.id x) (Sym.text t) e = cc
+names_equal (Sym.text s) (Sym.id y) e = cc
+names_equal (Sym.text s) (Sym.text t) e = ap Sym.text (exact_bytes s t e)
 
 -- a field has the name exactly where its name is that one: an identifier is never a text
 pub named_exactly : (name s : Sym) → (is_named name (some s) ≡ true → s ≡ name) × (s ≡ name → is_named name (some s) ≡ true)
-named_exactly name s = ((λ e. names_equal s name (equal_of (compared_names s name) e)), (λ e. rw e (own name)))
-  where
-    own : (n : Sym) → is_named n (some n) ≡ true
-    own (Sym.id x) = rw (equal_is x x refl)
-    own (Sym.text t) = rw (texts_same t)
+named_exactly name s = ((λ e. names_equal s name (equal_of (compared_names s name) e)), (λ e. rw e (ap is_eq (tied_itself names name))))

@@ -17,7 +17,7 @@ use Rattle.tape.specs.Fine.{Bytes}
 use Rattle.tape.specs.Verdict.{verdict}
 use Rattle.tape.specs.declared.Frame.{Frame}
 use Rattle.tape.specs.declared.Frame.TheVariants.{Top, Struct}
-use Rattle.tape.specs.declared.Place.TheVariants.{Bad as Nowhere, At}
+use Rattle.std.specs.Prelude.{Some, None}
 use Rattle.tape.proofs.Numbers.{le_take}
 use Rattle.tape.proofs.Parts.{drop-take, part_length}
 use Rattle.tape.proofs.Walking.{walk_end, verdict-told}
@@ -141,11 +141,11 @@ sym-taken m l x n e = go (ℕ_discrete (kind (take m l)) 6) (ℕ_discrete (kind 
             let s = length-take m l in
             let c : take (length_of (take m l)) (drop 5 (take m l)) ≡ take (length_of l) (drop 5 l) =
             ap (λ (a : ℕ). take a (drop 5 (take m l))) j ∙ ap (take (length_of l)) (drop-take 5 m l) ∙ take-take (length_of l) (m - 5) (drop 5 l) (omega arith) in
-            sym-text l (At (length_of l)) (same_kind ∙ k) (sym (length_some l (omega arith)))
+            sym-text l (Some (length_of l)) (same_kind ∙ k) (sym (length_some l (omega arith)))
             ∙ ap (λ (a : ℕ). some (Sym.text (take (length_of l) (drop 5 l)), 5 + a)) (sym j)
             ∙ ap (λ (a : List ℕ). some (Sym.text a, 5 + length_of (take m l))) (sym c)
-            ∙ sym (sym-text (take m l) (At (length_of (take m l))) k (sym (length_some (take m l) h))) ∙ e
-        by (no h) = none-some (sym-text (take m l) Nowhere k (sym (length_over (take m l) (omega arith))))
+            ∙ sym (sym-text (take m l) (Some (length_of (take m l))) k (sym (length_some (take m l) h))) ∙ e
+        by (no h) = none-some (sym-text (take m l) None k (sym (length_over (take m l) (omega arith))))
     go (no a) (yes k) =
         let g = long in
         let s = length-take m l in

@@ -1,14 +1,19 @@
--- A lookup over an index gives the latest field with the name, and none exactly if no field has it. Assumes nothing.
+-- A lookup over an index gives the latest field with the name, and maybe.none exactly if no field has it. Assumes nothing.
 use Prim.Native.Nat.{ℕ, zero, suc, ◌+◌, ◌<◌, ◌≤◌}
 use mathlib.Core.Path.{◌≡◌, refl, sym, ap, subst, ◌∙◌}
 use mathlib.Core.List.{List, [], ◌∷◌, ◌++◌}
 use mathlib.Core.Bool.{Bool, true, false}
-use mathlib.Core.Option.{Option, none, some}
+use mathlib.Core.Option as maybe
 use native.Mathlib.Omega.{arith}
 use lib.ListN.{length, get_or, take, drop, length-append, get_or-append}
 use lib.Seq.{take_at}
+use Rattle.std.specs.Prelude.{Option, None, Some, Result, Ok, Err}
+use Rattle.std.specs.Cmp.{nat_cmp_is}
+use Rattle.std.specs.declared.cmp.Ordering.{Ordering}
+use Rattle.std.specs.declared.cmp.Ordering.TheVariants.{Less, Equal, Greater}
+use Rattle.std.specs.Result.{result_unwrap_or}
+use Rattle.std.specs.Ordering.{is_lt, is_eq, nat_cmp, ordering_then, ordering_reverse}
 use Rattle.output.specs.Logic.{if, on}
-use Rattle.output.proofs.Bools.{never}
 use Rattle.text_rules.specs.Text.{Sym}
 use Rattle.tape.specs.Bytes.{part}
 use Rattle.tape.specs.Tree.{Head, Node, Nodes, null, bool, int, float, decimal, timestamp, symbol, string, clob, blob, scalar, nest, marker, nil, more, size, encode_sym, encode_scalar, encode_name, encode_head, encode}
@@ -18,21 +23,14 @@ use Rattle.tape.specs.Verdict.{verdict}
 use Rattle.tape.specs.Answer.{Outcome, counted, ended, refused}
 use Rattle.tape.specs.declared.Frame.TheVariants.{Struct}
 use Rattle.field_index.specs.declared.Entry.{Entry}
-use Rattle.field_index.specs.declared.Indexed.{Indexed}
-use Rattle.field_index.specs.declared.Indexed.TheVariants as I
-use Rattle.field_index.specs.declared.Found.{Found}
-use Rattle.field_index.specs.declared.Found.TheVariants.{Nothing, At}
-use Rattle.field_index.specs.declared.Looked.{Looked}
-use Rattle.field_index.specs.declared.Looked.TheVariants as L
-use Rattle.field_index.specs.declared.names.Way.{Way}
-use Rattle.field_index.specs.declared.names.Way.TheVariants.{Less, Equal, Greater}
-use Rattle.field_index.specs.Names.{no_entry, then_by, is_less, is_equal, compared_numbers, compared_names, name_at, compared_places, before}
+use Rattle.field_index.specs.declared.Refusal.{Refusal}
+use Rattle.field_index.specs.Names.{no_entry, compared_names, name_at, compared_places, before}
 use Rattle.field_index.specs.Sorted.{many, Same, filter, reversed, First, Sorted, sorted}
 use Rattle.field_index.specs.Structs.{struct_at, fields_from}
-use Rattle.field_index.specs.Index.{indexed, refusal, fields_at, index_at, answered, left, IndexOf}
-use Rattle.field_index.specs.Lookup.{sought, named, further, first_with, Within, Finds, is_named, latest_field, looked_by, place_in, found_as}
-use Rattle.field_index.specs.IndexSteps.{children_in, Body, count_of, looked_as}
-use Rattle.field_index.proofs.OrderLaws.{turned, names, greater_is, before_order}
+use Rattle.field_index.specs.Index.{number, refusal, fields_at, index_at, answered, left, IndexOf}
+use Rattle.field_index.specs.Lookup.{sought, named, further, first_with, Within, Finds, is_named, latest_field, looked_by, found_in, looked_as}
+use Rattle.field_index.specs.IndexSteps.{children_in, Body}
+use Rattle.field_index.proofs.OrderLaws.{names, before_order}
 use Rattle.field_index.proofs.SortedLaws.{same_length, sorted-sorted, sorted-same, only_one}
 use Rattle.field_index.proofs.StructLaws.{node, next-is}
 use Rattle.field_index.proofs.FieldLaws.{its_name, name_long, fields-turn, next_at, its_turn, body_next, one_less, some_left}
@@ -105,21 +103,20 @@ module _ {A : Type 0} where
   reversed-sorted b [] s = tt
   reversed-sorted b (x ∷ l) s = sorted-last b (reversed l) x (reversed-sorted b l s.1) (first-reversed (λ u v. b v u) x l s.0)
 
-abbrev head_as : List Entry → Looked
-head_as [] = L.Nothing
-head_as (x ∷ l) = L.Field x
+abbrev head_as : List Entry → Result (Option Entry) ℕ
+head_as [] = Ok None
+head_as (x ∷ l) = Ok (Some x)
 
 -- the first that passes is the first of these
-first-filter : (q : Entry → Bool) (l : List Entry) → found_as (first_with q l) (get_or l (place_in (first_with q l)) no_entry) ≡ head_as (filter q l)
+first-filter : (q : Entry → Bool) (l : List Entry) → found_in l (first_with q l) ≡ head_as (filter q l)
 unfolding filter first_with
 first-filter q [] = refl
 first-filter q (x ∷ l) = go (q x) (first_with q l) (first-filter q l)
   where
-    go : (b : Bool) (r : Found) → found_as r (get_or l (place_in r) no_entry) ≡ head_as (filter q l)
-        → found_as (if b (At 0) (further r)) (get_or (x ∷ l) (place_in (if b (At 0) (further r))) no_entry) ≡ head_as (if b (x ∷ filter q l) (filter q l))
+    go : (b : Bool) (r : Option ℕ) → found_in l r ≡ head_as (filter q l) → found_in (x ∷ l) (if b (Some 0) (further r)) ≡ head_as (if b (x ∷ filter q l) (filter q l))
     go true r e = refl
-    go false Nothing e = e
-    go false (At k) e = e
+    go false None e = e
+    go false (Some k) e = e
 
 -- a node has a byte at least
 encoded_some : (n : Node) → 0 < length (encode n)
@@ -143,10 +140,10 @@ child_some h n = let a = length-append (encode_head h) (encode n) in let s = enc
 
 -- ---- fields with one name stand in the index from the struct's end
 
-pub equal_of : (w : Way) → is_equal w ≡ true → w ≡ Equal
-equal_of Less e = never (sym e)
+pub equal_of : (w : Ordering) → is_eq w ≡ true → w ≡ Equal
+equal_of Less e = cc
 equal_of Equal e = refl
-equal_of Greater e = never (sym e)
+equal_of Greater e = cc
 
 -- y comes before x
 abbrev comes_later : List ℕ → Entry → Entry → Bool
@@ -156,10 +153,10 @@ module _ (t : List ℕ) (name : Sym) where
   -- of two of them the one with the smaller offset comes last
   not-before : (x y : Entry) → x.name < y.name → named t name x ≡ true → named t name y ≡ true → before t x y ≡ false
   unfolding before sought
-  not-before x y h p q = ap (λ (w : Way). is_less (then_by w (compared_places y x))) same ∙ ap (λ (w : Way). is_less (then_by w (compared_numbers y.value x.value))) (greater_is y.name x.name h)
+  not-before x y h p q = ap (λ (w : Ordering). is_lt (ordering_then w (compared_places y x))) same ∙ ap (λ (w : Ordering). is_lt (ordering_then w (nat_cmp y.value x.value))) (sym (nat_cmp_is y.name x.name Greater h))
     where
       same : compared_names (name_at t x.name) (name_at t y.name) ≡ Equal
-      same = names.alike (name_at t x.name) name (name_at t y.name) (equal_of (sought t name x) p) ∙ names.flips (name_at t y.name) name ∙ ap turned (equal_of (sought t name y) q)
+      same = names.congr (name_at t x.name) name (name_at t y.name) (equal_of (sought t name x) p) ∙ names.antisymm name (name_at t y.name) ∙ ap ordering_reverse (equal_of (sought t name y) q)
 
   abbrev has : Entry → Bool
   has e = named t name e
@@ -198,20 +195,20 @@ module _ (t : List ℕ) (name : Sym) where
   -- ---- the latest field with the name
 
   -- the last of a list with x in front, where x passes: the list's last, else x
-  last_of : (x : Entry) (l : List Entry) (o : Option Entry) (c : Bool) → head_as (reversed l) ≡ looked_by 0 o → head_as (reversed (if c (x ∷ l) l)) ≡ looked_by 0 (on o some (if c (some x) none))
+  last_of : (x : Entry) (l : List Entry) (o : maybe.Option Entry) (c : Bool) → head_as (reversed l) ≡ looked_by 0 o → head_as (reversed (if c (x ∷ l) l)) ≡ looked_by 0 (on o maybe.some (if c (maybe.some x) maybe.none))
   unfolding reversed
   last_of x l o false e = e ∙ kept o
     where
-      kept : (o : Option Entry) → looked_by 0 o ≡ looked_by 0 (on o some none)
-      kept none = refl
-      kept (some y) = refl
+      kept : (o : maybe.Option Entry) → looked_by 0 o ≡ looked_by 0 (on o maybe.some maybe.none)
+      kept maybe.none = refl
+      kept (maybe.some y) = refl
   last_of x l o true e = go (reversed l) o e
     where
-      go : (m : List Entry) (o : Option Entry) → head_as m ≡ looked_by 0 o → head_as (m ++ x ∷ []) ≡ looked_by 0 (on o some (some x))
-      go [] none e = refl
-      go [] (some y) e = let z : ◌≡◌ {A = ℕ} 0 1 = cc in absurd (omega arith)
-      go (y ∷ m) none e = let z : ◌≡◌ {A = ℕ} 0 1 = cc in absurd (omega arith)
-      go (y ∷ m) (some z) e = e
+      go : (m : List Entry) (o : maybe.Option Entry) → head_as m ≡ looked_by 0 o → head_as (m ++ x ∷ []) ≡ looked_by 0 (on o maybe.some (maybe.some x))
+      go [] maybe.none e = refl
+      go [] (maybe.some y) e = let z : ◌≡◌ {A = ℕ} 0 1 = cc in absurd (omega arith)
+      go (y ∷ m) maybe.none e = let z : ◌≡◌ {A = ℕ} 0 1 = cc in absurd (omega arith)
+      go (y ∷ m) (maybe.some z) e = e
 
   size_none : (ns : Nodes) → size ns ≡ 0 → ns ≡ nil
   unfolding size
@@ -236,15 +233,15 @@ module _ (t : List ℕ) (name : Sym) where
     unfolding sought
     named_alike =
         let i = its_name t p e b.bytes h b.inside b.fine in
-        ap (is_named name) i.name ∙ ap (λ (s : Sym). is_equal (compared_names s name)) (sym (name_read t p e i.it i.count i.read))
+        ap (is_named name) i.name ∙ ap (λ (s : Sym). is_eq (compared_names s name)) (sym (name_read t p e i.it i.count i.read))
 
-    latest_turn : latest_field name p (children_in t p e) ≡ on (latest_field name (next_at t p e b h) rest) some (if (has x) (some x) none)
+    latest_turn : latest_field name p (children_in t p e) ≡ on (latest_field name (next_at t p e b h) rest) maybe.some (if (has x) (maybe.some x) maybe.none)
     unfolding latest_field
     latest_turn =
         ap (latest_field name p) (its_turn t p e b h).nodes
-        ∙ ap (λ (c : Bool). on (latest_field name (p + length (encode_head head ++ encode its_node)) rest) some (if c (some (record { name = p; value = p + length (encode_name head.0) })) none)) named_alike
-        ∙ ap (λ (m : ℕ). on (latest_field name (p + length (encode_head head ++ encode its_node)) rest) some (if (has x) (some (record { name = p; value = p + m })) none)) (name_long t p e b.bytes h b.inside b.fine)
-        ∙ ap (λ (m : ℕ). on (latest_field name m rest) some (if (has x) (some x) none)) (next-is Struct t p e b.bytes h b.inside b.fine)
+        ∙ ap (λ (c : Bool). on (latest_field name (p + length (encode_head head ++ encode its_node)) rest) maybe.some (if c (maybe.some (record { name = p; value = p + length (encode_name head.0) })) maybe.none)) named_alike
+        ∙ ap (λ (m : ℕ). on (latest_field name (p + length (encode_head head ++ encode its_node)) rest) maybe.some (if (has x) (maybe.some (record { name = p; value = p + m })) maybe.none)) (name_long t p e b.bytes h b.inside b.fine)
+        ∙ ap (λ (m : ℕ). on (latest_field name m rest) maybe.some (if (has x) (maybe.some x) maybe.none)) (next-is Struct t p e b.bytes h b.inside b.fine)
 
     behind : head_as (reversed (filter has (fields_from (next_at t p e b h) rest))) ≡ looked_by 0 (latest_field name (next_at t p e b h) rest)
         → head_as (reversed (filter has (fields_from p (children_in t p e)))) ≡ looked_by 0 (latest_field name p (children_in t p e))
@@ -265,7 +262,7 @@ module _ (t : List ℕ) (name : Sym) where
 
 -- ---- a whole lookup
 
-module _ (t : List ℕ) (at : ℕ) (ns : Nodes) (b : Bytes t) (v : verdict t ≡ 0) (s : struct_at t at ≡ some ns) (name : Sym) where
+module _ (t : List ℕ) (at : ℕ) (ns : Nodes) (b : Bytes t) (v : verdict t ≡ 0) (s : struct_at t at ≡ maybe.some ns) (name : Sym) where
   index_is : index_at t at ≡ sorted (before t) (fields_from (at + 5) ns)
   unfolding index_at
   index_is = ap (sorted (before t)) (fields-of t at 0 ns s)
@@ -279,14 +276,12 @@ module _ (t : List ℕ) (at : ℕ) (ns : Nodes) (b : Bytes t) (v : verdict t ≡
   pub latest_first : filter (named t name) (index_at t at) ≡ reversed (filter (named t name) (fields_from (at + 5) ns))
   latest_first = ap (filter (named t name)) index_is ∙ other_order t name (at + 5) ns
 
-  -- LOOKUP OVER THE INDEX of a struct: the latest field with the name, in tape order, or none exactly if no field has it
-  pub lookup_over_index : (r : Found) → Finds t name (index_at t at) r → found_as r (get_or (index_at t at) (place_in r) no_entry) ≡ looked_by 0 (latest_field name (at + 5) ns)
+  -- LOOKUP OVER THE INDEX of a struct: the latest field with the name, in tape order, or maybe.none exactly if no field has it
+  pub lookup_over_index : (r : Option ℕ) → Finds t name (index_at t at) r → found_in (index_at t at) r ≡ looked_by 0 (latest_field name (at + 5) ns)
   lookup_over_index r f =
       let l : List Entry = sorted (before t) (fields_from (at + 5) ns) in
       let first : r ≡ first_with (named t name) l = subst (λ (m : List Entry). Sorted (before t) m → r ≡ first_with (named t name) m) index_is f.first (sorted-sorted (before t) (before_order t) (fields_from (at + 5) ns)) in
-      ap (λ (m : List Entry). found_as r (get_or m (place_in r) no_entry)) index_is
-      ∙ ap (λ (k : Found). found_as k (get_or l (place_in k) no_entry)) first
-      ∙ first-filter (named t name) l ∙ ap head_as (other_order t name (at + 5) ns) ∙ by_nodes
+      ap (λ (m : List Entry). found_in m r) index_is ∙ ap (found_in l) first ∙ first-filter (named t name) l ∙ ap head_as (other_order t name (at + 5) ns) ∙ by_nodes
 
 -- ---- an index, and a lookup in its entries, as running code does it
 
@@ -301,22 +296,11 @@ counted_is zero k n e = (refl, ap (λ (o : Outcome). numbered o) e)
 counted_is (suc r) k n e = let y : ◌≡◌ {A = ℕ} 0 1 = cc in absurd (omega arith)
 
 -- an index's fields are no more than the entries
-pub count_few : (t : List ℕ) (at : ℕ) (l l' : List Entry) (i : Indexed) → IndexOf t at l l' i → count_of i ≤ length l
-count_few t at l l' (I.Count n) x =
+pub count_few : (t : List ℕ) (at : ℕ) (l l' : List Entry) (n : ℕ) → IndexOf t at l l' (Ok n) → n ≤ length l
+count_few t at l l' n x =
     let c = counted_is (refusal t at (length l)) (length (fields_at t at)) n x.answer in
     let f = fields_few t at (length l) c.0 in
     omega arith
-count_few t at l l' I.Misfit x = omega arith
-count_few t at l l' I.BadNode x = omega arith
-count_few t at l l' I.TooDeep x = omega arith
-count_few t at l l' I.FiniteFloat x = omega arith
-count_few t at l l' I.NoStruct x = omega arith
-count_few t at l l' I.TooManyFields x = omega arith
-
--- what was found has a place among them
-pub place_few : (t : List ℕ) (name : Sym) (l : List Entry) (f : Found) (m : ℕ) → Finds t name l f → length l ≤ m → 0 < m → place_in f < m
-place_few t name l Nothing m x h z = z
-place_few t name l (At k) m x h z = let w = x.within in omega arith
 
 -- where there is no refusal
 module _ (t : List ℕ) (at : ℕ) (name : Sym) (l l' : List Entry) (b : Bytes t) (z : refusal t at (length l) ≡ 0) (e : l' ≡ left (refusal t at (length l)) (index_at t at ++ drop (length (fields_at t at)) l) l) where
@@ -330,36 +314,29 @@ module _ (t : List ℕ) (at : ℕ) (name : Sym) (l l' : List Entry) (b : Bytes t
   part-is : take (length (fields_at t at)) l' ≡ index_at t at
   part-is = ap (take (length (fields_at t at))) laid ∙ take_at (index_at t at) (drop (length (fields_at t at)) l) (length (fields_at t at)) index_long
 
-  entry-is : (f : Found) → Within (length (index_at t at)) f → found_as f (get_or l' (place_in f) no_entry) ≡ found_as f (get_or (index_at t at) (place_in f) no_entry)
-  entry-is Nothing w = refl
-  entry-is (At k) w = ap (λ (m : List Entry). L.Field (get_or m k no_entry)) laid ∙ ap L.Field (get_or-append (index_at t at) (drop (length (fields_at t at)) l) no_entry k w)
+  entry-is : (f : Option ℕ) → Within (length (index_at t at)) f → found_in l' f ≡ found_in (index_at t at) f
+  entry-is None w = refl
+  entry-is (Some k) w = ap (λ (m : List Entry). Ok (Some (get_or m k no_entry))) laid ∙ ap (λ (e : Entry). Ok (Some e)) (get_or-append (index_at t at) (drop (length (fields_at t at)) l) no_entry k w)
 
-  found_told : (f : Found) → Finds t name (take (length (fields_at t at)) l') f → found_as f (get_or l' (place_in f) no_entry) ≡ looked_by 0 (on (struct_at t at) (latest_field name (at + 5)) none)
+  found_told : (f : Option ℕ) → Finds t name (take (length (fields_at t at)) l') f → found_in l' f ≡ looked_by 0 (on (struct_at t at) (latest_field name (at + 5)) maybe.none)
   found_told f g =
       let h = subst (λ (m : List Entry). Finds t name m f) part-is g in
       let s = no_refusal t at (length l) z in
-      entry-is f h.within ∙ lookup_over_index t at s.nodes b s.tape s.struct name f h ∙ ap (λ (o : Option Nodes). looked_by 0 (on o (latest_field name (at + 5)) none)) (sym s.struct)
+      entry-is f h.within ∙ lookup_over_index t at s.nodes b s.tape s.struct name f h ∙ ap (λ (o : maybe.Option Nodes). looked_by 0 (on o (latest_field name (at + 5)) maybe.none)) (sym s.struct)
+
+-- where the index is refused, whatever is looked up
+pub refused_told : (t : List ℕ) (at : ℕ) (name : Sym) (l l' : List Entry) (r : Refusal) → IndexOf t at l l' (Err r) → Err (number r) ≡ looked_by (refusal t at (length l)) (on (struct_at t at) (latest_field name (at + 5)) maybe.none)
+refused_told t at name l l' r x = go (refusal t at (length l)) (number r) x.answer
+  where
+    go : (m n : ℕ) → refused n ≡ answered m (length (fields_at t at)) → Err n ≡ looked_by m (on (struct_at t at) (latest_field name (at + 5)) maybe.none)
+    go zero n q = cc
+    go (suc m) n q = cc
 
 -- INDEX AND LOOKUP: of any entries, indexed, the part that the index fills is handed to a lookup: the index's refusal, or the latest field with the name, in tape order, or none exactly if no field has it
-pub look-told : (t : List ℕ) (at : ℕ) (name : Sym) (l l' : List Entry) (i : Indexed) (f : Found) → Bytes t → IndexOf t at l l' i → Finds t name (take (count_of i) l') f
-    → looked_as i f (get_or l' (place_in f) no_entry) ≡ looked_by (refusal t at (length l)) (on (struct_at t at) (latest_field name (at + 5)) none)
-look-told t at name l l' i f b x g = go i x.answer g
-  where
-    o : Option Entry
-    o = on (struct_at t at) (latest_field name (at + 5)) none
-
-    -- a refusal's number is the answer's
-    refuses : (r n : ℕ) → refused n ≡ answered r (length (fields_at t at)) → L.Refused n ≡ looked_by r o
-    refuses zero n q = let y : ◌≡◌ {A = ℕ} 0 1 = cc in absurd (omega arith)
-    refuses (suc r) n q = let y : n ≡ suc r = cc in ap L.Refused y
-
-    go : (i : Indexed) → indexed i ≡ answered (refusal t at (length l)) (length (fields_at t at)) → Finds t name (take (count_of i) l') f → looked_as i f (get_or l' (place_in f) no_entry) ≡ looked_by (refusal t at (length l)) o
-    go (I.Count n) q g =
-        let c = counted_is (refusal t at (length l)) (length (fields_at t at)) n q in
-        found_told t at name l l' b c.0 x.entries f (subst (λ (m : ℕ). Finds t name (take m l') f) c.1 g) ∙ ap (λ (r : ℕ). looked_by r o) (sym c.0)
-    go I.Misfit q g = refuses (refusal t at (length l)) 1 q
-    go I.BadNode q g = refuses (refusal t at (length l)) 2 q
-    go I.TooDeep q g = refuses (refusal t at (length l)) 3 q
-    go I.FiniteFloat q g = refuses (refusal t at (length l)) 4 q
-    go I.NoStruct q g = refuses (refusal t at (length l)) 11 q
-    go I.TooManyFields q g = refuses (refusal t at (length l)) 12 q
+pub look-told : (t : List ℕ) (at : ℕ) (name : Sym) (l l' : List Entry) (i : Result ℕ Refusal) (f : Option ℕ) → Bytes t → IndexOf t at l l' i → Finds t name (take (result_unwrap_or i 0) l') f
+    → looked_as i (found_in l' f) ≡ looked_by (refusal t at (length l)) (on (struct_at t at) (latest_field name (at + 5)) maybe.none)
+look-told t at name l l' (Ok n) f b x g =
+    let c = counted_is (refusal t at (length l)) (length (fields_at t at)) n x.answer in
+    found_told t at name l l' b c.0 x.entries f (subst (λ (m : ℕ). Finds t name (take m l') f) c.1 g)
+    ∙ ap (λ (r : ℕ). looked_by r (on (struct_at t at) (latest_field name (at + 5)) maybe.none)) (sym c.0)
+look-told t at name l l' (Err r) f b x g = refused_told t at name l l' r x

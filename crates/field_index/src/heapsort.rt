@@ -1,4 +1,5 @@
-// Heapsort, a turn at a time: where a sort stands is a value, and a turn says what to store where. `crate::sort` has the loop.
+// Heapsort, a turn at a time: where a sort stands is a value, and a turn says what to store where. `crate::sort` has the loop. The steps stay by hand:
+// `heapsorted-is` (proofs/TurnLaws.antt) bounds the turns of `turns` (specs/HeapSteps.antt), and std's sort promises no bound.
 ghost use Rattle.std.specs.Prelude.{◌≡◌, ◌-◌, ◌<◌, ◌≤◌, ◌/◌};
 ghost use Rattle.field_index.specs.Names.{before};
 ghost use Rattle.field_index.specs.HeapSteps.{node_of, settled_of, sift_of, start_of, step_of, turn_of};

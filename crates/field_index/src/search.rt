@@ -1,10 +1,13 @@
-// Binary search, a turn at a time. `crate::find` has the loop.
+// Binary search, a turn at a time. `crate::find` has the loop. The steps stay by hand: `searched-is` (proofs/SearchLaws.antt) bounds the comparisons of
+// `searched` (specs/SearchSteps.antt), and std's `partition_point` promises no bound.
 ghost use Rattle.std.specs.Prelude.{◌≡◌, false, ◌<◌, ◌≤◌};
-ghost use Rattle.field_index.specs.Lookup.{sought, key_of};
+ghost use Rattle.field_index.specs.NameSteps.{meant};
+ghost use Rattle.field_index.specs.Lookup.{sought};
 ghost use Rattle.field_index.specs.SearchSteps.{range_of, narrowed_of, answer_of};
 
-use crate::names::Way;
-use crate::{Entry, Found, Key};
+use crate::Entry;
+use crate::names::{Name, compare_names};
+use std::cmp::Ordering;
 
 // What is left of a search, its middle, and whether the entry behind it has the name.
 #[derive(Clone, Copy)]
@@ -31,24 +34,20 @@ pub fn all(n: usize) -> Range
 }
 
 // The entry in the middle is looked at.
-pub fn narrow<'a>(tape: &'a [u8], name: &'a [u8], key: Key, e: Entry, r: Range) -> Range
+pub fn narrow<'a>(tape: &'a [u8], name: Name<'a>, e: Entry, r: Range) -> Range
     requires { (r.lo ≤ r.mid) × (r.mid < r.hi) }
-    ensures { result ≡ narrowed_of (sought tape.now (key_of name.now key) e) r }
+    ensures { result ≡ narrowed_of (sought tape.now (meant name.entry) e) r }
 {
-    match crate::names::compare_key(tape, e.name, name, key) {
-        Way::Less => halved(r.mid + 1, r.hi, r.same),
-        Way::Equal => halved(r.lo, r.mid, true),
-        Way::Greater => halved(r.lo, r.mid, false),
+    match compare_names(tape, e.name, name) {
+        Ordering::Less => halved(r.mid + 1, r.hi, r.same),
+        Ordering::Equal => halved(r.lo, r.mid, true),
+        Ordering::Greater => halved(r.lo, r.mid, false),
     }
 }
 
 // What the search answers once nothing is left.
-pub fn place(r: Range) -> Found
+pub fn place(r: Range) -> Option<usize>
     ensures { result ≡ answer_of r }
 {
-    if r.same {
-        Found::At(r.lo)
-    } else {
-        Found::Nothing
-    }
+    if r.same { Some(r.lo) } else { None }
 }

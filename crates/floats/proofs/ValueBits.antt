@@ -1,7 +1,7 @@
 -- What the bits of a float say of the whole number that it is. Assumes nothing.
 use mathlib.Core.Path.{◌≡◌, refl, sym, ap, ◌∙◌, subst}
 use mathlib.Core.Bool.{Bool, true, false, not, cond}
-use mathlib.Core.Option.{none, some}
+use mathlib.Core.Option.{Option, none, some}
 use Prim.Native.Nat.{ℕ, zero, suc, ◌+◌, ◌-◌, ◌*◌, ◌/◌, ◌%◌, ◌^◌, ◌≤◌, ◌<◌}
 use native.Mathlib.Nat.{le_refl, le_trans, le_of_eq, lt_of_lt_of_le, lt_of_not-le, lt_irrefl, zero-mul, mul_assoc, mul-pos, mul-le-mul_left, mul-le-mul_right}
 use native.Mathlib.Decide.{dec_le}
@@ -12,9 +12,21 @@ use lib.Count.{count_leading_zeros, leading_top}
 use lib.Ieee.{Float, nan, inf, fin, binary64, top, odd, is_nan, of_fields, of_bits, to_bits, nan_bits}
 use lib.Ieee.Bits.{cond_no, nan_bits_is, of_bits-fits, to_bits-of_bits}
 use lib.Ieee.Exact.{HasValue, odd_sign}
+use borrow.Author.Tests.{eq-eqb, eqb-true}
+use Rattle.std.specs.Bool.{then_some}
+use Rattle.text_rules.proofs.DigitLaws.{never}
+use Rattle.text_rules.specs.Reading.{found}
 use Rattle.floats.specs.Whole.{most_whole}
 use Rattle.floats.specs.Value.{whole_of, up_to, magnitude, is_negative, whole_float}
 use Rattle.floats.proofs.ValueLaws.{cancel, whole-magnitude, magnitude-none, magnitude-some, nothing, whole_float_lem, bits_back}
+
+-- a number that a test of equality gives, or none
+pub told_if : (n k v : ℕ) (o : Option ℕ) → (n ≡ k → o ≡ some v) → ((n ≡ k → ⊥) → o ≡ none) → found (then_some (eqb n k) v) ≡ o
+told_if n k v o y z = go (eqb n k) refl
+  where
+    go : (b : Bool) → eqb n k ≡ b → found (then_some b v) ≡ o
+    go true e = sym (y (eqb-true n k e))
+    go false e = sym (z (λ h. never (sym (eq-eqb n k h) ∙ e)))
 
 -- ---- what the bits are read as
 

@@ -189,7 +189,3 @@ whole_below c t h = rw (lt-leb 48 c h)
 pub whole_above : (c : ℕ) (t : List ℕ) → 57 < c → whole_number (c ∷ t) ≡ none
 unfolding whole_number is_digit
 whole_above c t h = rw (lt-leb c 57 h, neither (leb 48 c))
-
-pub whole-digit : (c : ℕ) (t : List ℕ) → 48 ≤ c → c ≤ 57 → whole_number (c ∷ t) ≡ behind_first (c - 48) t
-unfolding whole_number is_digit
-whole-digit c t h g = rw (le-leb 48 c h, le-leb c 57 g)

@@ -1,6 +1,3 @@
 pub mod Whole
-pub mod WholeSteps
 pub mod Value
-pub mod ValueSteps
 pub mod Float
-pub mod FloatSteps

@@ -2,9 +2,9 @@
 ghost use Rattle.std.specs.Prelude.{◌≡◌, false, ◌≤◌, ◌<◌};
 ghost use Rattle.std.specs.Float.{binary64};
 ghost use Rattle.std.specs.Float.Ieee.{of_bits, to_bits};
+ghost use Rattle.text_rules.specs.Reading.{found};
 ghost use Rattle.floats.specs.Whole.{most_whole};
 ghost use Rattle.floats.specs.Value.{magnitude, whole_float};
-ghost use Rattle.floats.specs.ValueSteps.{whole_is};
 
 // The bits without the sign. The number is moved up until it has 53 binary digits; the first of them adds one to the exponent.
 fn unsigned_bits(n: u64) -> u64
@@ -34,42 +34,26 @@ pub fn bits_of(neg: bool, n: u64) -> u64
     b
 }
 
-// The magnitude of a whole number, or none.
-#[derive(Clone, Copy)]
-pub enum Magnitude {
-    Is(u64),
-    No,
-}
-
-// The whole number up to the most that the float of these bits is, of either sign.
-pub fn magnitude_of(bits: u64) -> Magnitude
-    ensures { whole_is result ≡ magnitude (of_bits binary64 bits) }
+// The whole number up to the most that the float of these bits is, of either sign; or none.
+pub fn magnitude_of(bits: u64) -> Option<u64>
+    ensures { found result ≡ magnitude (of_bits binary64 bits) }
 {
     let e = bits % 0x8000000000000000 / 4503599627370496;
     let t = bits % 4503599627370496;
     if e == 0 {
-        if t == 0 {
-            return Magnitude::Is(0);
-        }
-        return Magnitude::No;
+        return (t == 0).then_some(0);
     }
-    if e < 1023 {
-        return Magnitude::No;
-    }
-    if 1076 < e {
-        return Magnitude::No;
+    if e < 1023 || 1076 < e {
+        return None;
     }
     if e == 1076 {
-        if t == 0 {
-            return Magnitude::Is(9007199254740992);
-        }
-        return Magnitude::No;
+        return (t == 0).then_some(9007199254740992);
     }
     let q = 4503599627370496 + t;
     let i = 1075 - e;
     let n = q >> i;
     if n << i == q {
-        return Magnitude::Is(n);
+        return Some(n);
     }
-    Magnitude::No
+    None
 }

@@ -3,17 +3,15 @@ ghost use Rattle.std.specs.Prelude.{◌≡◌, List, ◌∷◌, ℕ, suc, ◌≤
 ghost use Rattle.output.specs.Logic.{byte};
 ghost use Rattle.output.specs.Wrote.{Wrote, limit};
 ghost use Rattle.text_rules.specs.Digits.{digit, count, digits};
-ghost use Rattle.text_rules.specs.Reading.{Reads};
+ghost use Rattle.text_rules.specs.Reading.{Reads, found};
 ghost use Rattle.floats.specs.Whole.{significant, point, whole_text, scaled, behind_e, behind_all, behind_first, whole_number};
-ghost use Rattle.floats.specs.WholeSteps.{whole_read};
 
-use numbers::int;
-use text_rules::digits::Joined;
+use text_rules::digits::{digits_at, is_digit};
 use text_rules::texts::stands;
 
 // ---- writing
 
-// The number without its trailing zeros, one by one.
+// The number without its trailing zeros, one by one. A walk: how many there are shows only at its end.
 fn trimmed(n: u64) -> u64
     requires { 0 < n }
     ensures { significant (digits n) ≡ digits result }
@@ -36,7 +34,7 @@ fn significant_of(n: u64) -> u64
     trimmed(n)
 }
 
-// The digit of a number below ten.
+// The digit of a number below ten. That of `text_rules::digits` has a u32 and is its own: shared, it would be a public function, with a cast at each call.
 fn digit_of(x: u64) -> u8
     requires { x < 10 }
     ensures { result ≡ digit x }
@@ -46,7 +44,7 @@ fn digit_of(x: u64) -> u8
 
 // The digits of m, eight at most, with a point after the first: a word of them.
 fn put_short(buf: &mut [u8], pos: usize, m: u64, w: usize) -> usize
-    requires { (pos ≤ limit) × (w ≡ count 19 m) × (2 ≤ w) × (w ≤ 8) }
+    requires { (w ≡ count 19 m) × (2 ≤ w) × (w ≤ 8) }
     ensures { Wrote buf.old buf.new pos result (point (digits m)) }
 {
     let v = text_rules::digits::eight_digits(m) >> (64 - 8 * w);
@@ -56,7 +54,6 @@ fn put_short(buf: &mut [u8], pos: usize, m: u64, w: usize) -> usize
 
 // The digits of m, with a point after the first if more follow.
 fn put_point(buf: &mut [u8], pos: usize, m: u64) -> usize
-    requires { pos ≤ limit }
     ensures { Wrote buf.old buf.new pos result (point (digits m)) }
 {
     let w = text_rules::digits::digit_count(m);
@@ -74,7 +71,6 @@ fn put_point(buf: &mut [u8], pos: usize, m: u64) -> usize
 
 // `e` and the exponent.
 fn put_exponent(buf: &mut [u8], pos: usize, e: u64) -> usize
-    requires { pos ≤ limit }
     ensures { Wrote buf.old buf.new pos result (byte "e" ∷ digits e) }
 {
     if e < 10 {
@@ -86,14 +82,13 @@ fn put_exponent(buf: &mut [u8], pos: usize, e: u64) -> usize
 
 // The text of n, of every n.
 pub fn format_whole(buf: &mut [u8], pos: usize, n: u64) -> usize
-    requires { pos ≤ limit }
     ensures { Wrote buf.old buf.new pos result (whole_text n) }
 {
     if n == 0 {
         return output::put_le(buf, pos, 0x306530, 3);
     }
     let p = put_point(buf, pos, significant_of(n));
-    put_exponent(buf, p, int::far(text_rules::digits::digit_count(n) - 1))
+    put_exponent(buf, p, (text_rules::digits::digit_count(n) - 1) as u64)
 }
 
 // How long the text is.
@@ -104,7 +99,7 @@ pub fn whole_length(n: u64) -> usize
         return 3;
     }
     let w = text_rules::digits::digit_count(significant_of(n));
-    let e = int::far(text_rules::digits::digit_count(n) - 1);
+    let e = (text_rules::digits::digit_count(n) - 1) as u64;
     let x = text_rules::digits::digit_count(e);
     if w == 1 {
         return 2 + x;
@@ -114,114 +109,78 @@ pub fn whole_length(n: u64) -> usize
 
 // ---- reading
 
-// A whole number, and the place behind it.
-#[derive(Clone, Copy)]
-pub enum WholeRead {
-    Is(u64, usize),
-    Bad,
-}
-
-fn width(x: u64) -> usize
-    ensures { result ≡ x }
-{
-    x as usize
-}
-
 // The number that m is, of whose digits f stand after the point, times ten to the e.
-fn scaled_of(m: u64, f: usize, e: u64, end: usize) -> WholeRead
-    ensures { (text : List ℕ) → end ≤ length text → Reads text end (scaled m f e (drop end text)) (whole_read result) }
+fn scaled_of(m: u64, f: usize, e: u64, end: usize) -> Option<(u64, usize)>
+    ensures { (text : List ℕ) → end ≤ length text → Reads text end (scaled m f e (drop end text)) (found result) }
 {
-    if m == 0 {
-        if e == 0 {
-            return WholeRead::Is(0, end);
-        }
-        return WholeRead::Bad;
+    if m == 0 && e == 0 {
+        return Some((0, end));
     }
-    if m % 10 == 0 {
-        return WholeRead::Bad;
+    if m % 10 == 0 || 15 < e {
+        return None;
     }
-    if 15 < e {
-        return WholeRead::Bad;
-    }
-    let k = width(e);
+    let k = e as usize;
     if k < f {
-        return WholeRead::Bad;
+        return None;
     }
     let p = text_rules::digits::pow10(k - f);
     if 9007199254740992 / p < m {
-        return WholeRead::Bad;
+        return None;
     }
-    WholeRead::Is(m * p, end)
+    Some((m * p, end))
 }
 
-fn behind_e(text: &[u8], at: usize, m: u64, f: usize) -> WholeRead
+fn behind_e(text: &[u8], at: usize, m: u64, f: usize) -> Option<(u64, usize)>
     requires { at ≤ length text.now }
-    ensures { Reads text.now at (behind_e m f (drop at text.now)) (whole_read result) }
+    ensures { Reads text.now at (behind_e m f (drop at text.now)) (found result) }
 {
-    match text_rules::digits::digits_at(text, at, 0) {
-        Joined::Digits(e, end) => {
-            let k = end - at;
-            if k == 0 {
-                return WholeRead::Bad;
-            }
-            if k == 1 {
-                return scaled_of(m, f, e, end);
-            }
-            if text[at] == b'0' {
-                return WholeRead::Bad;
-            }
-            scaled_of(m, f, e, end)
-        }
-        Joined::Over => WholeRead::Bad,
+    let (e, end) = digits_at(text, at, 0)?;
+    let k = end - at;
+    if k == 0 || 1 < k && text[at] == b'0' {
+        return None;
     }
+    scaled_of(m, f, e, end)
 }
 
-fn behind_all(text: &[u8], at: usize, m: u64, f: usize) -> WholeRead
+fn behind_all(text: &[u8], at: usize, m: u64, f: usize) -> Option<(u64, usize)>
     requires { at ≤ length text.now }
-    ensures { Reads text.now at (behind_all m f (drop at text.now)) (whole_read result) }
+    ensures { Reads text.now at (behind_all m f (drop at text.now)) (found result) }
 {
     if stands(text, at, b'e') {
         return behind_e(text, at + 1, m, f);
     }
-    WholeRead::Bad
+    None
 }
 
-fn behind_first(text: &[u8], at: usize, m: u64) -> WholeRead
+fn behind_first(text: &[u8], at: usize, m: u64) -> Option<(u64, usize)>
     requires { at ≤ length text.now }
-    ensures { Reads text.now at (behind_first m (drop at text.now)) (whole_read result) }
+    ensures { Reads text.now at (behind_first m (drop at text.now)) (found result) }
 {
     if stands(text, at, b'.') {
         if m == 0 {
-            return WholeRead::Bad;
+            return None;
         }
-        return match text_rules::digits::digits_at(text, at + 1, m) {
-            Joined::Digits(k, end) => {
-                let f = end - (at + 1);
-                if f == 0 {
-                    return WholeRead::Bad;
-                }
-                behind_all(text, end, k, f)
-            }
-            Joined::Over => WholeRead::Bad,
-        };
+        let (k, end) = digits_at(text, at + 1, m)?;
+        let f = end - (at + 1);
+        if f == 0 {
+            return None;
+        }
+        return behind_all(text, end, k, f);
     }
     behind_all(text, at, m, 0)
 }
 
-// The whole number that the text from `at` on starts with.
-pub fn whole_at(text: &[u8], at: usize) -> WholeRead
+// The whole number that the text from `at` on starts with, and the place behind it.
+pub fn whole_at(text: &[u8], at: usize) -> Option<(u64, usize)>
     requires { at ≤ length text.now }
-    ensures { Reads text.now (suc at) (whole_number (drop at text.now)) (whole_read result) }
+    ensures { Reads text.now (suc at) (whole_number (drop at text.now)) (found result) }
 {
     if at == text.len() {
-        return WholeRead::Bad;
+        return None;
     }
     let b = text[at];
-    if b < 48 {
-        return WholeRead::Bad;
+    if !is_digit(b) {
+        return None;
     }
-    if 57 < b {
-        return WholeRead::Bad;
-    }
-    behind_first(text, at + 1, (b - 48) as u64)
+    behind_first(text, at + 1, (b - b'0') as u64)
 }

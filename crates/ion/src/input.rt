@@ -1,5 +1,5 @@
 // The input: a file by its name, or standard input by the name `-`.
-ghost use Rattle.std.specs.Prelude.{◌≤◌, length, IfOk};
+ghost use Rattle.std.specs.Prelude.{◌≤◌, length, IfOk, IfSome};
 
 use std::io::Read;
 use std::rt::Runtime;
@@ -9,24 +9,17 @@ use text_rules::words::same_word;
 // The error of a name that is no text, by C's number: std opens files by names in UTF-8 alone.
 const EILSEQ: i32 = 84;
 
-// How many bytes of the input the buffer has, and whether these are all. Where they are not, it was said why.
-#[derive(Clone, Copy)]
-pub struct Input {
-    pub count: usize,
-    pub whole: bool,
-}
-
-// Reads until the input ends or the buffer is full.
-fn fill(input: &mut impl Read, buf: &mut [u8]) -> io::Result<Input>
-    ensures { IfOk result (λ i. i.count ≤ length buf.new) }
+// Reads until the input ends. How many bytes it has; none where the buffer has no room for more that are there.
+fn fill(input: &mut impl Read, buf: &mut [u8]) -> io::Result<Option<usize>>
+    ensures { IfOk result (λ r. IfSome r (λ n. n ≤ length buf.new)) }
 {
     let count = program_io::read_full(input, buf)?;
     let whole = count < buf.len() || program_io::read_full(input, &mut [0u8; 1])? == 0;
-    Ok(Input { count, whole })
+    Ok(whole.then_some(count))
 }
 
-fn fill_by_name(rt: &impl Runtime, name: &[u8], buf: &mut [u8]) -> io::Result<Input>
-    ensures { IfOk result (λ i. i.count ≤ length buf.new) }
+fn fill_by_name(rt: &impl Runtime, name: &[u8], buf: &mut [u8]) -> io::Result<Option<usize>>
+    ensures { IfOk result (λ r. IfSome r (λ n. n ≤ length buf.new)) }
 {
     if same_word(name, b"-") {
         return fill(&mut rt.reader(), buf);
@@ -45,23 +38,19 @@ fn called(name: &[u8]) -> &str {
     str::from_utf8(name).unwrap_or("the file")
 }
 
-// Reads the input of a name into the buffer.
-pub fn read(rt: &impl Runtime, name: &[u8], buf: &mut [u8]) -> Input
-    ensures { result.count ≤ length buf.new }
+// Reads the input of a name into the buffer. How many bytes it has; none where it could not be read or is too long, of which it was said why.
+pub fn read(rt: &impl Runtime, name: &[u8], buf: &mut [u8]) -> Option<usize>
+    ensures { IfSome result (λ n. n ≤ length buf.new) }
 {
     match fill_by_name(rt, name, buf) {
-        Ok(i) => {
-            if !i.whole {
-                crate::too_long(rt, buf.len());
-            }
-            i
+        Ok(Some(n)) => Some(n),
+        Ok(None) => {
+            crate::too_long(rt, buf.len());
+            None
         }
         Err(e) => {
             crate::cannot_read(rt, called(name), &e);
-            Input {
-                count: 0,
-                whole: false,
-            }
+            None
         }
     }
 }

@@ -8,16 +8,16 @@ mod words;
 
 ghost use Rattle.std.specs.Prelude.{◌≡◌, ◌+◌, ◌<◌, ◌≤◌, IfOk, vec_len};
 
-use field_index::{Key, Looked};
+use field_index::{Entry, Name, Refusal};
 use ion_show::{line, show};
 use line_reader::Called;
 use program_io::{fail, say};
 use std::alloc::{AllocError, Global};
 use std::env::FillError;
+use std::fmt::Display;
 use std::io;
 use std::rt::{Env, Runtime};
-use tape::answer::Answer;
-use text_rules::digits::Joined;
+use tape::answer::{Answer, Fault};
 use text_rules::words::Kind;
 use words::Word;
 
@@ -35,7 +35,7 @@ fn too_long(rt: &impl Eprint, room: usize) {
     );
 }
 
-fn tape_reason(number: u8) -> &'static str {
+fn reason(number: u8) -> &'static str {
     match number {
         1 => {
             "the tape has under 8 or over 1,048,576 bytes, or its trailer does not tell its length"
@@ -43,14 +43,9 @@ fn tape_reason(number: u8) -> &'static str {
         2 => "a node is outside the layout of tapes, or the number of top-level nodes is wrong",
         3 => "a container is opened while 64 are open",
         4 => "a float is finite and no whole number of magnitude up to 2^53",
-        _ => {
+        0 | 5 => {
             "compact, lines and pretty take no annotations; tree takes one value, no marker and no identifier but $0"
         }
-    }
-}
-
-fn text_reason(number: u8) -> &'static str {
-    match number {
         6 => "the text is longer than 4,200,000 bytes",
         7 => "there is no such layout",
         8 => "the text is outside the grammar (split shows it line by line)",
@@ -62,14 +57,6 @@ fn text_reason(number: u8) -> &'static str {
             "the text is outside the old grammar, which takes control characters raw (split shows its lines by the strict one)"
         }
         _ => "the output is longer than the buffer",
-    }
-}
-
-fn reason(number: u8) -> &'static str {
-    if number < 6 {
-        tape_reason(number)
-    } else {
-        text_reason(number)
     }
 }
 
@@ -122,9 +109,7 @@ No FILE, or -: standard input. What is refused is said on standard error.
 docs/FORMAT.md says what tapes and texts are, and when each refusal comes.";
 
 fn help(rt: &(impl Print + Eprint)) {
-    if let Err(e) = rt.println(HELP) {
-        fail(rt, "ion: cannot write to standard output", &e);
-    }
+    print_line(rt, HELP);
 }
 
 // A sentence on how the program was called, and what the words do.
@@ -136,24 +121,27 @@ fn wrong_use(rt: &impl Eprint, why: &str) {
 
 // A refusal of a tape; 2, 3 and 4 with the offset of what is wrong, which is the trailer's where all nodes are good.
 fn refuse(rt: &(impl Print + Eprint), number: u8, tape: &[u8], text: &mut [u8], spare: &mut [u8]) {
-    if number < 2 {
-        refusal(rt, number);
-        return;
+    match number {
+        2..=4 => refusal_at(rt, number, show::walk(rt, tape, false, text, spare)),
+        _ => refusal(rt, number),
     }
-    if 4 < number {
-        refusal(rt, number);
-        return;
+}
+
+// The number of the layout that a word names; none for the tree text.
+fn layout_of(word: Word) -> Option<u32> {
+    match word {
+        Word::Compact => Some(0),
+        Word::Lines => Some(1),
+        Word::Pretty => Some(2),
+        _ => None,
     }
-    refusal_at(rt, number, show::walk(rt, tape, false, text, spare));
 }
 
 // A text in a layout, or the tree text.
 fn write(quoted: bool, word: Word, tape: &[u8], text: &mut [u8]) -> Answer {
-    match word {
-        Word::Compact => writer::writer::write_stream_with(quoted, 0, tape, text),
-        Word::Lines => writer::writer::write_stream_with(quoted, 1, tape, text),
-        Word::Pretty => writer::writer::write_stream_with(quoted, 2, tape, text),
-        _ => tree::write_tree_with(quoted, tape, text),
+    match layout_of(word) {
+        Some(layout) => writer::writer::write_stream_with(quoted, layout, tape, text),
+        None => tree::write_tree_with(quoted, tape, text),
     }
 }
 
@@ -176,11 +164,9 @@ fn give_text(
 
 // The length of a text in a layout, or of the tree text.
 fn length(quoted: bool, word: Word, tape: &[u8]) -> Answer {
-    match word {
-        Word::Compact => measure::text_length_with(quoted, 0, tape),
-        Word::Lines => measure::text_length_with(quoted, 1, tape),
-        Word::Pretty => measure::text_length_with(quoted, 2, tape),
-        _ => tree::tree_length_with(quoted, tape),
+    match layout_of(word) {
+        Some(layout) => measure::text_length_with(quoted, layout, tape),
+        None => tree::tree_length_with(quoted, tape),
     }
 }
 
@@ -198,34 +184,36 @@ fn give_length(
         refuse(rt, tape::answer::number(a), tape, text, spare);
         return;
     };
-    let p = text_rules::digits::put_digits(text, 0, n as u64);
-    let e = output::put(text, p, b'\n');
-    line::emit(rt, text, e);
+    print_line(rt, n);
 }
 
-fn praise(rt: &(impl Print + Eprint), length: usize, count: usize, text: &mut [u8]) {
-    let p = output::put_bytes(text, 0, b"good tape: bytes ");
-    let q = text_rules::digits::put_digits(text, p, length as u64);
-    let r = output::put_bytes(text, q, b", top-level nodes ");
-    let s = text_rules::digits::put_digits(text, r, count as u64);
-    let e = output::put(text, s, b'\n');
-    line::emit(rt, text, e);
+// Text and LF to standard output, or a sentence.
+fn print_line(rt: &(impl Print + Eprint), text: impl Display + Drop) {
+    if let Err(e) = rt.println(text) {
+        program_io::fail(rt, "ion: cannot write to standard output", &e);
+    }
 }
 
 // Whether a tape is good; before that, where `aloud` asks for them, its nodes up to the first that is not.
 fn check(rt: &(impl Print + Eprint), tape: &[u8], aloud: bool, text: &mut [u8], spare: &mut [u8]) {
-    let c = tape::check::check_tape(tape);
-    if c.fault == 1 {
+    let checked = tape::check::check_tape(tape);
+    if let Err(Fault::Misfit) = checked {
         refusal(rt, 1);
         return;
     }
     let stopped = show::walk(rt, tape, aloud, text, spare);
-    if c.fault != 0 {
-        refuse(rt, c.fault, tape, text, spare);
-        return;
-    }
-    if stopped == show::body_end(tape) {
-        praise(rt, tape.len(), c.count, text);
+    match checked {
+        Err(fault) => refuse(rt, fault.number(), tape, text, spare),
+        Ok(c) => {
+            if stopped == show::body_end(tape) {
+                let length = tape.len();
+                let count = c.count;
+                print_line(
+                    rt,
+                    format_args!("good tape: bytes {length}, top-level nodes {count}"),
+                );
+            }
+        }
     }
 }
 
@@ -246,62 +234,39 @@ fn with_tape(
 
 // ---- a field by its name
 
-// Where a command line says an offset.
-#[derive(Clone, Copy)]
-enum Offset {
-    Wrong,
-    At(usize),
-}
-
-// Digits alone.
-fn offset_of(s: &[u8]) -> Offset {
-    if s.len() == 0 {
-        return Offset::Wrong;
+// The offset that a command line says, in digits alone.
+fn offset_of(s: &[u8]) -> Option<usize> {
+    if s.is_empty() {
+        return None;
     }
-    let Joined::Digits(n, end) = text_rules::digits::digits_at(s, 0, 0) else {
-        return Offset::Wrong;
+    let Some((n, end)) = text_rules::digits::digits_at(s, 0, 0) else {
+        return None;
     };
     if end != s.len() {
-        return Offset::Wrong;
+        return None;
     }
-    Offset::At(n as usize)
+    Some(n as usize)
 }
 
 // `$` and a number is an identifier, all else a text.
-fn key_of(name: &[u8]) -> Key {
+fn key_of(name: &[u8]) -> Name<'_> {
     let w = text_rules::words::word_at(name, 0);
     if w.end != name.len() {
-        return field_index::text_key();
+        return Name::Text(name);
     }
     let kind = w.kind;
     let Kind::Number(i) = kind else {
-        return field_index::text_key();
+        return Name::Text(name);
     };
-    field_index::id_key(i)
+    Name::Id(u64::from(i))
 }
 
 // A name in quote marks is the text between them.
-fn looked_up<'a>(tape: &'a [u8], at: usize, name: &'a [u8]) -> Looked {
-    let n = name.len();
-    if 2 <= n {
-        if name[0] == b'\'' {
-            if name[n - 1] == b'\'' {
-                let text = &name[1..n - 1];
-                return field_index::look_up(tape, at, text, field_index::text_key());
-            }
-        }
+fn looked_up<'a>(tape: &'a [u8], at: usize, name: &'a [u8]) -> Result<Option<Entry>, Refusal> {
+    if let [b'\'', text @ .., b'\''] = name {
+        return field_index::look_up(tape, at, Name::Text(text));
     }
-    field_index::look_up(tape, at, name, key_of(name))
-}
-
-// Where a field's name and value stand.
-fn places(rt: &(impl Print + Eprint), name: usize, value: usize, text: &mut [u8]) {
-    let p = output::put_bytes(text, 0, b"name at offset ");
-    let q = text_rules::digits::put_digits(text, p, name as u64);
-    let r = output::put_bytes(text, q, b", value at offset ");
-    let s = text_rules::digits::put_digits(text, r, value as u64);
-    let e = output::put(text, s, b'\n');
-    line::emit(rt, text, e);
+    field_index::look_up(tape, at, key_of(name))
 }
 
 // The latest field with a name: where it stands, and its nodes as `show` has them; or why there is none.
@@ -315,12 +280,17 @@ fn find<'a>(
 ) {
     let found = looked_up(tape, at, name);
     match found {
-        Looked::Field(e) => {
-            places(rt, e.name, e.value, text);
+        Ok(Some(e)) => {
+            let name = e.name;
+            let value = e.value;
+            print_line(
+                rt,
+                format_args!("name at offset {name}, value at offset {value}"),
+            );
             show::field(rt, tape, e.name, text, spare);
         }
-        Looked::Nothing => say(rt, "ion: no field of the struct has this name"),
-        Looked::Refused(number) => refuse(rt, number, tape, text, spare),
+        Ok(None) => say(rt, "ion: no field of the struct has this name"),
+        Err(refusal) => refuse(rt, u8::from(refusal), tape, text, spare),
     }
 }
 
@@ -397,22 +367,14 @@ fn refused_line(
     line::emit(rt, spare, e)
 }
 
-fn is_too_long(a: Answer) -> bool {
-    match a {
-        Answer::TapeTooLong => true,
-        _ => false,
-    }
-}
-
 // The answer of the line at an offset. A refusal zeroes the buffer, so the line is read into no room first, which 8 does not depend on; only
 // the tape of a value needs the buffer.
 fn call(text: &[u8], at: usize, tape: &mut [u8]) -> Called {
     let c = line_reader::call_at(text, at, &mut tape[0..0]);
-    let a = c.answer;
-    if is_too_long(a) {
-        return line_reader::call_at(text, at, tape);
+    match c.answer {
+        Answer::TapeTooLong => line_reader::call_at(text, at, tape),
+        _ => c,
     }
-    c
 }
 
 // What a line is.
@@ -473,6 +435,7 @@ fn split(rt: &(impl Print + Eprint), text: &[u8], tape: &mut [u8], spare: &mut [
     let mut at: usize = 0;
     let mut number: usize = 0;
     let mut refused: usize = 0;
+    // A walk: the step is the line's length.
     while at < text.len() {
         let c = call(text, at, tape);
         let next = later(c.at, at, text.len());
@@ -567,10 +530,8 @@ fn on_tape(
     tape: &mut [u8],
     spare: &mut [u8],
 ) {
-    let i = input::read(rt, name, tape);
-    let n = i.count;
-    if i.whole {
-        with_tape(rt, quoted, word, &tape[0..n], text, spare);
+    if let Some(n) = input::read(rt, name, tape) {
+        with_tape(rt, quoted, word, &tape[..n], text, spare);
     }
 }
 
@@ -582,14 +543,13 @@ fn on_text(
     tape: &mut [u8],
     spare: &mut [u8],
 ) {
-    let i = input::read(rt, name, text);
-    let n = i.count;
-    if i.whole {
-        with_text(rt, word, &text[0..n], tape, spare);
+    if let Some(n) = input::read(rt, name, text) {
+        with_text(rt, word, &text[..n], tape, spare);
     }
 }
 
-// The length of the text that the word behind `length` names.
+// The length of the text that the word behind `length` names. Not one with `on_tape`: a function of both would take as many parameters, and
+// what is done with the tape besides.
 fn on_length(
     rt: &impl Runtime,
     quoted: bool,
@@ -599,10 +559,8 @@ fn on_length(
     tape: &mut [u8],
     spare: &mut [u8],
 ) {
-    let i = input::read(rt, name, tape);
-    let n = i.count;
-    if i.whole {
-        give_length(rt, quoted, word, &tape[0..n], text, spare);
+    if let Some(n) = input::read(rt, name, tape) {
+        give_length(rt, quoted, word, &tape[..n], text, spare);
     }
 }
 
@@ -617,7 +575,7 @@ fn argument<'a>(rt: &impl Env, i: usize, buf: &'a mut [u8]) -> &'a [u8] {
 // The field that the words behind `find` name.
 fn on_find(rt: &impl Runtime, name: &[u8], text: &mut [u8], tape: &mut [u8], spare: &mut [u8]) {
     let mut digits = [0u8; 32];
-    let Offset::At(at) = offset_of(argument(rt, 2, &mut digits)) else {
+    let Some(at) = offset_of(argument(rt, 2, &mut digits)) else {
         wrong_use(
             rt,
             "find takes an offset, a number below 2^64 in at most 32 digits, and a name",
@@ -629,62 +587,56 @@ fn on_find(rt: &impl Runtime, name: &[u8], text: &mut [u8], tape: &mut [u8], spa
         wrong_use(rt, "find takes an offset and a name of at most 4,096 bytes");
         return;
     };
-    let i = input::read(rt, name, tape);
-    let n = i.count;
-    if i.whole {
-        find(rt, &tape[0..n], at, &field[..k], text, spare);
+    if let Some(n) = input::read(rt, name, tape) {
+        find(rt, &tape[..n], at, &field[..k], text, spare);
     }
 }
 
 fn obey_length(
     rt: &impl Runtime,
     quoted: bool,
-    word: Word,
+    word: Option<Word>,
     name: &[u8],
     text: &mut [u8],
     tape: &mut [u8],
     spare: &mut [u8],
 ) {
     match word {
-        Word::Compact => on_length(rt, quoted, word, name, text, tape, spare),
-        Word::Lines => on_length(rt, quoted, word, name, text, tape, spare),
-        Word::Pretty => on_length(rt, quoted, word, name, text, tape, spare),
-        Word::Tree => on_length(rt, quoted, word, name, text, tape, spare),
+        Some(word @ (Word::Compact | Word::Lines | Word::Pretty | Word::Tree)) => {
+            on_length(rt, quoted, word, name, text, tape, spare)
+        }
         _ => wrong_use(rt, "length takes compact, lines, pretty or tree"),
     }
 }
 
 // Whether `--quoted` may stand before a word.
-fn takes_quoted(word: Word) -> bool {
-    match word {
-        Word::Compact => true,
-        Word::Lines => true,
-        Word::Pretty => true,
-        Word::Tree => true,
-        Word::Length => true,
-        _ => false,
-    }
+fn takes_quoted(word: Option<Word>) -> bool {
+    matches!(
+        word,
+        Some(Word::Compact | Word::Lines | Word::Pretty | Word::Tree | Word::Length)
+    )
 }
 
 // Does what the word says, with the input of a name; where it is `length`, of the text that `text_word` names.
 fn obey(
     rt: &impl Runtime,
     quoted: bool,
-    word: Word,
-    text_word: Word,
+    word: Option<Word>,
+    text_word: Option<Word>,
     name: &[u8],
     text: &mut [u8],
     tape: &mut [u8],
     spare: &mut [u8],
 ) {
+    let Some(word) = word else {
+        wrong_use(rt, "no such word");
+        return;
+    };
     match word {
         Word::Length => obey_length(rt, quoted, text_word, name, text, tape, spare),
         Word::Find => on_find(rt, name, text, tape, spare),
-        Word::Unknown => wrong_use(rt, "no such word"),
         Word::Help => help(rt),
-        Word::Read => on_text(rt, word, name, text, tape, spare),
-        Word::Split => on_text(rt, word, name, text, tape, spare),
-        Word::Convert => on_text(rt, word, name, text, tape, spare),
+        Word::Read | Word::Split | Word::Convert => on_text(rt, word, name, text, tape, spare),
         _ => on_tape(rt, quoted, word, name, text, tape, spare),
     }
 }
@@ -694,19 +646,19 @@ fn is_given(rt: &impl Env, i: usize) -> bool {
     !matches!(rt.arg(i, &mut []), Err(FillError::NotPresent))
 }
 
-fn word_at(rt: &impl Env, i: usize) -> Word {
+fn word_at(rt: &impl Env, i: usize) -> Option<Word> {
     let mut s = [0u8; 16];
     words::word_of(argument(rt, i, &mut s))
 }
 
 // The number of the word that is the file's name, where the first word has this number: `length` has a word of its own before it, `find` two.
-fn name_at(word: Word, at: usize) -> usize
+fn name_at(word: Option<Word>, at: usize) -> usize
     requires { at ≤ 2 }
     ensures { result ≤ 5 }
 {
     match word {
-        Word::Length => at + 2,
-        Word::Find => at + 3,
+        Some(Word::Length) => at + 2,
+        Some(Word::Find) => at + 3,
         _ => at + 1,
     }
 }
@@ -742,19 +694,17 @@ fn run_from(
 }
 
 fn run(rt: &impl Runtime, text: &mut [u8], tape: &mut [u8], spare: &mut [u8]) {
-    let first = word_at(rt, 1);
-    match first {
-        Word::Quoted => {
-            if !takes_quoted(word_at(rt, 2)) {
-                wrong_use(
-                    rt,
-                    "--quoted stands before compact, lines, pretty, tree or length",
-                );
-                return;
-            }
-            run_from(rt, 2, true, text, tape, spare);
-        }
-        _ => run_from(rt, 1, false, text, tape, spare),
+    if word_at(rt, 1) != Some(Word::Quoted) {
+        run_from(rt, 1, false, text, tape, spare);
+        return;
+    }
+    if takes_quoted(word_at(rt, 2)) {
+        run_from(rt, 2, true, text, tape, spare);
+    } else {
+        wrong_use(
+            rt,
+            "--quoted stands before compact, lines, pretty, tree or length",
+        );
     }
 }
 

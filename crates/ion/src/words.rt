@@ -4,7 +4,7 @@ ghost use Rattle.ion.specs.Words.{command_of};
 
 use text_rules::words::same_word;
 
-#[derive(Clone, Copy)]
+#[derive(Clone, Copy, Debug, PartialEq, Eq)]
 pub enum Word {
     Compact,
     Lines,
@@ -19,50 +19,49 @@ pub enum Word {
     Convert,
     Help,
     Quoted,
-    Unknown,
 }
 
-pub fn word_of(s: &[u8]) -> Word
+pub fn word_of(s: &[u8]) -> Option<Word>
     ensures { result ≡ command_of s.now }
 {
     if same_word(s, b"compact") {
-        return Word::Compact;
+        return Some(Word::Compact);
     }
     if same_word(s, b"lines") {
-        return Word::Lines;
+        return Some(Word::Lines);
     }
     if same_word(s, b"pretty") {
-        return Word::Pretty;
+        return Some(Word::Pretty);
     }
     if same_word(s, b"tree") {
-        return Word::Tree;
+        return Some(Word::Tree);
     }
     if same_word(s, b"length") {
-        return Word::Length;
+        return Some(Word::Length);
     }
     if same_word(s, b"check") {
-        return Word::Check;
+        return Some(Word::Check);
     }
     if same_word(s, b"show") {
-        return Word::Show;
+        return Some(Word::Show);
     }
     if same_word(s, b"find") {
-        return Word::Find;
+        return Some(Word::Find);
     }
     if same_word(s, b"read") {
-        return Word::Read;
+        return Some(Word::Read);
     }
     if same_word(s, b"split") {
-        return Word::Split;
+        return Some(Word::Split);
     }
     if same_word(s, b"convert") {
-        return Word::Convert;
+        return Some(Word::Convert);
     }
     if same_word(s, b"help") {
-        return Word::Help;
+        return Some(Word::Help);
     }
     if same_word(s, b"--quoted") {
-        return Word::Quoted;
+        return Some(Word::Quoted);
     }
-    Word::Unknown
+    None
 }

@@ -33,9 +33,8 @@ use Rattle.line_reader.specs.Calls.{past_text, step}
 use Rattle.field_index.specs.Index as index
 use Rattle.field_index.specs.Lookup.{Within, Finds}
 use Rattle.field_index.specs.declared.Entry.{Entry}
-use Rattle.field_index.specs.declared.Found.{Found}
-use Rattle.field_index.specs.declared.Found.TheVariants.{Nothing, At}
-use Rattle.field_index.specs.declared.Indexed.{Indexed}
+use Rattle.field_index.specs.declared.Refusal.{Refusal}
+use Rattle.std.specs.Prelude as std
 use Rattle.field_index.proofs.IndexLaws.{fields_few}
 use Rattle.ion_c.specs.Code.{Small, Near}
 
@@ -129,16 +128,16 @@ step_small text at buf = go (ltb (length text) at) (eqb at (length text))
 -- ---- indexes and places
 
 -- a count is at most the number of the entries
-pub indexed-small : (t : List ℕ) (at : ℕ) (l l' : List Entry) (i : Indexed) → index.IndexOf t at l l' i → length l < 2 ^ 63 → Small (index.indexed i)
+pub indexed-small : (t : List ℕ) (at : ℕ) (l l' : List Entry) (i : std.Result ℕ Refusal) → index.IndexOf t at l l' i → length l < 2 ^ 63 → Small (index.indexed i)
 indexed-small t at l l' i f h = subst Small (sym f.answer) (go (index.refusal t at (length l)) refl)
   where
     go : (k : ℕ) → index.refusal t at (length l) ≡ k → Small (index.answered k (length (index.fields_at t at)))
     go zero e = omega (arith, fields_few t at (length l) e)
     go (suc k) e = tt
 
-pub found_near : (t : List ℕ) (name : Sym) (l : List Entry) (p : Found) → Finds t name l p → length l < 2 ^ 63 → Near p
+pub found_near : (t : List ℕ) (name : Sym) (l : List Entry) (p : std.Option ℕ) → Finds t name l p → length l < 2 ^ 63 → Near p
 found_near t name l p f h = go p f.within
   where
-    go : (p : Found) → Within (length l) p → Near p
-    go Nothing w = tt
-    go (At k) w = omega arith
+    go : (p : std.Option ℕ) → Within (length l) p → Near p
+    go std.None w = tt
+    go (std.Some k) w = omega arith

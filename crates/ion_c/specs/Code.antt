@@ -1,11 +1,9 @@
 -- The number that a call answers across the border. Assumes nothing: these are definitions.
-use Rattle.std.specs.Prelude.{ℕ, zero, suc, ◌^◌, ◌<◌, ◌≡◌, List, ℤ, pos, negsuc}
+use Rattle.std.specs.Prelude.{ℕ, zero, suc, ◌^◌, ◌<◌, ◌≡◌, List, ℤ, pos, negsuc, Option, None, Some, Result}
 use Rattle.text_rules.specs.Text.{Sym}
 use Rattle.tape.specs.Answer.{Outcome, counted, ended, refused}
 use Rattle.field_index.specs.declared.Entry.{Entry}
-use Rattle.field_index.specs.declared.Found.{Found}
-use Rattle.field_index.specs.declared.Found.TheVariants.{Nothing, At}
-use Rattle.field_index.specs.declared.Indexed.{Indexed}
+use Rattle.field_index.specs.declared.Refusal.{Refusal}
 use Rattle.field_index.specs.Index.{indexed, IndexOf}
 use Rattle.field_index.specs.Lookup.{Finds}
 
@@ -24,23 +22,23 @@ Small ended = Unit
 Small (refused n) = Unit
 
 -- the place, or -1
-abbrev pub place_code : Found → ℤ
-place_code (At k) = pos k
-place_code Nothing = negsuc 0
+abbrev pub place_code : Option ℕ → ℤ
+place_code (Some k) = pos k
+place_code None = negsuc 0
 
 -- a place that fits
-abbrev pub Near : Found → Type 0
-Near (At k) = k < 2 ^ 63
-Near Nothing = Unit
+abbrev pub Near : Option ℕ → Type 0
+Near (Some k) = k < 2 ^ 63
+Near None = Unit
 
 -- what an index leaves in the entries, and the number of its answer
 pub record Indexes (t : List ℕ) (at : ℕ) (l l' : List Entry) (r : ℤ) : Type 0 where
-  pub answer : Indexed
+  pub answer : Result ℕ Refusal
   pub index : IndexOf t at l l' answer
   pub number : r ≡ code (indexed answer)
 
 -- what a lookup finds, as a number
 pub record Places (t : List ℕ) (name : Sym) (l : List Entry) (r : ℤ) : Type 0 where
-  pub place : Found
+  pub place : Option ℕ
   pub found : Finds t name l place
   pub number : r ≡ place_code place

@@ -14,7 +14,7 @@ ghost use Rattle.line_reader.specs.Calls.{step};
 ghost use Rattle.field_index.specs.Index.{indexed};
 ghost use Rattle.ion_c.specs.Code.{code, Small, place_code, Near, Indexes, Places};
 
-use field_index::{Entry, Found, Indexed};
+use field_index::{Entry, Refusal};
 use tape::answer::Answer;
 
 // An answer as one number.
@@ -41,29 +41,24 @@ fn code_of(a: Answer) -> i64
 }
 
 // The number of fields, or minus the refusal's number.
-fn index_code(i: Indexed) -> i64
-    requires { Small (indexed i) }
-    ensures { result ≡ code (indexed i) }
+fn index_code(counted: Result<usize, Refusal>) -> i64
+    requires { Small (indexed counted) }
+    ensures { result ≡ code (indexed counted) }
 {
-    match i {
-        Indexed::Count(n) => n as i64,
-        Indexed::Misfit => -1,
-        Indexed::BadNode => -2,
-        Indexed::TooDeep => -3,
-        Indexed::FiniteFloat => -4,
-        Indexed::NoStruct => -11,
-        Indexed::TooManyFields => -12,
+    match counted {
+        Ok(n) => n as i64,
+        Err(refusal) => -i64::from(u8::from(refusal)),
     }
 }
 
 // The place, or -1.
-fn place_code(f: Found) -> i64
-    requires { Near f }
-    ensures { result ≡ place_code f }
+fn place_code(place: Option<usize>) -> i64
+    requires { Near place }
+    ensures { result ≡ place_code place }
 {
-    match f {
-        Found::Nothing => -1,
-        Found::At(p) => p as i64,
+    match place {
+        Some(p) => p as i64,
+        None => -1,
     }
 }
 

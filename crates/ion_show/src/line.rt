@@ -12,12 +12,11 @@ pub const ANNOTATION: u8 = 17;
 fn wanting(n: usize) -> usize
     ensures { result ≡ 7 - n }
 {
-    if n < 7 { 7 - n } else { 0 }
+    7usize.saturating_sub(n)
 }
 
 // A number at the right of seven columns, or of as many as it takes.
 pub fn put_column(line: &mut [u8], pos: usize, n: usize) -> usize
-    requires { pos ≤ limit }
     ensures { Wrote line.old line.new pos result (column n) }
 {
     let k = text_rules::digits::digit_count(n as u64);
@@ -27,18 +26,15 @@ pub fn put_column(line: &mut [u8], pos: usize, n: usize) -> usize
 
 // The word of a number, from 0, where blanks part the words.
 fn put_word(line: &mut [u8], pos: usize, number: u8, words: &[u8]) -> usize
-    requires { pos ≤ limit }
     ensures { Wrote line.old line.new pos result (nth number words.now) }
 {
     let mut at: usize = 0;
-    let mut left = number;
-    while 0 < left {
+    for _passed in 0..number {
         let end = program_io::find(words, at, b' ');
         if end == words.len() {
-            return pos;
+            return output::bounded(pos);
         }
         at = end + 1;
-        left -= 1;
     }
     let end = program_io::find(words, at, b' ');
     output::put_bytes(line, pos, &words[at..end])
@@ -46,7 +42,6 @@ fn put_word(line: &mut [u8], pos: usize, number: u8, words: &[u8]) -> usize
 
 // What a node is.
 pub fn put_kind(line: &mut [u8], pos: usize, kind: u8) -> usize
-    requires { pos ≤ limit }
     ensures { Wrote line.old line.new pos result (kind_name kind) }
 {
     put_word(
@@ -71,7 +66,6 @@ pub fn put_place(line: &mut [u8], number: usize, offset: usize, n: usize) -> usi
 
 // Bytes as a clob's text has them: a thousand at most.
 pub fn put_clipped(line: &mut [u8], pos: usize, s: &[u8]) -> usize
-    requires { pos ≤ limit }
     ensures { Wrote line.old line.new pos result (clipped_text s.now) }
 {
     if s.len() <= 1000 {

@@ -4,8 +4,8 @@ ghost use Rattle.std.specs.Prelude.{◌≡◌, ◌+◌, ◌-◌, ◌<◌, ◌≤
 ghost use Rattle.output.specs.Wrote.{limit};
 
 use crate::line;
+use tape::Frame;
 use tape::answer::Answer;
-use tape::{Frame, Place, Scanned};
 
 // Where nodes stand side by side: in what, and in how many containers; and whether lines are printed.
 #[derive(Clone, Copy)]
@@ -18,27 +18,18 @@ struct How {
 // ---- places
 
 // A place, if it lies between two others; else the second.
-fn between(p: Place, at: usize, end: usize) -> usize
+fn between(place: Option<usize>, at: usize, end: usize) -> usize
     requires { at ≤ end }
     ensures { (at ≤ result) × (result ≤ end) }
 {
-    let Place::At(q) = p else {
-        return end;
-    };
-    if q < at {
-        return end;
+    match place {
+        Some(p) if at <= p && p <= end => p,
+        _ => end,
     }
-    if end < q {
-        return end;
-    }
-    q
 }
 
 fn is_container(kind: u8) -> bool {
-    if kind < 10 {
-        return false;
-    }
-    kind <= 12
+    matches!(kind, 10..=12)
 }
 
 // Where the container at a place ends; at the place itself where there is none.
@@ -61,7 +52,7 @@ fn scalar_end(body: &[u8], at: usize) -> usize
     requires { at ≤ length body.now }
     ensures { (at ≤ result) × (result ≤ length body.now) }
 {
-    let Scanned::Is(s) = tape::scalar_at(body, at, body.len()) else {
+    let Some(s) = tape::scalar_at(body, at, body.len()) else {
         return at;
     };
     at + tape::size_of(s)
@@ -80,10 +71,7 @@ fn value_end(body: &[u8], at: usize, free: bool) -> usize
         return container_end(body, at);
     }
     if kind == 14 {
-        if free {
-            return at + 1;
-        }
-        return at;
+        return if free { at + 1 } else { at };
     }
     scalar_end(body, at)
 }
@@ -98,10 +86,7 @@ fn name_end(body: &[u8], at: usize, frame: Frame) -> usize
 
 // Whether a child stands at top level, with nothing before its value.
 fn is_bare_top(level: usize, at: usize, value: usize) -> bool {
-    if level != 0 {
-        return false;
-    }
-    at == value
+    level == 0 && at == value
 }
 
 // Where a child's value starts, behind its name and its annotations, and where it ends. Both are the same where there is no child.
@@ -220,6 +205,7 @@ fn syms(
     ensures { (offset ≤ result) × (result ≤ offset + length part.now) }
 {
     let mut at: usize = 0;
+    // A walk: the step is the symbol's size.
     while at < part.len() {
         let next = name_end(part, at, Frame::Struct);
         if next == at {
@@ -275,7 +261,7 @@ fn inside(kind: u8, how: How) -> How
     How {
         frame,
         level: how.level + 1,
-        aloud: how.aloud,
+        ..how
     }
 }
 
@@ -335,6 +321,7 @@ fn nodes(
 {
     let frame = how.frame;
     let mut at: usize = 0;
+    // A walk: the step is the node's size.
     while at < body.len() {
         let s = span_at(body, at, frame, how.level);
         let from = s.value;
@@ -359,7 +346,7 @@ fn nodes(
 pub fn body_end(tape: &[u8]) -> usize
     ensures { result ≡ length tape.now - 8 }
 {
-    if tape.len() < 8 { 0 } else { tape.len() - 8 }
+    tape.len().saturating_sub(8)
 }
 
 // The offset where the walk over a tape's nodes stopped: their end, or the first that is not as it must be.

@@ -10,22 +10,25 @@ ghost use Rattle.lanes.specs.Lanes.{rep, Lane, every, unmarked_by, letter_mark, 
 pub mod digit_words;
 pub mod sextets;
 
-// Hex 80 in each of the n lowest bytes. The compiler makes a table of the arms, which has all eight where the last is not the default.
+// Hex 80 in each of the 1 to 8 lowest bytes.
+const HIGH_BITS: [u64; 8] = [
+    0x80,
+    0x8080,
+    0x808080,
+    0x80808080,
+    0x8080808080,
+    0x808080808080,
+    0x80808080808080,
+    0x8080808080808080,
+];
+
+// Hex 80 in each of the n lowest bytes.
+#[tactic(auto, unfolding(crate::specs::Lanes::rep))]
 pub fn high_bits(n: usize) -> u64
     requires { (1 ≤ n) × (n ≤ 8) }
     ensures { result ≡ rep n 0x80 }
 {
-    match n {
-        1 => 0x80,
-        2 => 0x8080,
-        3 => 0x808080,
-        4 => 0x80808080,
-        5 => 0x8080808080,
-        6 => 0x808080808080,
-        7 => 0x80808080808080,
-        8 => 0x8080808080808080,
-        _ => 0,
-    }
+    HIGH_BITS[n - 1]
 }
 
 // The n lowest bytes are below hex 80.

@@ -6,7 +6,6 @@ ghost use Rattle.line_reader.specs.Cut.{to_first};
 ghost use Rattle.line_reader.specs.Book.{end_mark, ends_in_lf, by_book, book};
 ghost use Rattle.line_reader.specs.Calls.{step, called, Ran, last_call, nth_call};
 
-use reader::Made;
 use tape::answer::Answer;
 
 // What a call answers, and the next offset.
@@ -21,14 +20,12 @@ fn line_end(text: &[u8], at: usize) -> usize
     requires { at ≤ length text.now }
     ensures { result ≡ at + length (to_first (drop at text.now)) }
 {
-    let mut i = at;
-    while i < text.len() {
+    for i in at..text.len() {
         if text[i] == b'\n' {
             return i + 1;
         }
-        i += 1;
     }
-    i
+    text.len()
 }
 
 // A line's last byte is LF.
@@ -52,19 +49,19 @@ fn read_line(line: &[u8], out: &mut [u8]) -> Answer
     }
     let end = line.len() - 1;
     let limit = reader::limit_of(out.len());
-    let Made::Length(n, count) = reader::write_tape(&line[..end], false, &mut out[..limit]) else {
+    let Some(made) = reader::write_tape(&line[..end], false, &mut out[..limit]) else {
         output::zero(out);
         return Answer::OutsideGrammar;
     };
-    if count != 1 {
+    if made.count != 1 {
         output::zero(out);
         return Answer::OutsideGrammar;
     }
-    if limit < n {
+    if limit < made.length {
         output::zero(out);
         return Answer::TapeTooLong;
     }
-    Answer::Count(n)
+    Answer::Count(made.length)
 }
 
 // One call, by the text and an offset: 10 past the text, the end mark at its end, else the bytes through the next LF are read.
@@ -126,11 +123,9 @@ pub fn read_lines(text: &[u8], out: &mut [u8], calls: &mut [Called]) -> usize
     ensures { Ran (book (length calls.old) text.now out.old) out.old calls.new result out.new }
 {
     let mut s = new(text);
-    let mut i = 0;
-    while i < calls.len() {
+    for i in 0..calls.len() {
         let answer = next(&mut s, out);
         calls[i] = Called { answer, at: s.at };
-        i += 1;
     }
     s.at
 }
@@ -153,17 +148,11 @@ fn last_call(text: &[u8], n: usize, out: &mut [u8]) -> Called
 pub fn nth_call(text: &[u8], n: usize, out: &mut [u8]) -> Called
     ensures { called result.answer result.at out.new ≡ nth_call n text.now out.old }
 {
-    if n == 0 {
-        return Called {
+    match n {
+        1..=32 => last_call(text, n, out),
+        _ => Called {
             answer: Answer::End,
             at: 0,
-        };
+        },
     }
-    if 32 < n {
-        return Called {
-            answer: Answer::End,
-            at: 0,
-        };
-    }
-    last_call(text, n, out)
 }

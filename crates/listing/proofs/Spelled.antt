@@ -1,22 +1,60 @@
 -- Laws on spellings: the two digits of a byte, the byte at a place, and all of them from there. Assumes nothing.
 use Prim.Native.Nat.{ℕ, zero, suc, ◌+◌, ◌-◌, ◌*◌, ◌<◌, ◌≤◌}
-use mathlib.Core.Path.{◌≡◌, refl, ap, sym}
+use mathlib.Core.Path.{◌≡◌, refl, ap, sym, ◌∙◌}
 use mathlib.Core.List.{List, [], ◌∷◌, ◌++◌, append_assoc}
 use mathlib.Core.Option.{Option, none, some}
 use native.Mathlib.Omega.{arith}
 use lib.ListN.{length, get_or, drop, length-append, length-drop, drop_of_length-le}
 use lib.Seq.{drop-drop}
-use borrow.Author.Tests.{eq-eqb, ne_eqb, le-leb, lt-leb}
-use Rattle.output.specs.Logic.{then, byte}
+use borrow.Author.Tests.{eq-eqb, ne_eqb, le-leb, lt-leb, lt-ltb, le-ltb}
+use Rattle.std.specs.Char.{digit_value}
+use Rattle.std.specs.Prelude.{ltb}
+use Rattle.std.proofs.Common.{inl, inr}
+use Rattle.std.proofs.lemmas.Bool.{cases_lt}
+use Rattle.output.specs.Logic.{if, then, byte}
 use Rattle.text_rules.specs.Escapes.{hex_value, hex}
 use Rattle.text_rules.proofs.Places.{byte_at}
 use Rattle.listing.specs.declared.decode.Form.{Form}
 use Rattle.listing.specs.declared.decode.Form.TheVariants.{Hex, Text}
-use Rattle.listing.specs.declared.decode.One.{One}
-use Rattle.listing.specs.declared.decode.One.TheVariants.{Byte, Nothing}
-use Rattle.listing.specs.declared.decode.Decoded.TheVariants.{Length, Malformed}
+use Rattle.std.specs.Prelude as P
 use Rattle.listing.specs.Spelling.{one_byte, bytes_of, Decodes}
 use Rattle.listing.specs.DecodeSteps.{PairAt, OneAt}
+
+-- ---- a digit, by its value in std's words
+
+digit_is : (c : ℕ) → hex_value c ≡ (if (ltb (digit_value c) 16) (some (digit_value c)) none)
+unfolding hex_value
+digit_is c = elim (cases_lt c 48) [
+  | inl h ↦ simp (lt-leb 48 c (omega arith), lt-leb 97 c (omega arith), lt-leb 65 c (omega arith), lt-ltb c 48 (omega arith))
+  | inr h0 ↦ elim (cases_lt c 58) [
+    | inl h ↦ simp (le-leb 48 c (omega arith), le-leb c 57 (omega arith), le-ltb c 48 (omega arith), lt-ltb c 58 (omega arith), lt-ltb (c - 48) 16 (omega arith))
+    | inr h1 ↦ elim (cases_lt c 65) [
+      | inl h ↦ simp (le-leb 48 c (omega arith), lt-leb c 57 (omega arith), lt-leb 97 c (omega arith), lt-leb 65 c (omega arith), le-ltb c 48 (omega arith), le-ltb c 58 (omega arith), lt-ltb c 65 (omega arith))
+      | inr h2 ↦ elim (cases_lt c 71) [
+        | inl h ↦ let e : 10 + (c - 65) ≡ c - 55 = omega arith in simp (le-leb 48 c (omega arith), lt-leb c 57 (omega arith), lt-leb 97 c (omega arith), le-leb 65 c (omega arith), le-leb c 70 (omega arith), le-ltb c 48 (omega arith), le-ltb c 58 (omega arith), le-ltb c 65 (omega arith), lt-ltb c 91 (omega arith), lt-ltb (c - 55) 16 (omega arith), e)
+        | inr h3 ↦ elim (cases_lt c 91) [
+          | inl h ↦ simp (le-leb 48 c (omega arith), lt-leb c 57 (omega arith), lt-leb 97 c (omega arith), le-leb 65 c (omega arith), lt-leb c 70 (omega arith), le-ltb c 48 (omega arith), le-ltb c 58 (omega arith), le-ltb c 65 (omega arith), lt-ltb c 91 (omega arith), le-ltb (c - 55) 16 (omega arith))
+          | inr h4 ↦ elim (cases_lt c 97) [
+            | inl h ↦ simp (le-leb 48 c (omega arith), lt-leb c 57 (omega arith), lt-leb 97 c (omega arith), le-leb 65 c (omega arith), lt-leb c 70 (omega arith), le-ltb c 48 (omega arith), le-ltb c 58 (omega arith), le-ltb c 65 (omega arith), le-ltb c 91 (omega arith), lt-ltb c 97 (omega arith))
+            | inr h5 ↦ elim (cases_lt c 103) [
+              | inl h ↦ let e : 10 + (c - 97) ≡ c - 87 = omega arith in simp (le-leb 48 c (omega arith), lt-leb c 57 (omega arith), le-leb 97 c (omega arith), le-leb c 102 (omega arith), le-ltb c 48 (omega arith), le-ltb c 58 (omega arith), le-ltb c 65 (omega arith), le-ltb c 91 (omega arith), le-ltb c 97 (omega arith), lt-ltb c 123 (omega arith), lt-ltb (c - 87) 16 (omega arith), e)
+              | inr h6 ↦ elim (cases_lt c 123) [
+                | inl h ↦ simp (le-leb 48 c (omega arith), lt-leb c 57 (omega arith), le-leb 97 c (omega arith), lt-leb c 102 (omega arith), le-leb 65 c (omega arith), lt-leb c 70 (omega arith), le-ltb c 48 (omega arith), le-ltb c 58 (omega arith), le-ltb c 65 (omega arith), le-ltb c 91 (omega arith), le-ltb c 97 (omega arith), lt-ltb c 123 (omega arith), le-ltb (c - 87) 16 (omega arith))
+                | inr h7 ↦ simp (le-leb 48 c (omega arith), lt-leb c 57 (omega arith), le-leb 97 c (omega arith), lt-leb c 102 (omega arith), le-leb 65 c (omega arith), lt-leb c 70 (omega arith), le-ltb c 48 (omega arith), le-ltb c 58 (omega arith), le-ltb c 65 (omega arith), le-ltb c 91 (omega arith), le-ltb c 97 (omega arith), le-ltb c 123 (omega arith))
+              ]
+            ]
+          ]
+        ]
+      ]
+    ]
+  ]
+]
+
+pub a_digit : (c : ℕ) → digit_value c < 16 → hex_value c ≡ some (digit_value c)
+a_digit c h = digit_is c ∙ rw (lt-ltb _ _ h)
+
+pub no_digit : (c : ℕ) → (digit_value c < 16 → ⊥) → hex_value c ≡ none
+no_digit c h = digit_is c ∙ rw (le-ltb (digit_value c) 16 (omega arith))
 
 -- ---- two digits
 
@@ -52,25 +90,25 @@ module _ (s : List ℕ) (at : ℕ) where
 -- ---- the byte at a place
 
 module _ (s : List ℕ) (at : ℕ) (h : at < length s) where
-  pub one_hex : (r : One) → PairAt s at r → OneAt Hex s at r
+  pub one_hex : (r : P.Option (ℕ × ℕ)) → PairAt s at r → OneAt Hex s at r
   unfolding one_byte
-  one_hex Nothing p = record { told = rw p.told }
-  one_hex (Byte b next) p =
+  one_hex P.None p = record { told = rw p.told }
+  one_hex (P.Some (b, next)) p =
       let t = p.told in
       let n = t.1 in
       let k : 2 ≡ next - at = omega arith in
       record { told = (rw t.0 (ap (λ (w : ℕ). some (b, w)) k), omega arith, t.2) }
 
-  pub one_marked : get_or s at 0 ≡ byte "%" → (r : One) → PairAt s (at + 1) r → OneAt Text s at r
+  pub one_marked : get_or s at 0 ≡ byte "%" → (r : P.Option (ℕ × ℕ)) → PairAt s (at + 1) r → OneAt Text s at r
   unfolding one_byte
-  one_marked e Nothing p = record { told = rw (byte_at s at h, eq-eqb _ _ e, p.told) }
-  one_marked e (Byte b next) p =
+  one_marked e P.None p = record { told = rw (byte_at s at h, eq-eqb _ _ e, p.told) }
+  one_marked e (P.Some (b, next)) p =
       let t = p.told in
       let n = t.1 in
       let k : 3 ≡ next - at = omega arith in
       record { told = (rw (byte_at s at h, eq-eqb _ _ e, t.0) (ap (λ (w : ℕ). some (b, w)) k), omega arith, t.2) }
 
-  pub one_itself : (get_or s at 0 ≡ byte "%" → ⊥) → OneAt Text s at (Byte (get_or s at 0) (at + 1))
+  pub one_itself : (get_or s at 0 ≡ byte "%" → ⊥) → OneAt Text s at (P.Some (get_or s at 0, at + 1))
   unfolding one_byte
   one_itself e =
       let k : 1 ≡ at + 1 - at = omega arith in
@@ -116,10 +154,10 @@ module _ (f : Form) (s : List ℕ) (at : ℕ) where
 
 -- ---- what is answered
 
-pub nothing : (a b : List ℕ) → Decodes none a b Malformed
+pub nothing : (a b : List ℕ) → Decodes none a b P.None
 nothing a b = record { answer = refl; bytes = λ s e l. let z : ◌≡◌ {A = ℕ} 0 1 = cc in absurd (omega arith) }
 
-pub too_many : (d : List ℕ) (c : ℕ) (o : Option (List ℕ)) (a b : List ℕ) → length a ≤ length d → Decodes (behind d (then o (λ t. some (c ∷ t)))) a b Malformed
+pub too_many : (d : List ℕ) (c : ℕ) (o : Option (List ℕ)) (a b : List ℕ) → length a ≤ length d → Decodes (behind d (then o (λ t. some (c ∷ t)))) a b P.None
 too_many d c none a b h = nothing a b
 too_many d c (some t) a b h =
     let n = length-append d (c ∷ t) in
@@ -128,7 +166,7 @@ too_many d c (some t) a b h =
       bytes = λ s e l. let k : d ++ c ∷ t ≡ s = cc in let m = ap length k in absurd (omega arith);
     }
 
-pub whole : (d a b : List ℕ) → length d ≤ length a → b ≡ d ++ drop (length d) a → Decodes (some d) a b (Length (length d))
+pub whole : (d a b : List ℕ) → length d ≤ length a → b ≡ d ++ drop (length d) a → Decodes (some d) a b (P.Some (length d))
 whole d a b h e = record {
   answer = rw (le-leb (length d) (length a) h);
   bytes = λ s g l. let k : d ≡ s = cc in rw (← k) e;

@@ -6,8 +6,7 @@ use Rattle.text_rules.specs.Escapes.{hex}
 use Rattle.tape.specs.Tape.{reading}
 use Rattle.listing.specs.declared.decode.Form.{Form}
 use Rattle.listing.specs.declared.decode.Form.TheVariants.{Hex, Text}
-use Rattle.listing.specs.declared.decode.Decoded.{Decoded}
-use Rattle.listing.specs.declared.decode.Decoded.TheVariants.{Length, Malformed}
+use Rattle.std.specs.Prelude as P
 
 -- the byte that l starts with, and how many bytes spell it: two hex digits; in a text these behind `%`, and any other byte itself
 unfoldable pub one_byte : Form → List ℕ → Option (ℕ × ℕ)
@@ -22,11 +21,11 @@ bytes_of f (suc n) (c ∷ l) = bytes_of f n l
 bytes_of f zero (c ∷ l) = reading (one_byte f (c ∷ l)) none (λ b w. then (bytes_of f (w - 1) l) (λ s. some (b ∷ s)))
 
 -- what is answered for a buffer of n bytes: how many bytes are spelled, if they fit
-abbrev pub decoded_as : Option (List ℕ) → ℕ → Decoded
-decoded_as none n = Malformed
-decoded_as (some s) n = if (leb (length s) n) (Length (length s)) Malformed
+abbrev pub decoded_as : Option (List ℕ) → ℕ → P.Option ℕ
+decoded_as none n = P.None
+decoded_as (some s) n = if (leb (length s) n) (P.Some (length s)) P.None
 
 -- what was answered, and that the bytes lie at the start of the buffer, which took it from a to b
-pub record Decodes (o : Option (List ℕ)) (a b : List ℕ) (r : Decoded) : Type 0 where
+pub record Decodes (o : Option (List ℕ)) (a b : List ℕ) (r : P.Option ℕ) : Type 0 where
   pub answer : r ≡ decoded_as o (length a)
   pub bytes : (s : List ℕ) → o ≡ some s → length s ≤ length a → b ≡ s ++ drop (length s) a

@@ -5,22 +5,26 @@ ghost use Rattle.listing.specs.Due.{Decides, due, filled, AsDue};
 ghost use Rattle.listing.specs.Seen.{Keeps, Judged};
 
 use crate::report;
+use crate::report::Seen;
 use std::io;
 use tape::answer::Answer;
 
-// The answer is the refusal, or, where that is 0, the count.
-pub fn answers(a: Answer, refusal: u8, count: usize) -> bool
+// What is due of a call: the refusal, or with none the count of the bytes; and the whole buffer, which is the bytes and then `rest` to its end.
+#[derive(Clone, Copy)]
+pub struct Due<'a> {
+    pub refusal: Option<u8>,
+    pub bytes: &'a [u8],
+    pub rest: u8,
+}
+
+// The answer is the refusal, or, where there is none, the count.
+pub fn answers(a: Answer, refusal: Option<u8>, count: usize) -> bool
     ensures { Decides result (outcome a ≡ due refusal count) }
 {
     match a {
-        Answer::Count(n) => {
-            if refusal != 0 {
-                return false;
-            }
-            n == count
-        }
+        Answer::Count(n) => refusal.is_none() && n == count,
         Answer::End => false,
-        _ => tape::answer::number(a) == refusal,
+        refused => refusal == Some(tape::answer::number(refused)),
     }
 }
 
@@ -28,22 +32,17 @@ pub fn answers(a: Answer, refusal: u8, count: usize) -> bool
 fn due_at(bytes: &[u8], i: usize, rest: u8) -> u8
     ensures { result ≡ get_or bytes.now i rest }
 {
-    if i < bytes.len() {
-        return bytes[i];
-    }
-    rest
+    bytes.get(i).copied().unwrap_or(rest)
 }
 
 // The buffer is the bytes, or as many of them as it has room for, and then `rest` to its end.
 pub fn holds(out: &[u8], bytes: &[u8], rest: u8) -> bool
     ensures { Decides result (out.now ≡ filled (length out.now) bytes.now rest) }
 {
-    let mut i: usize = 0;
-    while i < out.len() {
-        if out[i] != due_at(bytes, i, rest) {
+    for (i, b) in out.iter().enumerate() {
+        if *b != due_at(bytes, i, rest) {
             return false;
         }
-        i += 1;
     }
     true
 }
@@ -53,20 +52,15 @@ pub fn judge(
     rt: &impl Print,
     what: u8,
     a: Answer,
-    refusal: u8,
-    bytes: &[u8],
-    rest: u8,
+    due: Due,
     out: &[u8],
-    seen: &mut [usize; 8],
+    seen: &mut Seen,
 ) -> io::Result<()>
-    ensures judged { Judged (AsDue (outcome a) out.now refusal bytes.now rest) seen.old seen.new }
+    ensures judged { Judged (AsDue (outcome a) out.now due.entry.refusal due.entry.bytes.now due.entry.rest) seen.old seen.new }
     ensures keeps { Keeps seen.old seen.new }
 {
-    if !answers(a, refusal, bytes.len()) {
-        return report::differs(rt, what, refusal, bytes, a, out, seen);
+    if answers(a, due.refusal, due.bytes.len()) && holds(out, due.bytes, due.rest) {
+        return Ok(());
     }
-    if !holds(out, bytes, rest) {
-        report::differs(rt, what, refusal, bytes, a, out, seen)?;
-    }
-    Ok(())
+    report::differs(rt, what, due, a, out, seen)
 }

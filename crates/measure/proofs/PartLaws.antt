@@ -26,7 +26,7 @@ use Rattle.tape.specs.CheckSteps.{code_of, scalar_code, span_of, syms_front, not
 use Rattle.tape.specs.Fine.{Bytes}
 use Rattle.tape.specs.declared.Frame.{Frame}
 use Rattle.tape.specs.declared.Frame.TheVariants.{Struct}
-use Rattle.tape.specs.declared.Place.TheVariants.{Bad as Nowhere, At}
+use Rattle.std.specs.Prelude.{Some, None}
 use Rattle.tape.proofs.Numbers.{bytes_drop, bytes_take}
 use Rattle.tape.proofs.Reading.{Sound, something, sym_sound, scalar_sound}
 use Rattle.tape.proofs.Parts.{part_length, part-first, part_byte, part-number, part-drop}
@@ -189,7 +189,7 @@ front_length_lem quoted h = length-append (name_text quoted h.0) (notes_text quo
 
 module _ (quoted : Bool) (k : Frame) (s : List ℕ) (at e q : ℕ) where
   -- a name, and annotations behind it
-  pub front-both : (v : ℕ) → place_of at (name_of k (part s at e)) ≡ At q → place_of at (head_of k (part s at e)) ≡ At v
+  pub front-both : (v : ℕ) → place_of at (name_of k (part s at e)) ≡ Some q → place_of at (head_of k (part s at e)) ≡ Some v
       → front_length quoted (head_at k (part s at e)) ≡ length (name_text quoted (name_in k (part s at e))) + length (notes_text quoted (notes_in (part s q e)))
   front-both v n z =
       sym (front_length_lem quoted (head_at k (part s at e)))
@@ -348,13 +348,13 @@ module _ (s : List ℕ) (at e : ℕ) (w : at ≤ e) (i : e ≤ length s) (z : 2 
     unfolding sized_of
     clob_leaf k =
         let t : scalar_of l ≡ sized_of clob l = scalar-clob l (first_byte ∙ k) in
-        let f : 5 + length_of l ≤ length l = long (5 + length_of l) (λ h. t ∙ ap (λ (o : Option (List ℕ × ℕ)). reading {B = Option (Scalar × ℕ)} o none (λ x m. some (clob x, m))) (text_by l Nowhere (sym (length_over l h)))) in
+        let f : 5 + length_of l ≤ length l = long (5 + length_of l) (λ h. t ∙ ap (λ (o : Option (List ℕ × ℕ)). reading {B = Option (Scalar × ℕ)} o none (λ x m. some (clob x, m))) (text_by l None (sym (length_over l h)))) in
         let len = part_length s at e i in
         let g = length-is (omega arith) in
         record {
           room = omega arith;
           read = t
-              ∙ ap (λ (o : Option (List ℕ × ℕ)). reading {B = Option (Scalar × ℕ)} o none (λ x m. some (clob x, m))) (text_by l (At (length_of l)) (sym (length_some l f)))
+              ∙ ap (λ (o : Option (List ℕ × ℕ)). reading {B = Option (Scalar × ℕ)} o none (λ x m. some (clob x, m))) (text_by l (Some (length_of l)) (sym (length_some l f)))
               ∙ ap (λ (m : ℕ). some (clob (take m (drop 5 l)), 5 + m)) g;
         }
 

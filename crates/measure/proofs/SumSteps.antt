@@ -7,7 +7,7 @@ use mathlib.Core.Option.{Option, none, some}
 use native.Mathlib.Omega.{arith}
 use native.Mathlib.Decide.{dec_le}
 use lib.Dec.{eqb, leb}
-use borrow.Author.Tests.{leb-true, eqb-false, ne_eqb}
+use borrow.Author.Tests.{leb-true, eqb-false}
 use lib.ListN.{length, get_or, set, drop, replicate, length-set}
 use lib.Seq.{get_or-set_same, get_or-set_other, length-take-le}
 use Rattle.output.specs.Logic.{if}
@@ -16,13 +16,12 @@ use Rattle.tape.specs.Bytes.{part}
 use Rattle.tape.specs.Tree.{Scalar, Head, Node, Nodes, scalar, nest, marker, nil, more, size, encode_scalar, encode_name, encode_notes}
 use Rattle.tape.specs.Tape.{reading, kind, syms_of, name_of, notes_of, scalar_of, absent, leaf, value_of, single, free_at, syms_fault, name_fault, scalar_fault, fault, Walked, join, walk}
 use Rattle.tape.specs.Steps.{head_at, size_taken}
-use Rattle.tape.specs.CheckSteps.{scalar_code, span_of, number_in, name_number_in, frame_of, notes_front, front_as}
+use Rattle.tape.specs.CheckSteps.{whole, scalar_code, span_of, number_in, name_number_in, frame_of, notes_front, front_as}
 use Rattle.tape.specs.Fine.{Bytes}
 use Rattle.tape.specs.Refusal.{annotated, noted, noteds, syms_numbered, head_numbered, numbered, numbereds}
 use Rattle.tape.specs.declared.Frame.{Frame}
 use Rattle.tape.specs.declared.Frame.TheVariants.{Top, «List» as ListF, Sexp, Struct}
-use Rattle.tape.specs.declared.Place.TheVariants.{At}
-use Rattle.tape.specs.declared.check.Front.TheVariants as F
+use Rattle.std.specs.Prelude.{Some, None}
 use Rattle.tape.proofs.Numbers.{bytes_drop, bytes_take}
 use Rattle.tape.proofs.Parts.{part_length, part-first, trailed}
 use Rattle.tape.proofs.Reading.{if_all, Sound, something, Counted, counted, syms-count, name_sound, notes_sound, scalar_sound}
@@ -31,12 +30,12 @@ use Rattle.tape.proofs.CodeReading.{notes-none, scalar-clob, scalar-blob, value-
 use Rattle.tape.proofs.CodeChild.{child_is}
 use Rattle.tape.proofs.CodeFacts.{Read, code_read, read_within, Ended, code-clob, code-blob, number-other, scalar-number, span-is}
 use Rattle.tape.proofs.CodeWalk.{join-fault}
-use Rattle.tape.proofs.Turns.{TreeTurn, HeadSeen, Refused, single_step, notes-turn, size-refused, span-refused}
+use Rattle.tape.proofs.Turns.{whole_parts, TreeTurn, HeadSeen, Refused, single_step, notes-turn, size-refused, span-refused}
 use Rattle.writer.specs.Text.{scalar_text, name_text, notes_text, opening, closing, separator, broken, deeper}
 use Rattle.writer.specs.Steps.{name_in, notes_in, is_nil}
 use Rattle.measure.specs.Outcome.{longest}
 use Rattle.measure.specs.Sums.{front_length, contents_of, contents, separator_length, separators_of, separators, lasts_of, lasts, indents_of, indents, summed, leaf_length}
-use Rattle.measure.specs.Steps.{plus, last_separator, body_own, notes_as, flagged, met, SumsFit, Grown}
+use Rattle.measure.specs.Steps.{plus, last_separator, body_own, flagged, met, SumsFit, Grown}
 use Rattle.measure.proofs.PartLaws.{front-both}
 use Rattle.measure.proofs.Bound.{name_most, notes_most, sound_most, gap_most}
 
@@ -298,26 +297,26 @@ pub record Noted (l : List ℕ) (q p : ℕ) (b : Bool) : Type 0 where
   pub read : Ended syms_fault q p (notes_of l)
   pub numbers : syms_numbered (notes_in l) ≡ b
 
-pub notes-told : (l : List ℕ) (q p : ℕ) (b : Bool) → (p ≡ 0 → ⊥) → notes_as p b ≡ notes_front q true false (notes_of l) → Noted l q p b
-notes-told l q p b h z = go (notes_of l) refl (rw (ne_eqb p 0 h) at z)
+pub notes-told : (l : List ℕ) (q p : ℕ) (b : Bool) → whole p true b ≡ notes_front q true false (notes_of l) → Noted l q p b
+notes-told l q p b z = go (notes_of l) refl z
   where
-    go : (o : Option (List Sym × ℕ)) → notes_of l ≡ o → F.Whole p true b ≡ notes_front q true false o → Noted l q p b
+    go : (o : Option (List Sym × ℕ)) → notes_of l ≡ o → whole p true b ≡ notes_front q true false o → Noted l q p b
     go none x z = let y : ◌≡◌ {A = ℕ} 0 1 = cc in absurd (omega arith)
     go (some (ss, n)) x z = by (syms_fault ss) refl z
       where
-        by : (f : ℕ) → syms_fault ss ≡ f → F.Whole p true b ≡ front_as f (q + n) true (syms_numbered ss) → Noted l q p b
-        by zero y z = record { read = record { bytes = n; place = cc; read = record { it = ss; is = x; sound = y } }; numbers = rw x (cc) }
+        by : (f : ℕ) → syms_fault ss ≡ f → whole p true b ≡ front_as f (q + n) true (syms_numbered ss) → Noted l q p b
+        by zero y z = let f = whole_parts z in record { read = record { bytes = n; place = f.0; read = record { it = ss; is = x; sound = y } }; numbers = rw x (sym f.2) }
         by (suc f) y z = let u : ◌≡◌ {A = ℕ} 0 1 = cc in absurd (omega arith)
 
 pub notes_bare : (l : List ℕ) (q : ℕ) → (kind l ≡ 13 → ⊥) → Noted l q q false
 unfolding syms_fault syms_numbered
 notes_bare l q h = let e = notes-none l h in record { read = record { bytes = 0; place = omega arith; read = record { it = []; is = e; sound = refl } }; numbers = rw e refl }
 
-pub notes_bad : (q : ℕ) (a b : Bool) (o : Option (List Sym × ℕ)) (p : ℕ) (c : Bool) → p ≡ 0 → notes_as p c ≡ notes_front q true false o → F.Bad ≡ notes_front q a b o
-notes_bad q a b none p c h z = refl
-notes_bad q a b (some (ss, n)) p c h z = go (syms_fault ss) (rw h at z)
+pub notes_bad : (q : ℕ) (a b : Bool) (o : Option (List Sym × ℕ)) → None ≡ notes_front q true false o → None ≡ notes_front q a b o
+notes_bad q a b none z = refl
+notes_bad q a b (some (ss, n)) z = go (syms_fault ss) z
   where
-    go : (f : ℕ) → F.Bad ≡ front_as f (q + n) true (syms_numbered ss) → F.Bad ≡ front_as f (q + n) (a || annotated ss) (b || syms_numbered ss)
+    go : (f : ℕ) → None ≡ front_as f (q + n) true (syms_numbered ss) → None ≡ front_as f (q + n) (a || annotated ss) (b || syms_numbered ss)
     go zero z = let y : ◌≡◌ {A = ℕ} 0 1 = cc in absurd (omega arith)
     go (suc f) z = refl
 
@@ -367,7 +366,7 @@ module _ {d : ℕ} {k : Frame} {s : List ℕ} {at e q : ℕ} (u : Named d k s at
     head-seen = record { place = told.place; sound = told.sound; notes = refl; numbers = refl; behind = told.behind; within = told.within }
 
     front-is : (quoted : Bool) → front_length quoted (head_at k (part s at e)) ≡ length (name_text quoted (name_in k (part s at e))) + length (notes_text quoted (notes_in (part s q e)))
-    front-is quoted = front-both quoted k s at e q p (rw u.name.read.is (ap At (sym u.name.place))) told.place
+    front-is quoted = front-both quoted k s at e q p (rw u.name.read.is (ap Some (sym u.name.place))) told.place
 
     -- n bytes were there before, a are in the name
     pub fronted : (quoted : Bool) {n m a v : ℕ} {b₀ b₁ b₂ : List ℕ} → v ≡ p → (p ≡ e → ⊥) → a ≡ length (name_text quoted (name_in k (part s at e))) → m ≡ n + a + length (notes_text quoted (notes_in (part s q e)))
@@ -446,10 +445,6 @@ pub walk_deep : (k : Frame) (l : List ℕ) → (walk 0 k l).1 ≡ 3
 unfolding walk
 walk_deep k l = refl
 
--- an answer that is a problem
-pub refusing : {A B C : Type 0} {r w f : ℕ} → r ≡ f → w ≡ f → (f ≡ 0 → ⊥) → (r ≡ w) × ((r ≡ 0 → A) × ((r ≡ 0 → B) × (r ≡ 0 → C)))
-refusing e g nz = (e ∙ sym g, ((λ z. absurd (nz (sym e ∙ z))), ((λ z. absurd (nz (sym e ∙ z))), (λ z. absurd (nz (sym e ∙ z))))))
-
 module _ {quoted : Bool} {s : List ℕ} {from e : ℕ} {k : Frame} {d : ℕ} {sums₀ seen₀ sums seen : List ℕ} {at n c : ℕ} (b : Body s from e d sums₀) (v : Walking quoted s from e k d sums₀ seen₀ sums seen at n c) where
   pub sums_fit : SumsFit (plus sums (body_own n c k (130 - 2 * d)))
   sums_fit = grown_fit b.before v.grown (omega arith)
@@ -461,19 +456,16 @@ module _ {quoted : Bool} {s : List ℕ} {from e : ℕ} {k : Frame} {d : ℕ} {su
 
     pub ended : (x : List ℕ) → x ≡ plus sums (body_own n c k (130 - 2 * d))
         → (0 ≡ (walk d k (part s from e)).1)
-        × ((◌≡◌ {A = ℕ} 0 0 → x ≡ plus sums₀ (summed quoted k (130 - 2 * d) (walk d k (part s from e)).0))
-        × ((◌≡◌ {A = ℕ} 0 0 → set seen 2 c ≡ met seen₀ (walk d k (part s from e)).0)
-        × (◌≡◌ {A = ℕ} 0 0 → Grown (e - from) sums₀ x)))
-    ended x q = (
-      sym (v.fault ∙ ap (λ (u : Walked). u.1) none_left),
-      (
-        (λ z. q ∙ all-summed quoted _ _ _ _ _ _ _ (rw none_left at v.left)),
-        (
-          (λ z. met_all (rw none_left at v.met)),
-          (λ z. let i : at ≡ e = omega arith in rw (q, ← i) v.grown),
-        ),
-      ),
-    )
+        × (x ≡ plus sums₀ (summed quoted k (130 - 2 * d) (walk d k (part s from e)).0))
+        × (set seen 2 c ≡ met seen₀ (walk d k (part s from e)).0)
+        × Grown (e - from) sums₀ x
+    ended x q =
+        let i : at ≡ e = omega arith in (
+          sym (v.fault ∙ ap (λ (u : Walked). u.1) none_left),
+          q ∙ all-summed quoted _ _ _ _ _ _ _ (rw none_left at v.left),
+          met_all (rw none_left at v.met),
+          rw (q, ← i) v.grown,
+        )
 
 -- a child is left
 pub record Child (quoted : Bool) (s : List ℕ) (from e : ℕ) (k : Frame) (d : ℕ) (sums₀ seen₀ sums seen : List ℕ) (at n c : ℕ) : Type 0 where
@@ -496,8 +488,9 @@ module _ {quoted : Bool} {s : List ℕ} {from e : ℕ} {k : Frame} {d : ℕ} {su
   pub sums_most : {q : ℕ} → at ≤ q → Grown q (replicate 4 0) sums
   sums_most h = grown_sums k (130 - 2 * d) n c v.body.before v.walking.grown v.walking.behind h
 
-  pub refuse : {A B C : Type 0} {r g : ℕ} → r ≡ g → Refused d k s at e g → (r ≡ (walk d k (part s from e)).1) × ((r ≡ 0 → A) × ((r ≡ 0 → B) × (r ≡ 0 → C)))
-  refuse q u = refusing q (v.walking.fault ∙ u.fault) u.some
+  -- an answer that is a problem
+  pub refuse : {r g : ℕ} → r ≡ g → Refused d k s at e g → r ≡ (walk d k (part s from e)).1
+  refuse q u = q ∙ sym (v.walking.fault ∙ u.fault)
 
 -- ---- a child is passed: its front is told, and its value stands at p
 

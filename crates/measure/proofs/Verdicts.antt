@@ -15,6 +15,7 @@ use Rattle.tape.specs.Fine.{Bytes}
 use Rattle.tape.specs.Verdict.{verdict}
 use Rattle.tape.specs.Refusal.{noteds, numbereds}
 use Rattle.tape.specs.Answer.{counted, refused}
+use Rattle.std.specs.Prelude.{Ok}
 use Rattle.tape.specs.CheckSteps.{Checks}
 use Rattle.tape.specs.declared.Frame.TheVariants.{Top}
 use Rattle.tape.proofs.Walking.{first-zero, verdict-told}
@@ -33,11 +34,11 @@ flag_back : (b : Bool) → eqb (flagged 0 b) 1 ≡ b
 flag_back true = refl
 flag_back false = refl
 
--- of the nodes w, without a problem where f is 0, seen was met
-module _ (w : Walked) (f : ℕ) (z : f ≡ w.1) (seen : List ℕ) (e : f ≡ 0 → seen ≡ met (replicate 3 0) w.0) where
-  pub met_checks : Checks w (record { fault = f; count = get_or seen 2 0; noted = eqb (get_or seen 0 0) 1; numbered = eqb (get_or seen 1 0) 1 })
+-- of the nodes w without a problem, seen was met
+module _ (w : Walked) (z : 0 ≡ w.1) (seen : List ℕ) (e : seen ≡ met (replicate 3 0) w.0) where
+  pub met_checks : Checks w (Ok (record { count = get_or seen 2 0; noted = eqb (get_or seen 0 0) 1; numbered = eqb (get_or seen 1 0) 1 }))
   unfolding met
-  met_checks = record { fault = z; counts = λ y. rw (e y) (record { count = refl; noted = flag_back (noteds w.0); numbered = flag_back (numbereds w.0) }) }
+  met_checks = record { fault = z; counts = rw e (record { count = refl; noted = flag_back (noteds w.0); numbered = flag_back (numbereds w.0) }) }
 
 -- ---- the sums of a tape, from nothing on
 

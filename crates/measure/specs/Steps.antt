@@ -1,12 +1,13 @@
 -- What the contracts of the walk and its parts name: the setting as a number, and sums and flags that go on. Assumes nothing: these are definitions.
-use Rattle.std.specs.Prelude.{ℕ, zero, suc, ◌+◌, ◌*◌, ◌<◌, ◌≤◌, List, [], ◌∷◌, Bool, true, ◌||◌, eqb, get_or}
+use Rattle.std.specs.Prelude.{ℕ, zero, suc, ◌+◌, ◌*◌, ◌<◌, ◌≤◌, List, [], ◌∷◌, Bool, true, ◌||◌, eqb, get_or, Option, Some, None}
 use Rattle.output.specs.Logic.{if}
 use Rattle.output.specs.Wrote.{limit}
 use Rattle.tape.specs.Tree.{Nodes, size}
 use Rattle.tape.specs.Refusal.{noteds, numbereds}
 use Rattle.tape.specs.declared.Frame.{Frame}
+use Rattle.tape.specs.CheckSteps.{whole}
 use Rattle.tape.specs.declared.check.Front.{Front}
-use Rattle.tape.specs.declared.check.Front.TheVariants.{Bad, Whole}
+use Rattle.measure.specs.declared.parts.Notes.{Notes}
 use Rattle.measure.specs.Sums.{separator_length}
 
 -- how many quote marks there are around a symbol text that could stand bare: the walk's form of the setting
@@ -34,9 +35,10 @@ body_own n c k w = n ∷ (c * separator_length k) ∷ last_separator c k ∷ (c 
 abbrev pub is_untold : ℕ → Bool
 is_untold k = eqb k 3 || (eqb k 6 || (eqb k 8 || eqb k 9))
 
--- annotations by the place behind them, which is 0 where they are refused; b: there is an identifier but 0 among them
-abbrev pub notes_as : ℕ → Bool → Front
-notes_as p b = if (eqb p 0) Bad (Whole p true b)
+-- annotations that are measured, as validation tells of them
+abbrev pub notes_as : Option Notes → Option Front
+notes_as None = None
+notes_as (Some n) = whole n.end true n.numbered
 
 -- a flag, 1 for yes, that goes on: yes if it was, or by b
 abbrev pub flagged : ℕ → Bool → ℕ

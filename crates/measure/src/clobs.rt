@@ -37,10 +37,8 @@ fn clob_escapes(s: &[u8]) -> usize
     ensures { length s.now + result ≡ length (clob_body s.now) }
 {
     let mut c: usize = 0;
-    let mut i = 0;
-    while i < s.len() {
-        c = c + clob_escape(s[i]);
-        i += 1;
+    for b in s {
+        c += clob_escape(*b);
     }
     c
 }
@@ -51,7 +49,7 @@ pub fn clob_length(s: &[u8]) -> usize
     ensures { result ≡ length (clob_text s.now) }
 {
     let n = s.len() + 6;
-    if text_rules::clobs::any_clob_suspect(s) == 0 {
+    if !text_rules::clobs::any_clob_suspect(s) {
         return n;
     }
     n + clob_escapes(s)

@@ -6,12 +6,6 @@ ghost use Rattle.text_rules.specs.Digits.{count, digits};
 
 use numbers::int;
 
-fn near(x: u64) -> usize
-    ensures { result ≡ x }
-{
-    x as usize
-}
-
 fn sign_length(negative: bool) -> usize
     ensures { (result ≡ length (sign negative)) × (result ≤ 1) }
 {
@@ -50,7 +44,7 @@ fn below_length(n: u64, w: usize, k: u64) -> usize
         return w + 1;
     }
     if k <= l + 5 {
-        return 2 + near(k);
+        return 2 + k as usize;
     }
     scientific_length(n, w, int::minus(k - l))
 }

@@ -1,5 +1,5 @@
 // The length of the body of quoted text and strings.
-ghost use Rattle.std.specs.Prelude.{◌+◌, ◌<◌, ◌≤◌, ◌^◌, min, ◌≡◌, true, [], ◌∷◌, length, take, drop};
+ghost use Rattle.std.specs.Prelude.{◌+◌, ◌<◌, ◌≤◌, ◌^◌, ◌≡◌, true, [], ◌∷◌, length, take, drop};
 ghost use Rattle.text_rules.specs.Escapes.{text_escape, text_body};
 
 // 0 only for a byte that is raw in text: hex 20 at least, no quote mark and no backslash.
@@ -27,19 +27,10 @@ fn any_suspect(s: &[u8]) -> u8
     ensures { result ≡ 0 → text_body s.now ≡ s.now }
 {
     let mut n = 0;
-    let mut i = 0;
-    while i < s.len() {
-        n = n | suspect(s[i]);
-        i += 1;
+    for b in s {
+        n |= suspect(*b);
     }
     n
-}
-
-// Eight, or n where that is less.
-fn at_most_8(n: usize) -> usize
-    ensures { result ≡ min n 8 }
-{
-    if n < 8 { n } else { 8 }
 }
 
 // By how many bytes the body is longer than the n first bytes of s, word by word.
@@ -50,8 +41,9 @@ fn escapes_of(s: &[u8], n: usize) -> usize
 {
     let mut c: usize = 0;
     let mut i: usize = 0;
+    // A walk: the step is a word.
     while i < n {
-        c = c + crate::marks::escapes_add(output::word_at(s, i), at_most_8(n - i));
+        c = c + crate::marks::escapes_add(output::word_at(s, i), (n - i).min(8));
         i += 8;
     }
     c
@@ -63,6 +55,7 @@ fn is_raw_at(s: &[u8], from: usize, n: usize) -> bool
     ensures { result ≡ true → text_body (take n (drop from s.now)) ≡ take n (drop from s.now) }
 {
     let mut i: usize = 0;
+    // A walk: the step is a word, and the last word is tested behind it.
     while i + 8 < n {
         if !lanes::is_raw_word(output::word_at(s, from + i), 8) {
             return false;

@@ -27,10 +27,10 @@ pub fn text_length_with(quoted: bool, layout: u32, tape: &[u8]) -> Answer
         return Answer::NoLayout;
     }
     let mut sums = [0usize; 4];
-    let c = walk::measure_tape(quoted, tape, &mut sums);
-    if c.fault != 0 {
-        return tape::answer::refusal_of(c.fault);
-    }
+    let c = match walk::measure_tape(quoted, tape, &mut sums) {
+        Ok(c) => c,
+        Err(fault) => return Answer::from(fault),
+    };
     if c.noted {
         return Answer::Unsuited;
     }

@@ -1,5 +1,5 @@
 // The lengths of what a child has: its name, its annotations, its scalar. A scalar is validated where it is measured.
-ghost use Rattle.std.specs.Prelude.{◌≡◌, Bool, true, false, [], ◌+◌, ◌<◌, ◌≤◌, ◌^◌, length, get_or, take, drop};
+ghost use Rattle.std.specs.Prelude.{◌≡◌, Bool, true, false, [], IfSome, ◌+◌, ◌<◌, ◌≤◌, ◌^◌, length, get_or, take, drop};
 ghost use Rattle.std.proofs.Math.Option.{some};
 ghost use Rattle.text_rules.specs.Text.{symbol_text};
 ghost use Rattle.tape.specs.Bytes.{part};
@@ -13,7 +13,7 @@ ghost use Rattle.measure.specs.Sums.{leaf_length, sym_length};
 ghost use Rattle.measure.specs.Steps.{quotes_of, quoting, is_untold, notes_as};
 
 use crate::text_formatter;
-use tape::{Frame, Scalar, Scanned, check};
+use tape::{Frame, Scalar, check};
 
 // ---- symbols
 
@@ -22,12 +22,7 @@ fn plain_at(tape: &[u8], from: usize, n: usize) -> bool
     requires { from + n + 8 ≤ length tape.now }
     ensures { result ≡ true → (quoted : Bool) → length (symbol_text quoted (take n (drop from tape.now))) ≡ n + quotes_of quoted }
 {
-    if 1 <= n {
-        if n <= 8 {
-            return text_rules::short_words::is_plain(output::word_at(tape, from), n);
-        }
-    }
-    false
+    1 <= n && n <= 8 && text_rules::short_words::is_plain(output::word_at(tape, from), n)
 }
 
 // The length of the symbol that is the n first bytes of s, sixteen at most; 0 where that is not told. Its words are handed on as numbers, which takes less
@@ -106,29 +101,16 @@ pub fn field_name_length(tape: &[u8], at: usize, end: usize, frame: Frame, quote
 {
     match frame {
         Frame::Struct => name_length(tape, at, end, quotes),
-        Frame::Top => 0,
-        Frame::List => 0,
-        Frame::Sexp => 0,
+        Frame::Top | Frame::List | Frame::Sexp => 0,
     }
 }
 
-// What annotations have: the place behind them, or 0 where they are refused, which is always by 2; the length of their text; whether there is an
-// identifier but 0 among them.
+// What annotations have that are not refused: where they end; the length of their text; whether there is an identifier but 0 among them.
 #[derive(Clone, Copy)]
 pub struct Notes {
-    pub at: usize,
+    pub end: usize,
     pub length: usize,
     pub numbered: bool,
-}
-
-fn no_notes() -> Notes
-    ensures { result.at ≡ 0 }
-{
-    Notes {
-        at: 0,
-        length: 0,
-        numbered: false,
-    }
 }
 
 // The symbol at a place, which has `size` bytes.
@@ -151,57 +133,52 @@ fn sym_length(tape: &[u8], at: usize, end: usize, size: usize, quotes: usize) ->
     text_formatter::symbol_id_length(tape::u32_at(tape, at + 1) as u32)
 }
 
-// n symbols from a place on, each with `::` behind it.
-fn notes_from(tape: &[u8], at: usize, end: usize, n: u8, quotes: usize) -> Notes
-    requires le_at { (1 ≤ at) × (at ≤ end) }
+// n symbols from a place on, each with `::` behind it, if none is refused, which is always by 2.
+fn notes_from(tape: &[u8], at: usize, end: usize, n: u8, quotes: usize) -> Option<Notes>
+    requires at_le_end { at ≤ end }
     requires end_in_bounds { end + 8 ≤ length tape.now }
     requires tape_len_bound { length tape.now ≤ 1048576 }
     requires quotes_value { quotes ≡ quotes_of (quoting quotes) }
-    ensures front { notes_as result.at result.numbered ≡ syms_front at false (syms_of n (part tape.now at end)) }
-    ensures length { 0 < result.at → result.length ≡ length (notes_text (quoting quotes) (reading (syms_of n (part tape.now at end)) [] (λ ss m. ss))) }
+    ensures front { notes_as result ≡ syms_front at false (syms_of n (part tape.now at end)) }
+    ensures length { IfSome result (λ notes. notes.length ≡ length (notes_text (quoting quotes) (reading (syms_of n (part tape.now at end)) [] (λ ss m. ss)))) }
 {
     let mut p = at;
-    let mut left = n;
     let mut length: usize = 0;
     let mut numbered = false;
-    while 0 < left {
+    for _ in 0..n {
         let size = check::sym_size(tape, p, end);
         if size == 0 {
-            return no_notes();
+            return None;
         }
-        length = length + (sym_length(tape, p, end, size, quotes) + 2);
+        length += sym_length(tape, p, end, size, quotes) + 2;
         if check::is_number(tape, p, end) {
             numbered = true;
         }
-        p = p + size;
-        left -= 1;
+        p += size;
     }
-    Notes {
-        at: p,
+    Some(Notes {
+        end: p,
         length,
         numbered,
-    }
+    })
 }
 
 // The annotations at a place, where their kind byte stands.
-pub fn notes_at(tape: &[u8], at: usize, end: usize, quotes: usize) -> Notes
+pub fn notes_at(tape: &[u8], at: usize, end: usize, quotes: usize) -> Option<Notes>
     requires at_lt_end { at < end }
     requires end_in_bounds { end + 8 ≤ length tape.now }
     requires tape_len_bound { length tape.now ≤ 1048576 }
     requires at_value { get_or tape.now at 0 ≡ 13 }
     requires quotes_value { quotes ≡ quotes_of (quoting quotes) }
-    ensures front { notes_as result.at result.numbered ≡ notes_front at true false (notes_of (part tape.now at end)) }
-    ensures length { 0 < result.at → result.length ≡ length (notes_text (quoting quotes) (notes_in (part tape.now at end))) }
+    ensures front { notes_as result ≡ notes_front at true false (notes_of (part tape.now at end)) }
+    ensures length { IfSome result (λ notes. notes.length ≡ length (notes_text (quoting quotes) (notes_in (part tape.now at end)))) }
 {
     if end - at < 2 {
-        return no_notes();
+        return None;
     }
     let n = tape[at + 1];
-    if n < 1 {
-        return no_notes();
-    }
-    if 16 < n {
-        return no_notes();
+    if n < 1 || 16 < n {
+        return None;
     }
     notes_from(tape, at + 2, end, n, quotes)
 }
@@ -321,7 +298,7 @@ pub fn untold_length(tape: &[u8], at: usize, end: usize, quotes: usize) -> usize
 {
     let k = tape[at];
     if k == 3 {
-        let Scanned::Is(s) = tape::float_of(tape::u64_at(tape, at + 1)) else {
+        let Some(s) = tape::float_of(tape::u64_at(tape, at + 1)) else {
             return 0;
         };
         let Scalar::Float(x) = s else {

@@ -104,6 +104,7 @@ fn is_word(s: &[u8], n: usize) -> bool
     ensures { result ≡ all_part (take n s.now) }
 {
     let mut i: usize = 0;
+    // A walk: the step is a word, and the last word is tested behind it.
     while i + 8 < n {
         if !lanes::is_identifier_word(output::word_at(s, i), 8) {
             return false;

@@ -1,17 +1,19 @@
 -- What the code of decimals needs: the digits before a point, and which form a text has. Assumes nothing.
 use mathlib.Core.Path.{◌≡◌, refl, sym, ap, ◌∙◌}
-use mathlib.Core.Bool.{Bool}
+use mathlib.Core.Bool.{Bool, true, false}
 use mathlib.Core.List.{List, [], ◌∷◌, ◌++◌}
 use Prim.Native.Nat.{ℕ, zero, suc, ◌+◌, ◌-◌, ◌/◌, ◌^◌, ◌≤◌, ◌<◌}
 use lib.Pow.{pow-add}
 use native.Mathlib.Nat.{add-zero, add-suc, div-one, le-div_iff_mul-le, div-lt_iff_lt-mul}
 use native.Mathlib.Decide.{dec_le}
 use native.Mathlib.Omega.{arith}
-use lib.IntN.{pos, negsuc}
+use lib.IntN.{ℤ, pos, negsuc, nat_abs}
 use lib.ListN.{replicate}
+use lib.Signed.{lt_z}
 use borrow.Author.Tests.{lt-ltb, le-ltb, le-leb, lt-leb}
 use Rattle.output.specs.Logic.{byte}
-use Rattle.output.specs.Wrote.{le_bytes}
+use Rattle.output.specs.Wrote.{Wrote, le_bytes}
+use Rattle.output.proofs.Laws.{wrote_then}
 use Rattle.text_rules.specs.Digits.{pad, count, digits}
 use Rattle.text_rules.proofs.DigitLaws.{count_most, count_enough, count_le, pow_pos10, digits-take-pad, digits-drop-pad, length_digits}
 use Rattle.text_rules.proofs.DigitCode.{count-is}
@@ -97,3 +99,18 @@ text_below neg m w k h = rw (length_digits m, h)
 pub text_above : (neg : Bool) (m w k : ℕ) → w ≡ count 19 m → decimal_text neg m (pos k) ≡ sign neg ++ above (digits m) w k
 unfolding decimal_text form
 text_above neg m w k h = rw (length_digits m, h)
+
+-- ---- the sign
+
+-- a text behind a minus, or behind nothing
+pub signed : (negative : Bool) → {a b c : List ℕ} {p q r : ℕ} {t : List ℕ} → (negative ≡ true → Wrote a b p q (sign true)) → (negative ≡ false → (q ≡ p) × (b ≡ a))
+    → Wrote b c q r t → Wrote a c p r (sign negative ++ t)
+unfolding sign
+signed true m n w = wrote_then (m refl) w
+signed false {a = a} {b = b} {c = c} {p = p} {q = q} {r = r} {t = t} m n w = let e = n refl in rw (sym e.0, sym e.1) w
+
+-- an int by its sign and its distance from zero
+pub text_int : (n : ℤ) → int_text n ≡ sign (lt_z n (pos 0)) ++ digits (nat_abs n)
+unfolding int_text sign
+text_int (pos n) = rw (le-ltb n 0 (omega arith))
+text_int (negsuc n) = refl

@@ -3,6 +3,7 @@ use mathlib.Core.Path.{◌≡◌, refl, sym, ap, ◌∙◌}
 use mathlib.Core.Bool.{Bool, true, false}
 use mathlib.Core.Option.{none, some}
 use Prim.Native.Nat.{ℕ, zero, suc, ◌+◌, ◌-◌, ◌^◌, ◌≤◌, ◌<◌}
+use native.Mathlib.Decide.{dec_le}
 use native.Mathlib.Nat.{not-suc-le-zero}
 use native.Mathlib.Omega.{arith}
 use lib.Dec.{ltb, leb-suc-suc}
@@ -12,8 +13,12 @@ use mir.Syntax.{Width, w32, w64}
 use mir.Val.{SFits, hbits, to_z, of_z}
 use mir.ValLaws.{to_z_pos, to_z-of_z}
 use borrow.Author.Tests.{ltb-true, lt-ltb, le-ltb}
+use Rattle.std.specs.Prelude.{Some, None, Ok, Err, Result}
+use Rattle.std.specs.Result.{OkIff, result_ok}
+use Rattle.std.proofs.lemmas.Option.{same_Some, none-some}
 use Rattle.output.specs.Logic.{if}
 use Rattle.text_rules.proofs.DigitLaws.{never}
+use Rattle.text_rules.specs.Reading.{found}
 use Rattle.numbers.specs.Numeral.{held, in_i64, in_i32}
 
 -- ---- the test `z < 0`: what z is, and how the machine reads it back from its bits
@@ -39,6 +44,12 @@ pub inverted : (k : ℕ) → k < 2 ^ 63 → to_z w64 (18446744073709551615 - of_
 inverted k l =
     let i : 18446744073709551615 - (2 ^ 64 - suc k) ≡ k = omega arith in
     ap (to_z w64) i ∙ to_z_pos w64 k l
+
+-- the bits of k, inverted, are those of -(k + 1)
+pub turned : (k : ℕ) → k < 2 ^ 63 → to_z w64 (18446744073709551615 - of_z w64 (pos k)) ≡ negsuc k
+turned k l =
+    let i : 18446744073709551615 - k ≡ 2 ^ 64 - suc k = omega arith in
+    ap (to_z w64) i ∙ to_z-of_z w64 (negsuc k) (record { sfits = l })
 
 -- ---- a number that i64 or i32 holds: `mag` is n both for n and for -(n + 1)
 
@@ -79,6 +90,24 @@ i32_none z h = held_none 2_147_483_647 z h
 pub i32_some : (z y : ℤ) → in_i32 z ≡ some y → SFits w32 y
 i32_some z y h = record { sfits = held-some 2_147_483_647 z y h }
 
+-- ---- a conversion that may fail
+
+pub told : {E : Type 0} (w : Width) (r : Result ℤ E) (z x : ℤ) → OkIff r (SFits w z) z → Some x ≡ result_ok r → SFits w z × (x ≡ z)
+told w (Ok y) z x h e = (h.0, same_Some x y e ∙ h.1)
+told w (Err e) z x h g = absurd (none-some x (sym g))
+
+pub untold : {E : Type 0} (w : Width) (r : Result ℤ E) (z : ℤ) → OkIff r (SFits w z) z → None ≡ result_ok r → 2 ^ hbits w ≤ mag z
+untold w (Ok y) z h e = absurd (none-some y e)
+untold w (Err e) z h g = go (dec_le (2 ^ hbits w) (mag z))
+  where
+    go : Dec (2 ^ hbits w ≤ mag z) → 2 ^ hbits w ≤ mag z
+    go (yes l) = l
+    go (no l) = absurd (h (record { sfits = omega (arith, l) }))
+
+pub in_i32-told : {E : Type 0} (r : Result ℤ E) (z : ℤ) → OkIff r (SFits w32 z) z → found (result_ok r) ≡ in_i32 z
+in_i32-told (Ok x) z h = ap some h.1 ∙ sym (i32_fits z h.0)
+in_i32-told (Err e) z h = sym (i32_none z (untold w32 (Err e) z h refl))
+
 -- ---- differences
 
 pub minus_minus : (e n : ℕ) → neg_ℤ (pos e) -ℤ pos n ≡ neg_ℤ (pos (e + n))
@@ -90,14 +119,6 @@ minus_minus (suc e) (suc n) = let i : suc e + suc n ≡ suc (suc (e + n)) = omeg
 pub plus-minus : (e n : ℕ) → n ≤ e → pos e -ℤ pos n ≡ pos (e - n)
 plus-minus e zero h = ap pos (omega arith)
 plus-minus e (suc n) h = rw (le-ltb e (suc n) h)
-
-pub plus_less : (e n : ℕ) → e < n → pos e -ℤ pos n ≡ neg_ℤ (pos (n - e))
-plus_less e zero h = let bad : ⊥ = omega arith in absurd bad
-plus_less e (suc n) h = let i : suc n - e ≡ suc (suc n - suc e) = omega arith in rw (lt-ltb e (suc n) h, i)
-
-pub neg_pos : (k : ℕ) → 1 ≤ k → neg_ℤ (pos k) ≡ negsuc (k - 1)
-neg_pos zero h = let bad : ⊥ = omega arith in absurd bad
-neg_pos (suc k) h = ap negsuc (omega arith)
 
 pub zero_minus : (k : ℕ) → pos 0 -ℤ pos k ≡ neg_ℤ (pos k)
 zero_minus k = let z : 0 + k ≡ k = omega arith in minus_minus 0 k ∙ ap (λ (i : ℕ). neg_ℤ (pos i)) z

@@ -12,19 +12,23 @@ use lib.ListN.{length, drop, get_or}
 use borrow.Author.Tests.{leb-true}
 use Rattle.output.specs.Logic.{if, then, on}
 use Rattle.text_rules.specs.Digits.{is_digit, run, number}
-use Rattle.text_rules.proofs.Places.{byte_at, end-at}
+use Rattle.text_rules.proofs.Places.{byte_at}
 use Rattle.text_rules.proofs.DigitLaws.{Digits, digits-run, digit_range}
-use Rattle.numbers.specs.TimestampRead.{joined, clock, minutes}
+use Rattle.numbers.specs.TimestampRead.{joined, starts_digit, clock, minutes}
 
 -- ---- exactly w digits
 
-pub joined-out : (t : List ℕ) (i a k : ℕ) → i ≡ length t → joined a (suc k) (drop i t) ≡ none
-unfolding joined
-joined-out t i a k h = rw (end-at t i h)
+pub joined-stop : (t : List ℕ) (a k : ℕ) → starts_digit t ≡ false → joined a (suc k) t ≡ none
+unfolding joined starts_digit
+joined-stop [] a k h = refl
+joined-stop (c ∷ t) a k h = rw h
 
-pub joined-stop : (t : List ℕ) (i a k : ℕ) → i < length t → is_digit (get_or t i 0) ≡ false → joined a (suc k) (drop i t) ≡ none
-unfolding joined
-joined-stop t i a k l h = rw (byte_at t i l, h)
+pub digit_here : (t : List ℕ) (i : ℕ) → starts_digit (drop i t) ≡ true → (i < length t) × (is_digit (get_or t i 0) ≡ true)
+unfolding starts_digit
+digit_here [] zero h = let bad : ⊥ = cc in absurd bad
+digit_here [] (suc i) h = let bad : ⊥ = cc in absurd bad
+digit_here (c ∷ t) zero h = (omega arith, h)
+digit_here (c ∷ t) (suc i) h = let r = digit_here t i h in (omega (arith, r.0), r.1)
 
 pub joined-turn : (t : List ℕ) (i a k : ℕ) → i < length t → is_digit (get_or t i 0) ≡ true
     → joined a (suc k) (drop i t) ≡ joined (a * 10 + (get_or t i 0 - 48)) k (drop (i + 1) t)

@@ -1,28 +1,16 @@
 -- What inner functions on timestamps, reading and writing, say in the terms of the rules. Assumes nothing: these are definitions.
-use Rattle.std.specs.Prelude.{ℕ, ◌+◌, ◌≤◌, ◌≡◌, Bool, true, false, List, ◌∷◌, ◌++◌, ℤ, pos, negsuc, get_or}
+use Rattle.std.specs.Prelude.{ℕ, ◌+◌, ◌≤◌, ◌≡◌, List, ◌∷◌, ◌++◌, get_or, Some, None}
+use Rattle.std.specs.Prelude as std
 use Rattle.std.proofs.Math.Option.{Option, none, some}
 use Rattle.output.specs.Logic.{byte}
 use Rattle.text_rules.specs.Digits.{pad}
 use Rattle.numbers.specs.Timestamp.{date_hour_and_minute}
 use Rattle.numbers.specs.declared.timestamp.Timestamp.{Timestamp}
-use Rattle.numbers.specs.declared.timestamp.TimestampRead.{TimestampRead}
-use Rattle.numbers.specs.declared.timestamp.TimestampRead.TheVariants as t
-use Rattle.numbers.specs.declared.timestamp.Number.{Number}
-use Rattle.numbers.specs.declared.timestamp.Number.TheVariants as n
-use Rattle.numbers.specs.declared.timestamp.Clock.{Clock}
-use Rattle.numbers.specs.declared.timestamp.Clock.TheVariants as c
 
-abbrev pub timestamp_read : TimestampRead → Option (Timestamp × ℕ)
-timestamp_read (t.Is x end) = some (x, end)
-timestamp_read t.Bad = none
-
-abbrev pub number_read : Number → Option (ℕ × ℕ)
-number_read (n.Is x end) = some (x, end)
-number_read n.Bad = none
-
-abbrev pub clock_read : Clock → Option ((ℕ × ℕ) × ℕ)
-clock_read (c.Is h m end) = some ((h, m), end)
-clock_read c.Bad = none
+-- `hh:mm` and the place behind it, or nothing
+abbrev pub clock_read : std.Option (ℕ × ℕ × ℕ) → Option ((ℕ × ℕ) × ℕ)
+clock_read (Some v) = some ((v.0, v.1), v.2)
+clock_read None = none
 
 -- `-`, `T`, `:`, `:` and `Z` stand at their places in `MM-DDThh:mm:ssZ`
 pub record Marked (text : List ℕ) (at : ℕ) : Type 0 where
@@ -40,11 +28,6 @@ pub record Usual (y m d h i s : ℕ) : Type 0 where
   pub hour : h ≤ 23
   pub minute : i ≤ 59
   pub second : s ≤ 59
-
--- an offset's sign
-abbrev pub negative : ℤ → Bool
-negative (pos m) = false
-negative (negsuc m) = true
 
 -- ---- written
 

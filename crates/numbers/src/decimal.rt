@@ -1,10 +1,10 @@
 // The text of a decimal: `format_text` and `write_scientific` of types/decimal/mod.rs.
-ghost use Rattle.std.specs.Prelude.{◌≡◌, ◌+◌, ◌≤◌, ◌<◌, ◌∷◌, ◌++◌, length, replicate};
+ghost use Rattle.std.specs.Prelude.{◌≡◌, true, false, ◌+◌, ◌≤◌, ◌<◌, ◌∷◌, ◌++◌, length, replicate};
 ghost use Rattle.std.proofs.lemmas.List.Edits.{sets};
 ghost use Rattle.output.specs.Logic.{byte};
 ghost use Rattle.output.specs.Wrote.{Wrote, limit};
 ghost use Rattle.text_rules.specs.Digits.{count, digits};
-ghost use Rattle.numbers.specs.Decimal.{pointed, scientific, above, below, sign, decimal_text};
+ghost use Rattle.numbers.specs.Decimal.{pointed, scientific, above, below, decimal_text};
 
 use crate::int;
 
@@ -25,8 +25,8 @@ fn pointed_long(buf: &mut [u8], pos: usize, n: u64, w: usize, k: usize)
     ensures { buf.new ≡ sets buf.old pos (pointed (digits n) k) }
 {
     let v = text_rules::digits::eight_digits(n / 100000000) >> (128 - 8 * w);
-    output::store_8(buf, pos + 1, v);
-    output::store_8(
+    output::store::<8>(buf, pos + 1, v);
+    output::store::<8>(
         buf,
         pos + (w - 7),
         text_rules::digits::eight_digits(n % 100000000),
@@ -43,18 +43,18 @@ fn pointed_late(buf: &mut [u8], pos: usize, n: u64, w: usize, k: usize)
 {
     let v = text_rules::digits::eight_digits(n / 100000000) >> (128 - 8 * w);
     let l = text_rules::digits::eight_digits(n % 100000000);
-    output::store_8(buf, pos, v);
-    output::store_8(buf, pos + (w - 8), l);
+    output::store::<8>(buf, pos, v);
+    output::store::<8>(buf, pos + (w - 8), l);
     text_rules::digits::store_last(buf, pos + k + 1, l, w - k);
     buf[pos + k] = b'.';
 }
 
 // The digits of n, w of them, with a point after k. For every buffer: the number that the first k are, and as many digits as are left.
 fn put_pointed(buf: &mut [u8], pos: usize, n: u64, w: usize, k: usize) -> usize
-    requires { (pos ≤ limit) × (w ≡ count 19 n) × (w ≤ 20) × (1 ≤ k) × (k ≤ w) }
+    requires { (w ≡ count 19 n) × (w ≤ 20) × (1 ≤ k) × (k ≤ w) }
     ensures { Wrote buf.old buf.new pos result (pointed (digits n) k) }
 {
-    if pos + 16 < buf.len() {
+    if pos < buf.len().saturating_sub(16) {
         if w <= 8 {
             pointed_short(buf, pos, n, w, k);
             return pos + w + 1;
@@ -76,7 +76,7 @@ fn put_pointed(buf: &mut [u8], pos: usize, n: u64, w: usize, k: usize) -> usize
 
 // First digit, point and remaining digits, `d`, exponent.
 fn write_scientific(buf: &mut [u8], pos: usize, n: u64, w: usize, exponent: i64) -> usize
-    requires { (pos ≤ limit) × (w ≡ count 19 n) × (w ≤ 20) × (1 ≤ w) }
+    requires { (w ≡ count 19 n) × (w ≤ 20) × (1 ≤ w) }
     ensures { Wrote buf.old buf.new pos result (scientific (digits n) exponent) }
 {
     let p = put_pointed(buf, pos, n, w, 1);
@@ -84,26 +84,9 @@ fn write_scientific(buf: &mut [u8], pos: usize, n: u64, w: usize, exponent: i64)
     int::format_integer(buf, q, exponent)
 }
 
-fn put_sign(buf: &mut [u8], pos: usize, negative: bool) -> usize
-    requires { pos ≤ limit }
-    ensures { Wrote buf.old buf.new pos result (sign negative) }
-{
-    if negative {
-        output::put(buf, pos, b'-')
-    } else {
-        pos
-    }
-}
-
-fn width(x: u64) -> usize
-    ensures { result ≡ x }
-{
-    x as usize
-}
-
 // `0.`, five zeros at most, digits. What stands before the digits is a word of eight bytes, the first lowest.
 fn put_small(buf: &mut [u8], pos: usize, n: u64, zeros: usize) -> usize
-    requires { (pos ≤ limit) × (zeros ≤ 5) }
+    requires { zeros ≤ 5 }
     ensures { Wrote buf.old buf.new pos result (byte "0" ∷ byte "." ∷ (replicate zeros (byte "0") ++ digits n)) }
 {
     let a = output::put_le(buf, pos, 0x3030_3030_3030_2E30, 2 + zeros);
@@ -112,12 +95,12 @@ fn put_small(buf: &mut [u8], pos: usize, n: u64, zeros: usize) -> usize
 
 // The exponent is e, 0 or above.
 fn put_above(buf: &mut [u8], pos: usize, n: u64, w: usize, e: u64) -> usize
-    requires { (pos ≤ limit) × (w ≡ count 19 n) × (w ≤ 20) × (1 ≤ w) }
+    requires { (w ≡ count 19 n) × (w ≤ 20) × (1 ≤ w) }
     ensures { Wrote buf.old buf.new pos result (above (digits n) w e) }
 {
     if e == 0 {
         if 6 < w {
-            return write_scientific(buf, pos, n, w, int::plus(int::far(w - 1)));
+            return write_scientific(buf, pos, n, w, (w - 1) as i64);
         }
         let a = text_rules::digits::put_digits(buf, pos, n);
         return output::put(buf, a, b'.');
@@ -129,17 +112,17 @@ fn put_above(buf: &mut [u8], pos: usize, n: u64, w: usize, e: u64) -> usize
 
 // The exponent is -k.
 fn put_below(buf: &mut [u8], pos: usize, n: u64, w: usize, k: u64) -> usize
-    requires { (pos ≤ limit) × (w ≡ count 19 n) × (w ≤ 20) × (1 ≤ w) × (1 ≤ k) × (k ≤ limit) }
+    requires { (w ≡ count 19 n) × (w ≤ 20) × (1 ≤ w) × (1 ≤ k) × (k ≤ limit) }
     ensures { Wrote buf.old buf.new pos result (below (digits n) w k) }
 {
-    let l = int::far(w);
+    let l = w as u64;
     if k < l {
-        return put_pointed(buf, pos, n, w, width(l - k));
+        return put_pointed(buf, pos, n, w, (l - k) as usize);
     }
     if k <= l + 5 {
-        return put_small(buf, pos, n, width(k - l));
+        return put_small(buf, pos, n, (k - l) as usize);
     }
-    write_scientific(buf, pos, n, w, int::minus(k - l))
+    write_scientific(buf, pos, n, w, -1 - (k - l) as i64)
 }
 
 pub fn format_text(
@@ -149,12 +132,11 @@ pub fn format_text(
     magnitude: u64,
     exponent: i32,
 ) -> usize
-    requires { pos ≤ limit }
     ensures { Wrote buf.old buf.new pos result (decimal_text negative magnitude exponent) }
 {
-    let p = put_sign(buf, pos, negative);
+    let p = int::put_sign(buf, pos, negative);
     let w = text_rules::digits::digit_count(magnitude);
-    let e = int::size(int::widen(exponent));
+    let e = u64::from(exponent.unsigned_abs());
     if exponent < 0 {
         return put_below(buf, p, magnitude, w, e);
     }

@@ -1,10 +1,8 @@
 // Ints: signed machine numbers by sign and distance from zero, and their text.
-ghost use Rattle.std.specs.Prelude.{◌≡◌, ◌≤◌, ◌<◌, negsuc, nat_abs};
+ghost use Rattle.std.specs.Prelude.{◌≡◌, true, false, ◌≤◌, ◌<◌, negsuc, nat_abs};
 ghost use Rattle.std.proofs.Math.IntN;
-ghost use Rattle.std.specs.Int.{w32};
-ghost use Rattle.std.proofs.Common.{SFits};
 ghost use Rattle.output.specs.Wrote.{Wrote, limit};
-ghost use Rattle.numbers.specs.Decimal.{int_text};
+ghost use Rattle.numbers.specs.Decimal.{sign, int_text};
 
 // A count as a number of 64 bits.
 pub fn far(x: usize) -> u64
@@ -17,7 +15,7 @@ pub fn far(x: usize) -> u64
 pub fn size(n: i64) -> u64
     ensures { result ≡ nat_abs n }
 {
-    if n < 0 { (!n) as u64 + 1 } else { n as u64 }
+    n.unsigned_abs()
 }
 
 // The number n.
@@ -42,21 +40,22 @@ pub fn widen(n: i32) -> i64
     n as i64
 }
 
-pub fn narrow(n: i64) -> i32
-    requires { SFits w32 n }
-    ensures { result ≡ n }
+// A minus if negative; else the position stays.
+pub fn put_sign(buf: &mut [u8], pos: usize, negative: bool) -> usize
+    ensures minus { negative ≡ true → Wrote buf.old buf.new pos result (sign true) }
+    ensures nothing { negative ≡ false → (result ≡ pos) × (buf.new ≡ buf.old) }
 {
-    n as i32
+    if negative {
+        output::put(buf, pos, b'-')
+    } else {
+        pos
+    }
 }
 
 // Plain decimal, with a minus if below zero.
 pub fn format_integer(buf: &mut [u8], pos: usize, n: i64) -> usize
-    requires { pos ≤ limit }
     ensures { Wrote buf.old buf.new pos result (int_text n) }
 {
-    if n < 0 {
-        let p = output::put(buf, pos, b'-');
-        return text_rules::digits::put_digits(buf, p, size(n));
-    }
-    text_rules::digits::put_digits(buf, pos, size(n))
+    let p = put_sign(buf, pos, n < 0);
+    text_rules::digits::put_digits(buf, p, n.unsigned_abs())
 }

@@ -1,21 +1,21 @@
 // Timestamps: which are well formed, their text, and reading it. A port of `format` of types/timestamp.rs.
-ghost use Rattle.std.specs.Prelude.{◌≡◌, ℕ, suc, ◌+◌, ◌*◌, ◌/◌, ◌%◌, ◌≤◌, ◌<◌, true, List, ◌∷◌, ◌++◌, pos, nat_abs, length, drop};
+ghost use Rattle.std.specs.Prelude.{◌≡◌, ℕ, suc, IfSome, ◌+◌, ◌*◌, ◌/◌, ◌%◌, ◌≤◌, ◌<◌, true, List, ◌∷◌, ◌++◌, pos, length, drop};
 ghost use Rattle.std.proofs.Math.Option.{some};
 ghost use Rattle.std.proofs.lemmas.List.Edits.{sets};
 ghost use Rattle.output.specs.Logic.{byte};
 ghost use Rattle.output.specs.Wrote.{Wrote, limit, le_bytes};
 ghost use Rattle.text_rules.specs.Digits.{run, behind_digits};
-ghost use Rattle.text_rules.specs.Reading.{Reads};
+ghost use Rattle.text_rules.specs.Reading.{Reads, found};
 ghost use Rattle.numbers.specs.Timestamp.{is_leap, days_in, field_well, date_well, time_well, fraction_well, offset_well, well_formed, year_and_month, date, hour_and_minute, date_hour_and_minute, fractional_seconds, offset_text, timestamp_text};
 ghost use Rattle.numbers.specs.TimestampRead.{fixed, starts_digit, clock, dated, timed, zoned, checked, minutes, west, offset_of, fraction_of, second_of, time_of, behind_month, behind_year, timestamp};
-ghost use Rattle.numbers.specs.TimestampSteps.{negative, timestamp_read, number_read, clock_read, Marked, Usual, to_second};
+ghost use Rattle.numbers.specs.TimestampSteps.{clock_read, Marked, Usual, to_second};
 
 use text_rules::digits;
-use text_rules::digits::Joined;
 use text_rules::texts::stands;
 
 // A point in time to a precision: 0 year, 1 month, 2 day, 3 minute, 4 second. Fields finer than the precision are 0. The offset
-// is in minutes, 32767 where it is unknown. The fraction of a second has so many digits.
+// is in minutes, 32767 where it is unknown. The fraction of a second has so many digits. The precision is a number, and the unknown offset too,
+// as `well_formed` and the nodes of a tape have them.
 #[derive(Clone, Copy)]
 pub struct Timestamp {
     pub precision: u8,
@@ -30,154 +30,94 @@ pub struct Timestamp {
     pub fraction: u32,
 }
 
-const UNKNOWN: u16 = 32767;
-
-// ---- an offset's sign and its minutes
-
-fn is_negative(offset: i16) -> bool
-    ensures { result ≡ negative offset }
-{
-    offset < 0
-}
-
-fn unsigned_abs(offset: i16) -> u16
-    ensures { result ≡ nat_abs offset }
-{
-    if offset < 0 {
-        (!offset) as u16 + 1
-    } else {
-        offset as u16
-    }
-}
+// The offset that is not known.
+const UNKNOWN: i16 = 32767;
 
 // ---- which are well formed
 
+#[tactic(auto, unfolding(crate::specs::Timestamp::is_leap))]
 fn is_leap_year(year: u16) -> bool
     ensures { result ≡ is_leap year }
 {
-    if year % 400 == 0 {
-        return true;
-    }
-    if year % 4 == 0 {
-        return year % 100 != 0;
-    }
-    false
+    year % 400 == 0 || year % 4 == 0 && year % 100 != 0
 }
 
+#[tactic(auto, unfolding(crate::specs::Timestamp::days_in))]
 fn days_in_month(year: u16, month: u8) -> u8
     ensures { result ≡ days_in year month }
 {
-    if month == 2 {
-        if is_leap_year(year) {
-            return 29;
-        }
-        return 28;
+    match month {
+        2 if is_leap_year(year) => 29,
+        2 => 28,
+        4 | 6 | 9 | 11 => 30,
+        _ => 31,
     }
-    if month == 4 {
-        return 30;
-    }
-    if month == 6 {
-        return 30;
-    }
-    if month == 9 {
-        return 30;
-    }
-    if month == 11 {
-        return 30;
-    }
-    31
 }
 
 // A field lies within its bounds, or is 0 where it is finer than the precision.
+#[tactic(auto, unfolding(crate::specs::Timestamp::field_well))]
 fn is_field(reached: bool, lo: u16, hi: u16, n: u16) -> bool
     ensures { result ≡ field_well reached lo hi n }
 {
-    if reached {
-        if lo <= n {
-            return n <= hi;
-        }
-        return false;
-    }
-    n == 0
+    if reached { lo <= n && n <= hi } else { n == 0 }
 }
 
+#[tactic(auto, unfolding(crate::specs::Timestamp::date_well))]
 fn is_date(precision: u8, year: u16, month: u8, day: u8) -> bool
     ensures { result ≡ date_well precision year month day }
 {
-    if 4 < precision {
-        return false;
-    }
-    if is_field(true, 1, 9999, year) {
-        if is_field(1 <= precision, 1, 12, month as u16) {
-            let days = days_in_month(year, month);
-            return is_field(2 <= precision, 1, days as u16, day as u16);
-        }
-    }
-    false
+    precision <= 4
+        && is_field(true, 1, 9999, year)
+        && is_field(1 <= precision, 1, 12, month as u16)
+        && is_field(
+            2 <= precision,
+            1,
+            days_in_month(year, month) as u16,
+            day as u16,
+        )
 }
 
+#[tactic(auto, unfolding(crate::specs::Timestamp::time_well))]
 fn is_time(precision: u8, hour: u8, minute: u8, second: u8) -> bool
     ensures { result ≡ time_well precision hour minute second }
 {
-    if is_field(3 <= precision, 0, 23, hour as u16) {
-        if is_field(3 <= precision, 0, 59, minute as u16) {
-            return is_field(4 <= precision, 0, 59, second as u16);
-        }
-    }
-    false
+    is_field(3 <= precision, 0, 23, hour as u16)
+        && is_field(3 <= precision, 0, 59, minute as u16)
+        && is_field(4 <= precision, 0, 59, second as u16)
 }
 
+#[tactic(auto, unfolding(crate::specs::Timestamp::offset_well))]
 fn is_offset(precision: u8, offset: i16) -> bool
     ensures { result ≡ offset_well precision offset }
 {
-    let m = unsigned_abs(offset);
-    if is_negative(offset) {
-        if 3 <= precision {
-            return m <= 1439;
-        }
-        return false;
-    }
-    if m == UNKNOWN {
-        return true;
-    }
-    if 3 <= precision {
-        return m <= 1439;
-    }
-    false
+    offset == UNKNOWN || 3 <= precision && offset.unsigned_abs() <= 1439
 }
 
+#[tactic(auto, unfolding(crate::specs::Timestamp::fraction_well))]
 fn is_fraction(precision: u8, digits: u8, fraction: u32) -> bool
     ensures { result ≡ fraction_well precision digits fraction }
 {
     // what `pow10` asks for
-    if 9 < digits {
-        return false;
-    }
-    if is_field(4 <= precision, 0, 9, digits as u16) {
-        return (fraction as u64) < digits::pow10(digits as usize);
-    }
-    false
+    digits <= 9
+        && is_field(4 <= precision, 0, 9, digits as u16)
+        && (fraction as u64) < digits::pow10(digits as usize)
 }
 
 // The timestamp is one that a tape may hold.
+#[tactic(auto, unfolding(crate::specs::Timestamp::well_formed))]
 pub fn is_well_formed(t: Timestamp) -> bool
     ensures { result ≡ well_formed t }
 {
-    if is_date(t.precision, t.year, t.month, t.day) {
-        if is_time(t.precision, t.hour, t.minute, t.second) {
-            if is_offset(t.precision, t.offset) {
-                return is_fraction(t.precision, t.digits, t.fraction);
-            }
-        }
-    }
-    false
+    is_date(t.precision, t.year, t.month, t.day)
+        && is_time(t.precision, t.hour, t.minute, t.second)
+        && is_offset(t.precision, t.offset)
+        && is_fraction(t.precision, t.digits, t.fraction)
 }
 
 // ---- their text
 
 // Writes `YYYY-MM`.
 fn format_year_and_month(buf: &mut [u8], pos: usize, year: u16, month: u8) -> usize
-    requires { pos ≤ limit }
     ensures { Wrote buf.old buf.new pos result (year_and_month year month) }
 {
     let p = digits::put_padded(buf, pos, year as u64, 4);
@@ -190,19 +130,18 @@ fn date_here(buf: &mut [u8], pos: usize, d: u64)
     requires { pos + 10 ≤ length buf.old }
     ensures { buf.new ≡ sets buf.old pos (le_bytes 4 d ++ (byte "-" ∷ le_bytes 2 (d / 4294967296)) ++ (byte "-" ∷ le_bytes 2 (d / 281474976710656))) }
 {
-    output::store_4(buf, pos, d);
+    output::store::<4>(buf, pos, d);
     buf[pos + 4] = b'-';
-    output::store_2(buf, pos + 5, d / 4294967296);
+    output::store::<2>(buf, pos + 5, d / 4294967296);
     buf[pos + 7] = b'-';
-    output::store_2(buf, pos + 8, d / 281474976710656);
+    output::store::<2>(buf, pos + 8, d / 281474976710656);
 }
 
 // Writes `YYYY-MM-DD`.
 fn format_date(buf: &mut [u8], pos: usize, year: u16, month: u8, day: u8) -> usize
-    requires { pos ≤ limit }
     ensures { Wrote buf.old buf.new pos result (date year month day) }
 {
-    if pos + 10 <= buf.len() {
+    if pos < buf.len().saturating_sub(9) {
         date_here(
             buf,
             pos,
@@ -226,17 +165,16 @@ fn clock_here(buf: &mut [u8], pos: usize, hour: u16, minute: u16)
     ensures { buf.new ≡ sets buf.old pos (hour_and_minute hour minute) }
 {
     let w = digits::four_pairs(hour as u64 % 100, minute as u64 % 100, 0, 0);
-    output::store_2(buf, pos, w);
+    output::store::<2>(buf, pos, w);
     buf[pos + 2] = b':';
-    output::store_2(buf, pos + 3, w / 65536);
+    output::store::<2>(buf, pos + 3, w / 65536);
 }
 
 // Writes `hh:mm`.
 fn format_hour_and_minute(buf: &mut [u8], pos: usize, hour: u16, minute: u16) -> usize
-    requires { pos ≤ limit }
     ensures { Wrote buf.old buf.new pos result (hour_and_minute hour minute) }
 {
-    if pos + 5 <= buf.len() {
+    if pos < buf.len().saturating_sub(4) {
         clock_here(buf, pos, hour, minute);
         return pos + 5;
     }
@@ -247,7 +185,6 @@ fn format_hour_and_minute(buf: &mut [u8], pos: usize, hour: u16, minute: u16) ->
 
 // Writes `YYYY-MM-DDThh:mm`.
 fn format_date_hour_and_minute(buf: &mut [u8], pos: usize, t: Timestamp) -> usize
-    requires { pos ≤ limit }
     ensures { Wrote buf.old buf.new pos result (date_hour_and_minute t.year t.month t.day t.hour t.minute) }
 {
     let p = format_date(buf, pos, t.year, t.month, t.day);
@@ -256,30 +193,24 @@ fn format_date_hour_and_minute(buf: &mut [u8], pos: usize, t: Timestamp) -> usiz
 }
 
 fn format_fractional_seconds(buf: &mut [u8], pos: usize, digits: u8, fraction: u32) -> usize
-    requires { pos ≤ limit }
     ensures { Wrote buf.old buf.new pos result (fractional_seconds digits fraction) }
 {
     if digits == 0 {
-        return pos;
+        return output::bounded(pos);
     }
     let p = output::put(buf, pos, b'.');
     digits::put_padded(buf, p, fraction as u64, digits as usize)
 }
 
 fn format_offset(buf: &mut [u8], pos: usize, offset: i16) -> usize
-    requires { pos ≤ limit }
     ensures { Wrote buf.old buf.new pos result (offset_text offset) }
 {
-    let m = unsigned_abs(offset);
-    if is_negative(offset) {
-        let p = output::put(buf, pos, b'-');
-        return format_hour_and_minute(buf, p, m / 60, m % 60);
-    }
-    if m == UNKNOWN {
+    if offset == UNKNOWN {
         let n = output::put(buf, pos, b'-');
         return format_hour_and_minute(buf, n, 0, 0);
     }
-    let p = output::put(buf, pos, b'+');
+    let m = offset.unsigned_abs();
+    let p = output::put(buf, pos, if offset < 0 { b'-' } else { b'+' });
     format_hour_and_minute(buf, p, m / 60, m % 60)
 }
 
@@ -287,22 +218,19 @@ fn format_offset(buf: &mut [u8], pos: usize, offset: i16) -> usize
 fn is_short(t: Timestamp) -> bool
     ensures { result ≡ true → (t.year < 10000) × (t.month < 100) × (t.day < 100) × (t.hour < 100) × (t.minute < 100) × (t.second < 100) }
 {
-    if t.year < 10000 {
-        return (t.month | t.day | t.hour | t.minute | t.second) < 64;
-    }
-    false
+    t.year < 10000 && (t.month | t.day | t.hour | t.minute | t.second) < 64
 }
 
-// `hh:mm:ss` of the digits in c, for which there is room.
+// `hh:mm:ss` of the digits in c, for which there is room. Not one with `date_here`: places, widths and marks are all others.
 fn time_here(buf: &mut [u8], pos: usize, c: u64)
     requires { pos + 8 ≤ length buf.old }
     ensures { buf.new ≡ sets buf.old pos (le_bytes 2 c ++ (byte ":" ∷ le_bytes 2 (c / 65536)) ++ (byte ":" ∷ le_bytes 2 (c / 4294967296))) }
 {
-    output::store_2(buf, pos, c);
+    output::store::<2>(buf, pos, c);
     buf[pos + 2] = b':';
-    output::store_2(buf, pos + 3, c / 65536);
+    output::store::<2>(buf, pos + 3, c / 65536);
     buf[pos + 5] = b':';
-    output::store_2(buf, pos + 6, c / 4294967296);
+    output::store::<2>(buf, pos + 6, c / 4294967296);
 }
 
 // `YYYY-MM-DDThh:mm:ss`, for which there is room.
@@ -324,14 +252,11 @@ fn second_here(buf: &mut [u8], pos: usize, t: Timestamp)
 
 // Writes `YYYY-MM-DDThh:mm:ss`.
 fn format_to_second(buf: &mut [u8], pos: usize, t: Timestamp) -> usize
-    requires { pos ≤ limit }
     ensures { Wrote buf.old buf.new pos result (to_second t) }
 {
-    if is_short(t) {
-        if pos + 18 < buf.len() {
-            second_here(buf, pos, t);
-            return pos + 19;
-        }
+    if is_short(t) && pos < buf.len().saturating_sub(18) {
+        second_here(buf, pos, t);
+        return pos + 19;
     }
     let p = format_date_hour_and_minute(buf, pos, t);
     let q = output::put(buf, p, b':');
@@ -340,120 +265,81 @@ fn format_to_second(buf: &mut [u8], pos: usize, t: Timestamp) -> usize
 
 // Writes a timestamp.
 pub fn format(buf: &mut [u8], pos: usize, t: Timestamp) -> usize
-    requires { pos ≤ limit }
     ensures { Wrote buf.old buf.new pos result (timestamp_text t) }
 {
-    if t.precision == 0 {
-        let p = digits::put_padded(buf, pos, t.year as u64, 4);
-        return output::put(buf, p, b'T');
+    match t.precision {
+        0 => {
+            let p = digits::put_padded(buf, pos, t.year as u64, 4);
+            output::put(buf, p, b'T')
+        }
+        1 => {
+            let p = format_year_and_month(buf, pos, t.year, t.month);
+            output::put(buf, p, b'T')
+        }
+        2 => {
+            let p = format_date(buf, pos, t.year, t.month, t.day);
+            output::put(buf, p, b'T')
+        }
+        3 => {
+            let p = format_date_hour_and_minute(buf, pos, t);
+            format_offset(buf, p, t.offset)
+        }
+        _ => {
+            let s = format_to_second(buf, pos, t);
+            let e = format_fractional_seconds(buf, s, t.digits, t.fraction);
+            format_offset(buf, e, t.offset)
+        }
     }
-    if t.precision == 1 {
-        let p = format_year_and_month(buf, pos, t.year, t.month);
-        return output::put(buf, p, b'T');
-    }
-    if t.precision == 2 {
-        let p = format_date(buf, pos, t.year, t.month, t.day);
-        return output::put(buf, p, b'T');
-    }
-    if t.precision == 3 {
-        let p = format_date_hour_and_minute(buf, pos, t);
-        return format_offset(buf, p, t.offset);
-    }
-    let s = format_to_second(buf, pos, t);
-    let e = format_fractional_seconds(buf, s, t.digits, t.fraction);
-    format_offset(buf, e, t.offset)
 }
 
 // ---- reading
 
-// A timestamp and the place behind it.
-#[derive(Clone, Copy)]
-pub enum TimestampRead {
-    Is(Timestamp, usize),
-    Bad,
-}
-
-// A number and the place behind it.
-#[derive(Clone, Copy)]
-enum Number {
-    Is(u64, usize),
-    Bad,
-}
-
-// `hh:mm` and the place behind it.
-#[derive(Clone, Copy)]
-enum Clock {
-    Is(u8, u8, usize),
-    Bad,
-}
-
+#[tactic(auto, unfolding(crate::specs::TimestampRead::starts_digit))]
 fn stands_digit(text: &[u8], at: usize) -> bool
     requires { at ≤ length text.now }
     ensures { result ≡ starts_digit (drop at text.now) }
 {
-    if at == text.len() {
-        return false;
-    }
-    digits::is_digit(text[at])
+    at < text.len() && digits::is_digit(text[at])
 }
 
 // Exactly w digits.
-fn fixed_at(text: &[u8], at: usize, w: usize) -> Number
+fn fixed_at(text: &[u8], at: usize, w: usize) -> Option<(u64, usize)>
     requires { (at ≤ length text.now) × (w ≤ 9) }
-    ensures { Reads text.now (at + w) (fixed w (drop at text.now)) (number_read result) }
+    ensures { Reads text.now (at + w) (fixed w (drop at text.now)) (found result) }
 {
-    let mut n: u64 = 0;
-    let mut j: usize = 0;
-    while j < w {
-        let i = at + j;
-        if i == text.len() {
-            return Number::Bad;
+    let mut n = 0;
+    for i in at..at + w {
+        if !stands_digit(text, i) {
+            return None;
         }
-        let b = text[i];
-        if b < 48 {
-            return Number::Bad;
-        }
-        if 57 < b {
-            return Number::Bad;
-        }
-        n = n * 10 + (b - 48) as u64;
-        j += 1;
+        n = n * 10 + (text[i] - 48) as u64;
     }
-    Number::Is(n, at + j)
+    Some((n, at + w))
 }
 
 // `hh:mm`
-fn clock_at(text: &[u8], at: usize) -> Clock
+fn clock_at(text: &[u8], at: usize) -> Option<(u8, u8, usize)>
     requires { at ≤ length text.now }
     ensures { Reads text.now at (clock (drop at text.now)) (clock_read result) }
 {
-    let Number::Is(h, a) = fixed_at(text, at, 2) else {
-        return Clock::Bad;
-    };
+    let (h, a) = fixed_at(text, at, 2)?;
     if stands(text, a, b':') {
-        let Number::Is(m, e) = fixed_at(text, a + 1, 2) else {
-            return Clock::Bad;
-        };
-        return Clock::Is(h as u8, m as u8, e);
+        let (m, e) = fixed_at(text, a + 1, 2)?;
+        return Some((h as u8, m as u8, e));
     }
-    Clock::Bad
+    None
 }
 
 // `hh:mm` of an offset, in minutes.
-fn minutes_at(text: &[u8], at: usize) -> Number
+fn minutes_at(text: &[u8], at: usize) -> Option<(u64, usize)>
     requires { at ≤ length text.now }
-    ensures { Reads text.now at (minutes (drop at text.now)) (number_read result) }
+    ensures { Reads text.now at (minutes (drop at text.now)) (found result) }
 {
-    let Clock::Is(h, m, e) = clock_at(text, at) else {
-        return Number::Bad;
-    };
-    if 23 < h {
-        return Number::Bad;
+    let (h, m, e) = clock_at(text, at)?;
+    if 23 < h || 59 < m {
+        return None;
     }
-    if 59 < m {
-        return Number::Bad;
-    }
-    Number::Is(h as u64 * 60 + m as u64, e)
+    Some((h as u64 * 60 + m as u64, e))
 }
 
 // The offset east of Greenwich.
@@ -469,41 +355,27 @@ fn west_of(m: u64) -> i16
     requires { m < 1440 }
     ensures { result ≡ west m }
 {
-    if m == 0 {
-        return 32767;
-    }
-    !((m - 1) as i16)
+    if m == 0 { UNKNOWN } else { -(m as i16) }
 }
 
 fn with_offset(t: Timestamp, offset: i16) -> Timestamp
     ensures { result ≡ zoned t offset }
 {
-    Timestamp {
-        precision: t.precision,
-        year: t.year,
-        month: t.month,
-        day: t.day,
-        hour: t.hour,
-        minute: t.minute,
-        second: t.second,
-        offset: offset,
-        digits: t.digits,
-        fraction: t.fraction,
-    }
+    Timestamp { offset, ..t }
 }
 
 fn with_date(precision: u8, year: u16, month: u8, day: u8) -> Timestamp
     ensures { result ≡ dated precision year month day }
 {
     Timestamp {
-        precision: precision,
-        year: year,
-        month: month,
-        day: day,
+        precision,
+        year,
+        month,
+        day,
         hour: 0,
         minute: 0,
         second: 0,
-        offset: 32767,
+        offset: UNKNOWN,
         digits: 0,
         fraction: 0,
     }
@@ -521,78 +393,71 @@ fn with_time(
     ensures { result ≡ timed precision t hour minute second digits fraction }
 {
     Timestamp {
-        precision: precision,
-        year: t.year,
-        month: t.month,
-        day: t.day,
-        hour: hour,
-        minute: minute,
-        second: second,
-        offset: t.offset,
-        digits: digits,
-        fraction: fraction,
+        precision,
+        hour,
+        minute,
+        second,
+        digits,
+        fraction,
+        ..t
     }
 }
 
 // What was read, if it is well formed.
-fn checked_at(t: Timestamp, end: usize) -> TimestampRead
-    ensures { (text : List ℕ) → end ≤ length text → Reads text end (checked t (drop end text)) (timestamp_read result) }
+fn checked_at(t: Timestamp, end: usize) -> Option<(Timestamp, usize)>
+    ensures { (text : List ℕ) → end ≤ length text → Reads text end (checked t (drop end text)) (found result) }
 {
     if is_well_formed(t) {
-        return TimestampRead::Is(t, end);
+        return Some((t, end));
     }
-    TimestampRead::Bad
+    None
 }
 
 // The offset, the last part.
-fn offset_at(text: &[u8], at: usize, t: Timestamp) -> TimestampRead
+fn offset_at(text: &[u8], at: usize, t: Timestamp) -> Option<(Timestamp, usize)>
     requires { at ≤ length text.now }
-    ensures { Reads text.now at (offset_of t (drop at text.now)) (timestamp_read result) }
+    ensures { Reads text.now at (offset_of t (drop at text.now)) (found result) }
 {
     if stands(text, at, b'Z') {
         return checked_at(with_offset(t, 0), at + 1);
     }
     if stands(text, at, b'+') {
-        let Number::Is(m, e) = minutes_at(text, at + 1) else {
-            return TimestampRead::Bad;
-        };
+        let (m, e) = minutes_at(text, at + 1)?;
         return checked_at(with_offset(t, east_of(m)), e);
     }
     if stands(text, at, b'-') {
-        let Number::Is(m, e) = minutes_at(text, at + 1) else {
-            return TimestampRead::Bad;
-        };
+        let (m, e) = minutes_at(text, at + 1)?;
         return checked_at(with_offset(t, west_of(m)), e);
     }
-    TimestampRead::Bad
+    None
 }
 
 // Behind the point: digits, and the offset.
-fn fraction_at(text: &[u8], at: usize, t: Timestamp, h: u8, m: u8, s: u8) -> TimestampRead
+fn fraction_at(
+    text: &[u8],
+    at: usize,
+    t: Timestamp,
+    h: u8,
+    m: u8,
+    s: u8,
+) -> Option<(Timestamp, usize)>
     requires { at ≤ length text.now }
-    ensures { Reads text.now at (fraction_of t h m s (run (drop at text.now)) (behind_digits (drop at text.now))) (timestamp_read result) }
+    ensures { Reads text.now at (fraction_of t h m s (run (drop at text.now)) (behind_digits (drop at text.now))) (found result) }
 {
-    let Joined::Digits(f, e) = digits::digits_at(text, at, 0) else {
-        return TimestampRead::Bad;
-    };
+    let (f, e) = digits::digits_at(text, at, 0)?;
     let k = e - at;
-    if k == 0 {
-        return TimestampRead::Bad;
-    }
-    if 9 < k {
-        return TimestampRead::Bad;
+    if k == 0 || 9 < k {
+        return None;
     }
     offset_at(text, e, with_time(4, t, h, m, s, k as u8, f as u32))
 }
 
 // Behind `hh:mm:`.
-fn second_at(text: &[u8], at: usize, t: Timestamp, h: u8, m: u8) -> TimestampRead
+fn second_at(text: &[u8], at: usize, t: Timestamp, h: u8, m: u8) -> Option<(Timestamp, usize)>
     requires { at ≤ length text.now }
-    ensures { Reads text.now at (second_of t h m (drop at text.now)) (timestamp_read result) }
+    ensures { Reads text.now at (second_of t h m (drop at text.now)) (found result) }
 {
-    let Number::Is(s, a) = fixed_at(text, at, 2) else {
-        return TimestampRead::Bad;
-    };
+    let (s, a) = fixed_at(text, at, 2)?;
     if stands(text, a, b'.') {
         return fraction_at(text, a + 1, t, h, m, s as u8);
     }
@@ -600,13 +465,11 @@ fn second_at(text: &[u8], at: usize, t: Timestamp, h: u8, m: u8) -> TimestampRea
 }
 
 // The time of a day.
-fn time_at(text: &[u8], at: usize, t: Timestamp) -> TimestampRead
+fn time_at(text: &[u8], at: usize, t: Timestamp) -> Option<(Timestamp, usize)>
     requires { at ≤ length text.now }
-    ensures { Reads text.now at (time_of t (drop at text.now)) (timestamp_read result) }
+    ensures { Reads text.now at (time_of t (drop at text.now)) (found result) }
 {
-    let Clock::Is(h, m, a) = clock_at(text, at) else {
-        return TimestampRead::Bad;
-    };
+    let (h, m, a) = clock_at(text, at)?;
     if stands(text, a, b':') {
         return second_at(text, a + 1, t, h, m);
     }
@@ -614,13 +477,11 @@ fn time_at(text: &[u8], at: usize, t: Timestamp) -> TimestampRead
 }
 
 // Behind `YYYY-MM-`.
-fn behind_month(text: &[u8], at: usize, year: u16, month: u8) -> TimestampRead
+fn behind_month(text: &[u8], at: usize, year: u16, month: u8) -> Option<(Timestamp, usize)>
     requires { at ≤ length text.now }
-    ensures { Reads text.now at (behind_month year month (drop at text.now)) (timestamp_read result) }
+    ensures { Reads text.now at (behind_month year month (drop at text.now)) (found result) }
 {
-    let Number::Is(d, a) = fixed_at(text, at, 2) else {
-        return TimestampRead::Bad;
-    };
+    let (d, a) = fixed_at(text, at, 2)?;
     if stands(text, a, b'T') {
         let t = with_date(2, year, month, d as u8);
         let b = a + 1;
@@ -629,46 +490,35 @@ fn behind_month(text: &[u8], at: usize, year: u16, month: u8) -> TimestampRead
         }
         return checked_at(t, b);
     }
-    TimestampRead::Bad
+    None
 }
 
 // Behind `YYYY-`, whatever stands there.
-fn month_at(text: &[u8], at: usize, year: u16) -> TimestampRead
+fn month_at(text: &[u8], at: usize, year: u16) -> Option<(Timestamp, usize)>
     requires { at ≤ length text.now }
-    ensures { Reads text.now at (behind_year year (drop at text.now)) (timestamp_read result) }
+    ensures { Reads text.now at (behind_year year (drop at text.now)) (found result) }
 {
-    let Number::Is(m, a) = fixed_at(text, at, 2) else {
-        return TimestampRead::Bad;
-    };
+    let (m, a) = fixed_at(text, at, 2)?;
     if stands(text, a, b'T') {
         return checked_at(with_date(1, year, m as u8, 0), a + 1);
     }
     if stands(text, a, b'-') {
         return behind_month(text, a + 1, year, m as u8);
     }
-    TimestampRead::Bad
+    None
 }
 
-// The number of two digits, 100 where there are none.
-fn pair_at(text: &[u8], at: usize) -> u8
+// Two digits, for which there is room.
+fn pair_at(text: &[u8], at: usize) -> Option<u8>
     requires { at + 2 ≤ length text.now }
-    ensures { result < 100 → fixed 2 (drop at text.now) ≡ some (result, drop (at + 2) text.now) }
+    ensures { IfSome result (λ n. fixed 2 (drop at text.now) ≡ some (n, drop (at + 2) text.now)) }
 {
     let a = text[at];
     let b = text[at + 1];
-    if a < 48 {
-        return 100;
+    if !digits::is_digit(a) || !digits::is_digit(b) {
+        return None;
     }
-    if 57 < a {
-        return 100;
-    }
-    if b < 48 {
-        return 100;
-    }
-    if 57 < b {
-        return 100;
-    }
-    (a - 48) * 10 + (b - 48)
+    Some((a - b'0') * 10 + (b - b'0'))
 }
 
 // True only where all marks of `MM-DDThh:mm:ssZ` stand at their places.
@@ -676,95 +526,73 @@ fn is_marked(text: &[u8], at: usize) -> bool
     requires { at + 15 ≤ length text.now }
     ensures { result ≡ true → Marked text.now at }
 {
-    if text[at + 14] != b'Z' {
-        return false;
-    }
-    if text[at + 2] != b'-' {
-        return false;
-    }
-    if text[at + 5] != b'T' {
-        return false;
-    }
-    if text[at + 8] != b':' {
-        return false;
-    }
-    text[at + 11] == b':'
+    text[at + 14] == b'Z'
+        && text[at + 2] == b'-'
+        && text[at + 5] == b'T'
+        && text[at + 8] == b':'
+        && text[at + 11] == b':'
 }
 
 // True only where the fields lie within their bounds. It says no of the days that not every month has.
 fn is_usual(year: u16, month: u8, day: u8, hour: u8, minute: u8, second: u8) -> bool
     ensures { result ≡ true → Usual year month day hour minute second }
 {
-    if year == 0 {
-        return false;
-    }
-    if 9999 < year {
-        return false;
-    }
-    if month == 0 {
-        return false;
-    }
-    if 12 < month {
-        return false;
-    }
-    if day == 0 {
-        return false;
-    }
-    if 28 < day {
-        return false;
-    }
-    if 23 < hour {
-        return false;
-    }
-    if 59 < minute {
-        return false;
-    }
-    second <= 59
+    1 <= year
+        && year <= 9999
+        && 1 <= month
+        && month <= 12
+        && 1 <= day
+        && day <= 28
+        && hour <= 23
+        && minute <= 59
+        && second <= 59
 }
 
-// Behind `YYYY-`. `MM-DDThh:mm:ssZ`, the most frequent, is read by itself.
-fn behind_year(text: &[u8], at: usize, year: u16) -> TimestampRead
+// Behind `YYYY-`: `MM-DDThh:mm:ssZ`, the most frequent, where no month or leap year is asked for.
+fn usual_at(text: &[u8], at: usize, year: u16) -> Option<Timestamp>
+    requires { at + 15 ≤ length text.now }
+    ensures { IfSome result (λ t. behind_year year (drop at text.now) ≡ some (t, drop (at + 15) text.now)) }
+{
+    if !is_marked(text, at) {
+        return None;
+    }
+    let month = pair_at(text, at)?;
+    let day = pair_at(text, at + 3)?;
+    let hour = pair_at(text, at + 6)?;
+    let minute = pair_at(text, at + 9)?;
+    let second = pair_at(text, at + 12)?;
+    if !is_usual(year, month, day, hour, minute, second) {
+        return None;
+    }
+    let date = with_date(2, year, month, day);
+    let time = with_time(4, date, hour, minute, second, 0, 0);
+    Some(with_offset(time, 0))
+}
+
+// Behind `YYYY-`.
+fn behind_year(text: &[u8], at: usize, year: u16) -> Option<(Timestamp, usize)>
     requires { at ≤ length text.now }
-    ensures { Reads text.now at (behind_year year (drop at text.now)) (timestamp_read result) }
+    ensures { Reads text.now at (behind_year year (drop at text.now)) (found result) }
 {
     if 14 < text.len() - at {
-        if is_marked(text, at) {
-            let month = pair_at(text, at);
-            let day = pair_at(text, at + 3);
-            let hour = pair_at(text, at + 6);
-            let minute = pair_at(text, at + 9);
-            let second = pair_at(text, at + 12);
-            let end = at + 15;
-            if is_usual(year, month, day, hour, minute, second) {
-                let t = with_time(
-                    4,
-                    with_date(2, year, month, day),
-                    hour,
-                    minute,
-                    second,
-                    0,
-                    0,
-                );
-                return TimestampRead::Is(with_offset(t, 0), end);
-            }
+        if let Some(t) = usual_at(text, at, year) {
+            return Some((t, at + 15));
         }
     }
     month_at(text, at, year)
 }
 
 // The timestamp that the text from a place on starts with.
-pub fn timestamp_at(text: &[u8], at: usize) -> TimestampRead
+pub fn timestamp_at(text: &[u8], at: usize) -> Option<(Timestamp, usize)>
     requires { at ≤ length text.now }
-    ensures { Reads text.now (suc at) (timestamp (drop at text.now)) (timestamp_read result) }
+    ensures { Reads text.now (suc at) (timestamp (drop at text.now)) (found result) }
 {
-    let Number::Is(y, a) = fixed_at(text, at, 4) else {
-        return TimestampRead::Bad;
-    };
+    let (y, a) = fixed_at(text, at, 4)?;
     if stands(text, a, b'T') {
         return checked_at(with_date(0, y as u16, 0, 0), a + 1);
     }
     if stands(text, a, b'-') {
         return behind_year(text, a + 1, y as u16);
     }
-    TimestampRead::Bad
+    None
 }

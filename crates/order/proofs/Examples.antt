@@ -1,4 +1,5 @@
 -- 02's words on the order (A11), case by case: most by computation. Assumes nothing.
+use Rattle.std.specs.Cmp.Lexicographic.{slice_cmp}
 use Prim.Native.Nat.{ℕ, ◌<◌}
 use mathlib.Core.Path.{◌≡◌, refl}
 use mathlib.Core.Bool.{true, false}
@@ -11,9 +12,9 @@ use Rattle.text_rules.specs.Text.{Sym}
 use Rattle.floats.specs.Value.{whole_of, up_to, magnitude, is_negative}
 use Rattle.tape.specs.Tree.{Scalar, Node, Nodes, null, bool, int, float, decimal, timestamp, string, clob, blob, scalar, nest, marker, nil, more}
 use Rattle.tape.specs.declared.Frame.TheVariants.{List as ListF, Struct}
-use Rattle.order.specs.declared.Order.{Order}
-use Rattle.order.specs.declared.Order.TheVariants.{Less, Equal, Greater}
-use Rattle.order.specs.Order.{numbers, lists, options, values, whole_value, key_of, scalars, syms, kind_of, headed, contents, nodes}
+use Rattle.std.specs.declared.cmp.Ordering.{Ordering}
+use Rattle.std.specs.declared.cmp.Ordering.TheVariants.{Less, Equal, Greater}
+use Rattle.order.specs.Order.{options, values, whole_value, key_of, scalars, syms, kind_of, headed, contents, nodes}
 use Rattle.order.proofs.Combine.{reflexive, less_is, greater_is, options_total}
 use Rattle.order.proofs.NodeOrder.{syms-total}
 
@@ -52,8 +53,8 @@ pub beginnings :
     × (nodes (row (whole 1 ∷ whole 2 ∷ [])) (row (whole 1 ∷ [])) ≡ Greater)
     × (contents (nest ListF (row (whole 1 ∷ []))) (nest ListF (row (whole 1 ∷ whole 2 ∷ []))) ≡ Less)
     × (contents (nest ListF (row (whole 1 ∷ whole 1 ∷ whole 1 ∷ []))) (nest ListF (row (whole 2 ∷ []))) ≡ Less)
-    × (lists syms (name (ascii "a") ∷ []) (name (ascii "a") ∷ name (ascii "b") ∷ []) ≡ Less)
-unfolding lists key_of values contents nodes
+    × (slice_cmp syms (name (ascii "a") ∷ []) (name (ascii "a") ∷ name (ascii "b") ∷ []) ≡ Less)
+unfolding key_of values contents nodes
 beginnings = (refl, refl, refl, refl, refl, refl, refl)
 
 -- nulls by type byte; false before true; ints by value; kinds by number
@@ -66,7 +67,7 @@ pub plain :
     × (scalars (clob []) (string (ascii "z")) ≡ Greater)
     × (scalars (blob []) (clob (ascii "z")) ≡ Greater)
     × (scalars (blob (ascii "a")) (blob (ascii "b")) ≡ Less)
-unfolding lists key_of values
+unfolding key_of values
 plain = (refl, refl, refl, refl, refl, refl, refl, refl)
 
 -- 1.00 before 1.0, for the smaller exponent; so for negative numbers; 2.0 behind both; -0 before 0, of one exponent; 0.0 before -0
@@ -78,7 +79,7 @@ pub decimal-cases :
     × (scalars (decimal true 0 (pos 0)) (decimal false 0 (pos 0)) ≡ Less)
     × (scalars (decimal false 0 (negsuc 0)) (decimal true 0 (pos 0)) ≡ Less)
     × (scalars (decimal false 18446744073709551615 (pos 0)) (decimal false 1 (pos 20)) ≡ Less)
-unfolding lists key_of values
+unfolding key_of values
 decimal-cases = (refl, refl, refl, refl, refl, refl, refl)
 
 -- -inf, finite by value with -0 before 0, +inf, nan
@@ -92,7 +93,7 @@ pub float-cases :
     × (scalars (float (fin false 1 (pos 53))) (float (inf false)) ≡ Less)
     × (scalars (float (inf false)) (float nan) ≡ Less)
     × (scalars (float nan) (float nan) ≡ Equal)
-unfolding lists key_of values whole_value magnitude whole_of up_to is_negative
+unfolding key_of values whole_value magnitude whole_of up_to is_negative
 float-cases = (refl, refl, refl, refl, refl, refl, refl, refl, refl)
 
 -- by precision first; then by year; by the offset as it is, unknown last
@@ -101,7 +102,7 @@ pub timestamp-cases :
     × (scalars (midnight 1999 (pos 60)) (midnight 2026 (negsuc 59)) ≡ Less)
     × (scalars (midnight 2026 (negsuc 59)) (midnight 2026 (pos 0)) ≡ Less)
     × (scalars (midnight 2026 (pos 1439)) (midnight 2026 (pos 32767)) ≡ Less)
-unfolding lists key_of values
+unfolding key_of values
 timestamp-cases = (refl, refl, refl, refl)
 
 -- texts before identifiers, those by number; a struct's name before its value
@@ -111,7 +112,7 @@ pub name-cases :
     × (contents (field (name (ascii "a")) 2) (field (name (ascii "b")) 1) ≡ Less)
     × (contents (field (name (ascii "z")) 2) (field (Sym.id 0) 1) ≡ Less)
     × (contents (field (name (ascii "a")) 2) (field (name (ascii "a")) 1) ≡ Greater)
-unfolding lists key_of values contents nodes
+unfolding key_of values contents nodes
 name-cases = (refl, refl, refl, refl, refl)
 
 -- Annotations, then the value; an annotated null stands behind a string and before a marker and a blob.
@@ -121,12 +122,12 @@ pub note-cases :
     × (nodes (noted (name (ascii "a")) (scalar (null 0))) (row (scalar (string (ascii "z")) ∷ [])) ≡ Greater)
     × (nodes (noted (name (ascii "a")) (scalar (null 0))) (row (marker ∷ [])) ≡ Less)
     × (nodes (noted (name (ascii "a")) (scalar (null 0))) (row (scalar (blob []) ∷ [])) ≡ Less)
-unfolding lists key_of values contents nodes
+unfolding key_of values contents nodes
 note-cases = (refl, refl, refl, refl, refl)
 
 -- And in general: behind one name or none, an annotated value stands behind every value without annotations that is of a kind below 13, and before
 -- every other: that is a blob or a marker.
-module _ (o : Option Sym) (s : Sym) (ss : List Sym) (n m : Node) (w : Order) where
+module _ (o : Option Sym) (s : Sym) (ss : List Sym) (n m : Node) (w : Ordering) where
   same_names : options syms o o ≡ Equal
   same_names = reflexive (options_total syms-total) o
 

@@ -1,5 +1,7 @@
 -- Floats by one number each, from their bits. Assumes nothing.
-use Prim.Native.Nat.{ℕ, zero, suc, ◌+◌, ◌-◌, ◌*◌, ◌/◌, ◌%◌, ◌<◌, ◌≤◌}
+use Rattle.std.specs.Ordering.{nat_cmp, ordering_then}
+use Rattle.std.specs.Cmp.Lexicographic.{slice_cmp}
+use Prim.Native.Nat.{ℕ, zero, suc, ◌+◌, ◌*◌, ◌/◌, ◌%◌, ◌<◌, ◌≤◌}
 use mathlib.Core.Path.{◌≡◌, refl, sym, ap, ◌∙◌}
 use mathlib.Core.List.{List, [], ◌∷◌}
 use mathlib.Core.Bool.{Bool, true, false, not}
@@ -13,9 +15,9 @@ use Rattle.floats.specs.Whole.{most_whole}
 use Rattle.floats.specs.Value.{whole_of, up_to, magnitude, is_negative}
 use Rattle.floats.proofs.ValueLaws.{nothing, magnitude_most}
 use Rattle.tape.specs.Tree.{bit}
-use Rattle.order.specs.declared.Order.{Order}
-use Rattle.order.specs.declared.Order.TheVariants.{Less, Equal, Greater}
-use Rattle.order.specs.Order.{then_by, numbers, integers, lists, signed_by, rank, or_zero, whole_value}
+use Rattle.std.specs.declared.cmp.Ordering.{Ordering}
+use Rattle.std.specs.declared.cmp.Ordering.TheVariants.{Less, Equal, Greater}
+use Rattle.order.specs.Order.{integers, signed_by, rank, or_zero, whole_value}
 use Rattle.order.specs.Steps.{by_sign, spread, float_number}
 use Rattle.order.proofs.Combine.{less_is, greater_is, equal_is, Told, below, equal, over, tell}
 use Rattle.order.proofs.Decimals.{by-sign}
@@ -27,37 +29,37 @@ abbrev keyed : ℕ → Bool → ℕ → List ℤ
 keyed r s n = pos r ∷ signed_by s n ∷ pos (bit (not s)) ∷ []
 
 module _ (n m : ℕ) (h : n ≤ most_whole) (k : m ≤ most_whole) where
-  both_positive : numbers n m ≡ numbers (spread 1 false n) (spread 1 false m)
+  both_positive : nat_cmp n m ≡ nat_cmp (spread 1 false n) (spread 1 false m)
   both_positive = go (tell n m)
     where
-      go : Told n m → numbers n m ≡ numbers (spread 1 false n) (spread 1 false m)
+      go : Told n m → nat_cmp n m ≡ nat_cmp (spread 1 false n) (spread 1 false m)
       go (below i) = less_is n m i ∙ sym (less_is (spread 1 false n) (spread 1 false m) (omega arith))
       go (equal i) = equal_is n m i ∙ sym (equal_is (spread 1 false n) (spread 1 false m) (omega arith))
       go (over i) = greater_is n m i ∙ sym (greater_is (spread 1 false n) (spread 1 false m) (omega arith))
 
-  both_negative : numbers m n ≡ numbers (spread 1 true n) (spread 1 true m)
+  both_negative : nat_cmp m n ≡ nat_cmp (spread 1 true n) (spread 1 true m)
   both_negative = go (tell m n)
     where
-      go : Told m n → numbers m n ≡ numbers (spread 1 true n) (spread 1 true m)
+      go : Told m n → nat_cmp m n ≡ nat_cmp (spread 1 true n) (spread 1 true m)
       go (below i) = less_is m n i ∙ sym (less_is (spread 1 true n) (spread 1 true m) (omega arith))
       go (equal i) = equal_is m n i ∙ sym (equal_is (spread 1 true n) (spread 1 true m) (omega arith))
       go (over i) = greater_is m n i ∙ sym (greater_is (spread 1 true n) (spread 1 true m) (omega arith))
 
   -- by value, then negative before positive
-  finite : (s t : Bool) → then_by (by_sign s t n m) (then_by (numbers (bit (not s)) (bit (not t))) Equal) ≡ numbers (spread 1 s n) (spread 1 t m)
-  finite false false = sym (then_equal (numbers n m)) ∙ both_positive
-  finite true true = sym (then_equal (numbers m n)) ∙ both_negative
+  finite : (s t : Bool) → ordering_then (by_sign s t n m) (ordering_then (nat_cmp (bit (not s)) (bit (not t))) Equal) ≡ nat_cmp (spread 1 s n) (spread 1 t m)
+  finite false false = sym (then_equal (nat_cmp n m)) ∙ both_positive
+  finite true true = sym (then_equal (nat_cmp m n)) ∙ both_negative
   finite false true = go (tell (n + m) 0)
     where
-      go : Told (n + m) 0 → then_by (numbers (n + m) 0) Greater ≡ numbers (spread 1 false n) (spread 1 true m)
+      go : Told (n + m) 0 → ordering_then (nat_cmp (n + m) 0) Greater ≡ nat_cmp (spread 1 false n) (spread 1 true m)
       go (below i) = absurd (omega arith)
-      go (equal i) = ap (λ (w : Order). then_by w Greater) (equal_is (n + m) 0 i) ∙ sym (greater_is (spread 1 false n) (spread 1 true m) (omega arith))
-      go (over i) = ap (λ (w : Order). then_by w Greater) (greater_is (n + m) 0 i) ∙ sym (greater_is (spread 1 false n) (spread 1 true m) (omega arith))
+      go (equal i) = ap (λ (w : Ordering). ordering_then w Greater) (equal_is (n + m) 0 i) ∙ sym (greater_is (spread 1 false n) (spread 1 true m) (omega arith))
+      go (over i) = ap (λ (w : Ordering). ordering_then w Greater) (greater_is (n + m) 0 i) ∙ sym (greater_is (spread 1 false n) (spread 1 true m) (omega arith))
   finite true false = go (tell 0 (n + m))
     where
-      go : Told 0 (n + m) → then_by (numbers 0 (n + m)) Less ≡ numbers (spread 1 true n) (spread 1 false m)
-      go (below i) = ap (λ (w : Order). then_by w Less) (less_is 0 (n + m) i) ∙ sym (less_is (spread 1 true n) (spread 1 false m) (omega arith))
-      go (equal i) = ap (λ (w : Order). then_by w Less) (equal_is 0 (n + m) i) ∙ sym (less_is (spread 1 true n) (spread 1 false m) (omega arith))
+      go : Told 0 (n + m) → ordering_then (nat_cmp 0 (n + m)) Less ≡ nat_cmp (spread 1 true n) (spread 1 false m)
+      go (below i) = ap (λ (w : Ordering). ordering_then w Less) (less_is 0 (n + m) i) ∙ sym (less_is (spread 1 true n) (spread 1 false m) (omega arith))
+      go (equal i) = ap (λ (w : Ordering). ordering_then w Less) (equal_is 0 (n + m) i) ∙ sym (less_is (spread 1 true n) (spread 1 false m) (omega arith))
       go (over i) = absurd (omega arith)
 
 or_most : (x : Float) → or_zero (magnitude x) ≤ most_whole
@@ -81,8 +83,7 @@ seen (inf true) = unfold magnitude whole_of up_to in lowest
 seen (inf false) = unfold magnitude whole_of up_to in highest
 seen (fin s m e) = number s (or_zero (magnitude (fin s m e))) (or_most (fin s m e))
 
-seen_order : {r q : ℕ} {s t : Bool} {n m : ℕ} → Seen r s n → Seen q t m → lists integers (keyed r s n) (keyed q t m) ≡ numbers (spread r s n) (spread q t m)
-unfolding lists
+seen_order : {r q : ℕ} {s t : Bool} {n m : ℕ} → Seen r s n → Seen q t m → slice_cmp integers (keyed r s n) (keyed q t m) ≡ nat_cmp (spread r s n) (spread q t m)
 seen_order lowest lowest = refl
 seen_order lowest (number t m k) = sym (less_is 0 (spread 1 t m) (above t))
   where
@@ -96,7 +97,7 @@ seen_order (number s n h) lowest = sym (greater_is (spread 1 s n) 0 (above s))
     above : (s : Bool) → 0 < spread 1 s n
     above true = omega arith
     above false = omega arith
-seen_order (number s n h) (number t m k) = ap (λ (w : Order). then_by w (then_by (numbers (bit (not s)) (bit (not t))) Equal)) (by-sign s t n m) ∙ finite n m h k s t
+seen_order (number s n h) (number t m k) = ap (λ (w : Ordering). ordering_then w (ordering_then (nat_cmp (bit (not s)) (bit (not t))) Equal)) (by-sign s t n m) ∙ finite n m h k s t
 seen_order (number s n h) highest = sym (less_is (spread 1 s n) (3 + 2 * most_whole) (under s))
   where
     under : (s : Bool) → spread 1 s n < 3 + 2 * most_whole
@@ -125,7 +126,7 @@ seen_order no_number highest = refl
 seen_order no_number no_number = refl
 
 -- THE LAW: the numbers stand as what floats are compared by
-pub floats_by : (x y : Float) → lists integers (pos (rank x) ∷ whole_value x ∷ pos (bit (not (is_negative x))) ∷ []) (pos (rank y) ∷ whole_value y ∷ pos (bit (not (is_negative y))) ∷ []) ≡ numbers (float_number x) (float_number y)
+pub floats_by : (x y : Float) → slice_cmp integers (pos (rank x) ∷ whole_value x ∷ pos (bit (not (is_negative x))) ∷ []) (pos (rank y) ∷ whole_value y ∷ pos (bit (not (is_negative y))) ∷ []) ≡ nat_cmp (float_number x) (float_number y)
 unfolding whole_value float_number
 floats_by x y = seen_order (seen x) (seen y)
 

@@ -1,5 +1,7 @@
 -- Names, annotations and heads at a place. Assumes nothing.
-use Prim.Native.Nat.{ℕ, zero, suc, ◌+◌, ◌-◌, ◌<◌, ◌≤◌}
+use Rattle.std.specs.Ordering.{nat_cmp, ordering_then}
+use Rattle.std.specs.Cmp.Lexicographic.{slice_cmp}
+use Prim.Native.Nat.{ℕ, zero, suc, ◌+◌, ◌-◌, ◌<◌, ◌≤◌, min}
 use mathlib.Core.Path.{◌≡◌, refl, sym, ap, ◌∙◌}
 use mathlib.Core.List.{List, [], ◌∷◌}
 use mathlib.Core.Bool.{Bool, true, false}
@@ -9,7 +11,6 @@ use native.Mathlib.Decide.{dec_le}
 use borrow.Author.Tests.{eqb-true, eqb-false}
 use lib.Dec.{eqb}
 use lib.ListN.{length, get_or, drop}
-use Rattle.output.specs.Logic.{if}
 use Rattle.text_rules.specs.Text.{Sym}
 use Rattle.tape.specs.Bytes.{part}
 use Rattle.tape.specs.Tree.{Scalar, Head, symbol, null, encode_scalar}
@@ -20,8 +21,9 @@ use Rattle.tape.specs.declared.Frame.TheVariants.{Top, List as ListF, Sexp, Stru
 use Rattle.tape.proofs.Parts.{part-drop, part-first, part_byte, part_length}
 use Rattle.tape.proofs.Reading.{Long, long, sym_long, scalar_sound}
 use Rattle.tape.proofs.CodeReading.{sym_none, scalar-symbol, place-within, notes-none, notes_few, notes-many, notes-some, notes_short}
-use Rattle.order.specs.declared.Order.TheVariants.{Less, Equal, Greater}
-use Rattle.order.specs.Order.{then_by, lists, options, scalars, syms}
+use Rattle.std.specs.declared.cmp.Ordering.TheVariants.{Less, Equal, Greater}
+use Rattle.order.specs.Order.{options, scalars, syms}
+use Rattle.order.proofs.Combine.{Told, below, equal, over, tell, less_is, equal_is, greater_is}
 use Rattle.order.specs.Steps.{scalar_in, Leaf, name_in, syms_in, notes_in, notes_count, notes_start, Symbols, Notes, Named, Headed}
 
 -- the same was read
@@ -138,16 +140,13 @@ symbols_none c l e = (ap (λ (i : ℕ). syms_in i l) e, ap (λ (i : ℕ). size_t
 
 -- two lists of symbols
 module _ (c d : ℕ) (s t : List ℕ) (x e y f : ℕ) (g : Symbols c s x e) (h : Symbols d t y f) where
-  pub syms_longer : 0 < c → d ≡ 0 → lists syms (syms_in c (part s x e)) (syms_in d (part t y f)) ≡ Greater
-  unfolding lists
+  pub syms_longer : 0 < c → d ≡ 0 → slice_cmp syms (syms_in c (part s x e)) (syms_in d (part t y f)) ≡ Greater
   syms_longer p q = rw ((symbols_turn c s x e g p).all, (symbols_none d (part t y f) q).0)
 
-  pub syms_shorter : c ≡ 0 → 0 < d → lists syms (syms_in c (part s x e)) (syms_in d (part t y f)) ≡ Less
-  unfolding lists
+  pub syms_shorter : c ≡ 0 → 0 < d → slice_cmp syms (syms_in c (part s x e)) (syms_in d (part t y f)) ≡ Less
   syms_shorter p q = rw ((symbols_none c (part s x e) p).0, (symbols_turn d t y f h q).all)
 
-  pub syms-same : c ≡ 0 → d ≡ 0 → lists syms (syms_in c (part s x e)) (syms_in d (part t y f)) ≡ Equal
-  unfolding lists
+  pub syms-same : c ≡ 0 → d ≡ 0 → slice_cmp syms (syms_in c (part s x e)) (syms_in d (part t y f)) ≡ Equal
   syms-same p q = rw ((symbols_none c (part s x e) p).0, (symbols_none d (part t y f) q).0)
 
   abbrev x' : ℕ
@@ -157,12 +156,21 @@ module _ (c d : ℕ) (s t : List ℕ) (x e y f : ℕ) (g : Symbols c s x e) (h :
   y' = y + size_taken (scalar_of (part t y f))
 
   pub syms-both : 0 < c → 0 < d
-      → lists syms (syms_in c (part s x e)) (syms_in d (part t y f)) ≡ then_by (scalars (scalar_in (part s x e)) (scalar_in (part t y f))) (lists syms (syms_in (c - 1) (part s x' e)) (syms_in (d - 1) (part t y' f)))
-  unfolding lists
+      → slice_cmp syms (syms_in c (part s x e)) (syms_in d (part t y f)) ≡ ordering_then (scalars (scalar_in (part s x e)) (scalar_in (part t y f))) (slice_cmp syms (syms_in (c - 1) (part s x' e)) (syms_in (d - 1) (part t y' f)))
   syms-both p q =
       let u = symbols_turn c s x e g p in
       let v = symbols_turn d t y f h q in
       rw (u.all, v.all, u.is, v.is) refl
+
+-- at the end of the lesser list the numbers of symbols decide
+pub syms_counted : (m n k : ℕ) (s t : List ℕ) (x e y f : ℕ) → Symbols (m - k) s x e → Symbols (n - k) t y f → k ≡ min m n
+    → slice_cmp syms (syms_in (m - k) (part s x e)) (syms_in (n - k) (part t y f)) ≡ nat_cmp m n
+syms_counted m n k s t x e y f g h a = go (tell m n)
+  where
+    go : Told m n → slice_cmp syms (syms_in (m - k) (part s x e)) (syms_in (n - k) (part t y f)) ≡ nat_cmp m n
+    go (below l) = syms_shorter (m - k) (n - k) s t x e y f g h (omega arith) (omega arith) ∙ sym (less_is m n l)
+    go (equal l) = syms-same (m - k) (n - k) s t x e y f g h (omega arith) (omega arith) ∙ sym (equal_is m n l)
+    go (over l) = syms_longer (m - k) (n - k) s t x e y f g h (omega arith) (omega arith) ∙ sym (greater_is m n l)
 
 -- ---- names
 
@@ -311,14 +319,9 @@ head_parts k s at e g = first (name_of k (part s at e)) refl g.read
     first (some (a, n)) q r = second a n q (notes_of (drop n l)) refl r
 
 -- no names elsewhere
-pub nameless_top : (l : List ℕ) → name_of Top l ≡ some (none, 0)
+pub nameless : (k : Frame) (l : List ℕ) → (k ≡ Struct → ⊥) → name_of k l ≡ some (none, 0)
 unfolding name_of
-nameless_top l = refl
-
-pub nameless_list : (l : List ℕ) → name_of ListF l ≡ some (none, 0)
-unfolding name_of
-nameless_list l = refl
-
-pub nameless_sexp : (l : List ℕ) → name_of Sexp l ≡ some (none, 0)
-unfolding name_of
-nameless_sexp l = refl
+nameless Top l n = refl
+nameless ListF l n = refl
+nameless Sexp l n = refl
+nameless Struct l n = absurd (n refl)

@@ -1,4 +1,6 @@
 -- What stands at a place where a scalar stands, by its kind byte and the bytes behind it. Assumes nothing.
+use Rattle.std.specs.Ordering.{nat_cmp, ordering_then, is_ne}
+use Rattle.std.specs.Cmp.Lexicographic.{slice_cmp}
 use Prim.Native.Nat.{ℕ, ◌+◌, ◌-◌, ◌%◌, ◌<◌, ◌≤◌}
 use mathlib.Core.Path.{◌≡◌, refl, sym, ap, ◌∙◌}
 use mathlib.Core.List.{List, [], ◌∷◌}
@@ -18,48 +20,42 @@ use Rattle.numbers.specs.declared.timestamp.Timestamp.{Timestamp}
 use Rattle.tape.specs.Bytes.{part, le_number, signed}
 use Rattle.tape.specs.Tree.{Scalar, null, bool, int, float, timestamp, symbol, string, clob, blob, bit}
 use Rattle.tape.specs.Tape.{reading, kind, length_of, float_as, decimal_of, timestamp_as, symbol_of, sized_of, scalar_of}
-use Rattle.tape.specs.declared.Place.TheVariants.{Bad as Nowhere, At}
+use Rattle.std.specs.Prelude.{Some, None}
 use Rattle.tape.proofs.Parts.{part_length, part-first, part_byte, part-number, part-inner}
 use Rattle.tape.proofs.CodeReading.{byte_short, byte_over, byte_some, int_short, int_some, float_short, float-some, decimal_short, decimal_over, decimal_some, timestamp_short, timestamp-some, timestamp-part, length_over, length_some, text_by, sym-text, sym_id, sym_short, scalar-null, scalar-bool, scalar_int, scalar-float, scalar_decimal, scalar-timestamp, scalar-symbol, scalar-string, scalar-clob, scalar-blob, scalar-other, scalar-empty}
-use Rattle.order.specs.declared.Order.{Order}
-use Rattle.order.specs.declared.Order.TheVariants.{Less, Equal, Greater}
-use Rattle.order.specs.Order.{numbers, integers, lists, Decimal, decimals, rank, whole_value, fields_of, Key, by_numbers, by_bytes, by_decimal, key_of, keys, scalars}
+use Rattle.std.specs.declared.cmp.Ordering.{Ordering}
+use Rattle.std.specs.declared.cmp.Ordering.TheVariants.{Equal}
+use Rattle.order.specs.Order.{integers, Decimal, decimals, rank, whole_value, fields_of, Key, by_numbers, by_bytes, by_decimal, key_of, keys, scalars}
 use Rattle.tape.specs.Steps.{size_taken}
-use Rattle.order.specs.Steps.{code, scalar_in, Leaf, float_number, number_at, decimal_at, text_at}
-use Rattle.order.proofs.Combine.{equal_is, less_is, greater_is}
-use Rattle.order.proofs.CodeLaws.{then_equal}
+use Rattle.order.specs.Steps.{scalar_in, Leaf, float_number, number_at, decimal_at, text_at}
+use Rattle.order.proofs.Combine.{equal_is}
+use Rattle.order.proofs.CodeLaws.{then_equal, decided}
 use Rattle.order.proofs.FloatLaws.{floats_by}
 
 -- ---- keys of one kind
 
-same_kind : (k : ℕ) → numbers k k ≡ Equal
+same_kind : (k : ℕ) → nat_cmp k k ≡ Equal
 same_kind k = equal_is k k refl
 
 no_decimals : decimals (false, 0, pos 0) (false, 0, pos 0) ≡ Equal
 unfolding Rattle.order.specs.Order.values
 no_decimals = refl
 
-pub keys-numbers : (k : ℕ) (l m : List ℤ) → keys (by_numbers k l) (by_numbers k m) ≡ lists integers l m
-unfolding lists
-keys-numbers k l m = rw (same_kind k, no_decimals) (sym (then_equal (lists integers l m)))
+pub keys-numbers : (k : ℕ) (l m : List ℤ) → keys (by_numbers k l) (by_numbers k m) ≡ slice_cmp integers l m
+keys-numbers k l m = rw (same_kind k, no_decimals) (sym (then_equal (slice_cmp integers l m)))
 
-pub keys-bytes : (k : ℕ) (s t : List ℕ) → keys (by_bytes k s) (by_bytes k t) ≡ lists numbers s t
-unfolding lists
-keys-bytes k s t = rw (same_kind k, no_decimals) (sym (then_equal (lists numbers s t)))
+pub keys-bytes : (k : ℕ) (s t : List ℕ) → keys (by_bytes k s) (by_bytes k t) ≡ slice_cmp nat_cmp s t
+keys-bytes k s t = rw (same_kind k, no_decimals) (sym (then_equal (slice_cmp nat_cmp s t)))
 
 pub keys_decimal : (k : ℕ) (d f : Decimal) → keys (by_decimal k d) (by_decimal k f) ≡ decimals d f
-unfolding lists
 keys_decimal k d f = rw (same_kind k) refl
 
 pub keys_one : (k : ℕ) (x y : ℤ) → keys (by_numbers k (x ∷ [])) (by_numbers k (y ∷ [])) ≡ integers x y
-unfolding lists
 keys_one k x y = keys-numbers k (x ∷ []) (y ∷ []) ∙ sym (then_equal (integers x y))
 
-pub keys_less : (x y : Key) → x.0 < y.0 → keys x y ≡ Less
-keys_less x y h = rw (less_is x.0 y.0 h)
-
-pub keys_greater : (x y : Key) → y.0 < x.0 → keys x y ≡ Greater
-keys_greater x y h = rw (greater_is x.0 y.0 h)
+-- kinds that differ decide
+pub keys_kind : (x y : Key) (w : Ordering) → w ≡ nat_cmp x.0 y.0 → is_ne w ≡ true → w ≡ keys x y
+keys_kind x y = decided (nat_cmp x.0 y.0) (ordering_then (slice_cmp integers x.1 y.1) (ordering_then (slice_cmp nat_cmp x.2 y.2) (decimals x.3 y.3)))
 
 -- ---- floats by their bits
 
@@ -77,7 +73,7 @@ float_is b h = go (eqb b 0x7FF8_0000_0000_0000) (ltb 0x7FF0_0000_0000_0000 (b % 
     go false true p h = absurd (h refl)
     go false false p h = refl
 
-pub keys-float : (x y : Float) → keys (key_of (float x)) (key_of (float y)) ≡ numbers (float_number x) (float_number y)
+pub keys-float : (x y : Float) → keys (key_of (float x)) (key_of (float y)) ≡ nat_cmp (float_number x) (float_number y)
 unfolding key_of
 keys-float x y = keys-numbers 3 (pos (rank x) ∷ whole_value x ∷ pos (bit (not (is_negative x))) ∷ []) (pos (rank y) ∷ whole_value y ∷ pos (bit (not (is_negative y))) ∷ []) ∙ floats_by x y
 
@@ -255,15 +251,15 @@ module _ (s : List ℕ) (at e : ℕ) (g : Leaf s at e) where
       let c : kind l ≡ 6 = first_byte ∙ k in
       let t : scalar_of l ≡ symbol_of l = scalar-symbol l (omega arith) (omega arith) in
       let on : Option (Sym × ℕ) → Option (Scalar × ℕ) = λ o. reading o none (λ x m. some (symbol x, m)) in
-      let h = long (5 + length_of l) (λ h. t ∙ ap on (sym-text l Nowhere c (sym (length_over l h)))) in
-      text_key_from 6 (λ x. symbol (Sym.text x)) (λ x. refl) h (t ∙ ap on (sym-text l (At (length_of l)) c (sym (length_some l h))))
+      let h = long (5 + length_of l) (λ h. t ∙ ap on (sym-text l None c (sym (length_over l h)))) in
+      text_key_from 6 (λ x. symbol (Sym.text x)) (λ x. refl) h (t ∙ ap on (sym-text l (Some (length_of l)) c (sym (length_some l h))))
 
   sized_key : (k : ℕ) (f : List ℕ → Scalar) → ((x : List ℕ) → key_of (f x) ≡ by_bytes k x) → scalar_of l ≡ sized_of f l → KeyAt s at e (5 + number_at s at 4 1) (by_bytes k (text_at s at))
   unfolding sized_of
   sized_key k f z t =
       let on : Option (List ℕ × ℕ) → Option (Scalar × ℕ) = λ o. reading o none (λ x m. some (f x, m)) in
-      let h = long (5 + length_of l) (λ h. t ∙ ap on (text_by l Nowhere (sym (length_over l h)))) in
-      text_key_from k f z h (t ∙ ap on (text_by l (At (length_of l)) (sym (length_some l h))))
+      let h = long (5 + length_of l) (λ h. t ∙ ap on (text_by l None (sym (length_over l h)))) in
+      text_key_from k f z h (t ∙ ap on (text_by l (Some (length_of l)) (sym (length_some l h))))
 
   no_other : 9 < get_or s at 0 → (get_or s at 0 ≡ 15 → ⊥) → ⊥
   no_other h m = let f = first_byte in there (scalar-other l (omega arith) (λ e. omega arith) (λ e. omega arith) (λ e. m (sym f ∙ e)))
@@ -307,5 +303,5 @@ module _ (s : List ℕ) (at e : ℕ) (g : Leaf s at e) where
       go (is-other k m) = absurd (no_other k m)
 
 -- a comparison of two scalars by their keys
-pub keyed : {r : ℕ} (s t : Scalar) {x y : Key} (w : Order) → r ≡ code w → key_of s ≡ x → key_of t ≡ y → keys x y ≡ w → r ≡ code (scalars s t)
-keyed {r} s t {x} {y} w e p q h = e ∙ ap code (sym h) ∙ ap (λ (z : Key). code (keys z y)) (sym p) ∙ ap (λ (z : Key). code (keys (key_of s) z)) (sym q)
+pub keyed : {r : Ordering} (s t : Scalar) {x y : Key} (w : Ordering) → r ≡ w → key_of s ≡ x → key_of t ≡ y → keys x y ≡ w → r ≡ (scalars s t)
+keyed {r} s t {x} {y} w e p q h = e ∙ (sym h) ∙ ap (λ (z : Key). (keys z y)) (sym p) ∙ ap (λ (z : Key). (keys (key_of s) z)) (sym q)

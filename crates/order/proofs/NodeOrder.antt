@@ -1,4 +1,6 @@
 -- The order of scalars, nodes and tapes is total, and equal exactly for equal ones. Assumes nothing.
+use Rattle.std.specs.Ordering.{nat_cmp, ordering_reverse, ordering_then}
+use Rattle.std.specs.Cmp.Lexicographic.{slice_cmp}
 use mathlib.Core.Path.{◌≡◌, refl, sym, ap, ◌∙◌}
 use mathlib.Core.Bool.{Bool, true, false, not}
 use mathlib.Core.List.{List, [], ◌∷◌}
@@ -8,7 +10,6 @@ use lib.IntN.{ℤ, pos, nat_abs}
 use lib.ListN.{get_or}
 use lib.Dec.{eqb}
 use lib.Ieee.{Float, nan, inf, fin}
-use native.Mathlib.Omega.{arith}
 use Rattle.output.specs.Logic.{if}
 use Rattle.text_rules.specs.Text.{Sym}
 use Rattle.numbers.specs.declared.timestamp.Timestamp.{Timestamp}
@@ -21,11 +22,12 @@ use Rattle.floats.specs.Value.{magnitude, is_negative, whole_float}
 use Rattle.floats.proofs.ValueLaws.{is-whole, whole-magnitude}
 use Rattle.tape.proofs.Walking.{tape_back}
 use Rattle.tape.proofs.FineBack.{tape_fine}
-use Rattle.order.specs.declared.Order.{Order}
-use Rattle.order.specs.declared.Order.TheVariants.{Less, Equal, Greater}
-use Rattle.order.specs.Order.{then_by, numbers, integers, lists, options, Decimal, signed_by, decimals, rank, whole_value, Key, key_of, keys, scalars, syms, kind_of, kind_behind, headed, contents, nodes, tapes}
-use Rattle.order.specs.Total.{turned, Through, Total, Accepted}
-use Rattle.order.proofs.Combine.{Any, apart, then, of, then_swap, through_then, through_less, through_greater, less_through, greater_through, equal_means, numbers-total, integers-total, both_equal, All, all_any, lists_total, Maybe, options_total, reflexive, equal_exactly, antisymmetric, transitive}
+use Rattle.std.specs.declared.cmp.Ordering.{Ordering}
+use Rattle.std.specs.declared.cmp.Ordering.TheVariants.{Less, Equal, Greater}
+use Rattle.order.specs.Order.{integers, options, Decimal, signed_by, decimals, rank, whole_value, Key, key_of, keys, scalars, syms, kind_of, kind_behind, headed, contents, nodes, tapes}
+use Rattle.order.specs.Total.{Through, Total, Accepted}
+use Rattle.std.proofs.lemmas.Map.Lookups.{exact_unsigned}
+use Rattle.order.proofs.Combine.{Any, then, of, then_swap, through_then, through_less, through_greater, less_through, greater_through, numbers-total, integers-total, both_equal, All, all_any, lists_total, Maybe, options_total, reflexive, equal_exactly, antisymmetric, transitive}
 use Rattle.order.proofs.Decimals.{decimals-total}
 
 abbrev Never : {A : Type 0} → A → Type 0
@@ -44,42 +46,42 @@ bytes x = x.2
 abbrev number : Key → Decimal
 number x = x.3
 
-abbrev last : Key → Key → Order
-last x y = then_by (lists numbers (bytes x) (bytes y)) (decimals (number x) (number y))
+abbrev last : Key → Key → Ordering
+last x y = ordering_then (slice_cmp nat_cmp (bytes x) (bytes y)) (decimals (number x) (number y))
 
-abbrev rest : Key → Key → Order
-rest x y = then_by (lists integers (fields x) (fields y)) (last x y)
+abbrev rest : Key → Key → Ordering
+rest x y = ordering_then (slice_cmp integers (fields x) (fields y)) (last x y)
 
-by_kind : Total Never (λ x y. numbers (kind x) (kind y))
-by_kind = of numbers kind numbers-total (λ x y p. absurd p)
+by_kind : Total Never (λ x y. nat_cmp (kind x) (kind y))
+by_kind = of nat_cmp kind numbers-total (λ x y p. absurd p)
 
-by-fields : Total Never (λ x y. lists integers (fields x) (fields y))
-by-fields = of (lists integers) fields (lists_total integers-total) (λ x y p. absurd p)
+by-fields : Total Never (λ x y. slice_cmp integers (fields x) (fields y))
+by-fields = of (slice_cmp integers) fields (lists_total integers-total) (λ x y p. absurd p)
 
-by_bytes : Total Never (λ x y. lists numbers (bytes x) (bytes y))
-by_bytes = of (lists numbers) bytes (lists_total numbers-total) (λ x y p. absurd p)
+by_bytes : Total Never (λ x y. slice_cmp nat_cmp (bytes x) (bytes y))
+by_bytes = of (slice_cmp nat_cmp) bytes (lists_total numbers-total) (λ x y p. absurd p)
 
 by_number : Total Never (λ x y. decimals (number x) (number y))
 by_number = of decimals number decimals-total (λ x y p. absurd p)
 
 last-total : Total Never last
-last-total = then (λ x y. lists numbers (bytes x) (bytes y)) (λ x y. decimals (number x) (number y)) by_bytes by_number (λ x y p. absurd p)
+last-total = then (λ x y. slice_cmp nat_cmp (bytes x) (bytes y)) (λ x y. decimals (number x) (number y)) by_bytes by_number (λ x y p. absurd p)
 
 rest-total : Total Never rest
-rest-total = then (λ x y. lists integers (fields x) (fields y)) last by-fields last-total (λ x y p. absurd p)
+rest-total = then (λ x y. slice_cmp integers (fields x) (fields y)) last by-fields last-total (λ x y p. absurd p)
 
-keys-same : (x y : Key) → numbers (kind x) (kind y) ≡ Equal → rest x y ≡ Equal → x ≡ y
+keys-same : (x y : Key) → nat_cmp (kind x) (kind y) ≡ Equal → rest x y ≡ Equal → x ≡ y
 keys-same x y u v =
-    let b = both_equal (lists integers (fields x) (fields y)) (last x y) v in
-    let c = both_equal (lists numbers (bytes x) (bytes y)) (decimals (number x) (number y)) b.1 in
-    let k : x.0 ≡ y.0 = equal_means x.0 y.0 u in
+    let b = both_equal (slice_cmp integers (fields x) (fields y)) (last x y) v in
+    let c = both_equal (slice_cmp nat_cmp (bytes x) (bytes y)) (decimals (number x) (number y)) b.1 in
+    let k : x.0 ≡ y.0 = exact_unsigned x.0 y.0 u in
     let f : x.1 ≡ y.1 = (lists_total integers-total).same x.1 y.1 (all_any x.1) (all_any y.1) b.0 in
     let s : x.2 ≡ y.2 = (lists_total numbers-total).same x.2 y.2 (all_any x.2) (all_any y.2) c.0 in
     let d : x.3 ≡ y.3 = decimals-total.same x.3 y.3 tt tt c.1 in
     λ i. (k i, f i, s i, d i)
 
 pub keys-total : Total Any keys
-keys-total = then (λ x y. numbers (kind x) (kind y)) rest by_kind rest-total (λ x y p q. keys-same x y)
+keys-total = then (λ x y. nat_cmp (kind x) (kind y)) rest by_kind rest-total (λ x y p q. keys-same x y)
 
 -- ---- scalars: a key gives its scalar back
 
@@ -175,7 +177,7 @@ syms-total = of scalars symbol scalars-total (λ s t p q e. ap sym_in (scalars-t
 names_total : Total (Maybe syms-total) (options syms)
 names_total = options_total syms-total
 
-notes-total : Total (All FineSym) (lists syms)
+notes-total : Total (All FineSym) (slice_cmp syms)
 notes-total = lists_total syms-total
 
 all-syms : (ss : List Sym) → FineSyms ss → All FineSym ss
@@ -193,65 +195,65 @@ maybe_name Struct none h = absurd h
 maybe_name Struct (some s) h = h
 
 -- five comparisons, one behind another
-abbrev five : Order → Order → Order → Order → Order → Order
-five a b c d w = then_by a (then_by b (then_by c (then_by d w)))
+abbrev five : Ordering → Ordering → Ordering → Ordering → Ordering → Ordering
+five a b c d w = ordering_then a (ordering_then b (ordering_then c (ordering_then d w)))
 
-five_swap : (a a' b b' c c' d d' w w' : Order) → a' ≡ turned a → b' ≡ turned b → c' ≡ turned c → d' ≡ turned d → w' ≡ turned w
-    → five a' b' c' d' w' ≡ turned (five a b c d w)
+five_swap : (a a' b b' c c' d d' w w' : Ordering) → a' ≡ ordering_reverse a → b' ≡ ordering_reverse b → c' ≡ ordering_reverse c → d' ≡ ordering_reverse d → w' ≡ ordering_reverse w
+    → five a' b' c' d' w' ≡ ordering_reverse (five a b c d w)
 five_swap a a' b b' c c' d d' w w' p q r s t =
-    then_swap a a' (then_by b (then_by c (then_by d w))) (then_by b' (then_by c' (then_by d' w'))) p
-    (then_swap b b' (then_by c (then_by d w)) (then_by c' (then_by d' w')) q (then_swap c c' (then_by d w) (then_by d' w') r (then_swap d d' w w' s t)))
+    then_swap a a' (ordering_then b (ordering_then c (ordering_then d w))) (ordering_then b' (ordering_then c' (ordering_then d' w'))) p
+    (then_swap b b' (ordering_then c (ordering_then d w)) (ordering_then c' (ordering_then d' w')) q (then_swap c c' (ordering_then d w) (ordering_then d' w') r (then_swap d d' w w' s t)))
 
-five_through : (a a' a'' b b' b'' c c' c'' d d' d'' w w' w'' : Order) → Through a a' a'' → Through b b' b'' → Through c c' c'' → Through d d' d'' → Through w w' w''
+five_through : (a a' a'' b b' b'' c c' c'' d d' d'' w w' w'' : Ordering) → Through a a' a'' → Through b b' b'' → Through c c' c'' → Through d d' d'' → Through w w' w''
     → Through (five a b c d w) (five a' b' c' d' w') (five a'' b'' c'' d'' w'')
 five_through a a' a'' b b' b'' c c' c'' d d' d'' w w' w'' p q r s t =
-    through_then a a' a'' (then_by b (then_by c (then_by d w))) (then_by b' (then_by c' (then_by d' w'))) (then_by b'' (then_by c'' (then_by d'' w''))) p
-    (through_then b b' b'' (then_by c (then_by d w)) (then_by c' (then_by d' w')) (then_by c'' (then_by d'' w'')) q
-    (through_then c c' c'' (then_by d w) (then_by d' w') (then_by d'' w'') r (through_then d d' d'' w w' w'' s t)))
+    through_then a a' a'' (ordering_then b (ordering_then c (ordering_then d w))) (ordering_then b' (ordering_then c' (ordering_then d' w'))) (ordering_then b'' (ordering_then c'' (ordering_then d'' w''))) p
+    (through_then b b' b'' (ordering_then c (ordering_then d w)) (ordering_then c' (ordering_then d' w')) (ordering_then c'' (ordering_then d'' w'')) q
+    (through_then c c' c'' (ordering_then d w) (ordering_then d' w') (ordering_then d'' w'') r (through_then d d' d'' w w' w'' s t)))
 
 module _ (h : Head) (n : Node) (g : Head) (m : Node) where
-  abbrev a₀ : Order
+  abbrev a₀ : Ordering
   a₀ = options syms h.0 g.0
 
-  abbrev b₀ : Order
-  b₀ = numbers (kind_behind h.1 n) (kind_behind g.1 m)
+  abbrev b₀ : Ordering
+  b₀ = nat_cmp (kind_behind h.1 n) (kind_behind g.1 m)
 
-  abbrev c₀ : Order
-  c₀ = lists syms h.1 g.1
+  abbrev c₀ : Ordering
+  c₀ = slice_cmp syms h.1 g.1
 
-  abbrev d₀ : Order
-  d₀ = numbers (kind_of n) (kind_of m)
+  abbrev d₀ : Ordering
+  d₀ = nat_cmp (kind_of n) (kind_of m)
 
-headed_swap : (h : Head) (n : Node) (g : Head) (m : Node) (w w' : Order) → w' ≡ turned w → headed g m h n w' ≡ turned (headed h n g m w)
+headed_swap : (h : Head) (n : Node) (g : Head) (m : Node) (w w' : Ordering) → w' ≡ ordering_reverse w → headed g m h n w' ≡ ordering_reverse (headed h n g m w)
 headed_swap h n g m w w' e =
     five_swap (a₀ h n g m) (a₀ g m h n) (b₀ h n g m) (b₀ g m h n) (c₀ h n g m) (c₀ g m h n) (d₀ h n g m) (d₀ g m h n) w w'
     (names_total.swap h.0 g.0) (numbers-total.swap (kind_behind h.1 n) (kind_behind g.1 m)) (notes-total.swap h.1 g.1) (numbers-total.swap (kind_of n) (kind_of m)) e
 
-headed_through : (h : Head) (n : Node) (g : Head) (m : Node) (f : Head) (l : Node) (w₁ w₂ w₃ : Order) → Through w₁ w₂ w₃
+headed_through : (h : Head) (n : Node) (g : Head) (m : Node) (f : Head) (l : Node) (w₁ w₂ w₃ : Ordering) → Through w₁ w₂ w₃
     → Through (headed h n g m w₁) (headed g m f l w₂) (headed h n f l w₃)
 headed_through h n g m f l w₁ w₂ w₃ e =
     five_through (a₀ h n g m) (a₀ g m f l) (a₀ h n f l) (b₀ h n g m) (b₀ g m f l) (b₀ h n f l) (c₀ h n g m) (c₀ g m f l) (c₀ h n f l) (d₀ h n g m) (d₀ g m f l) (d₀ h n f l) w₁ w₂ w₃
     (names_total.through h.0 g.0 f.0) (numbers-total.through (kind_behind h.1 n) (kind_behind g.1 m) (kind_behind f.1 l)) (notes-total.through h.1 g.1 f.1) (numbers-total.through (kind_of n) (kind_of m) (kind_of l)) e
 
-record Alike (h : Head) (n : Node) (g : Head) (m : Node) (w : Order) : Type 0 where
+record Alike (h : Head) (n : Node) (g : Head) (m : Node) (w : Ordering) : Type 0 where
   name : options syms h.0 g.0 ≡ Equal
-  notes : lists syms h.1 g.1 ≡ Equal
+  notes : slice_cmp syms h.1 g.1 ≡ Equal
   kinds : kind_of n ≡ kind_of m
   inside : w ≡ Equal
 
-headed_alike : (h : Head) (n : Node) (g : Head) (m : Node) (w : Order) → headed h n g m w ≡ Equal → Alike h n g m w
+headed_alike : (h : Head) (n : Node) (g : Head) (m : Node) (w : Ordering) → headed h n g m w ≡ Equal → Alike h n g m w
 headed_alike h n g m w e =
-    let a = both_equal (a₀ h n g m) (then_by (b₀ h n g m) (then_by (c₀ h n g m) (then_by (d₀ h n g m) w))) e in
-    let b = both_equal (b₀ h n g m) (then_by (c₀ h n g m) (then_by (d₀ h n g m) w)) a.1 in
-    let c = both_equal (c₀ h n g m) (then_by (d₀ h n g m) w) b.1 in
+    let a = both_equal (a₀ h n g m) (ordering_then (b₀ h n g m) (ordering_then (c₀ h n g m) (ordering_then (d₀ h n g m) w))) e in
+    let b = both_equal (b₀ h n g m) (ordering_then (c₀ h n g m) (ordering_then (d₀ h n g m) w)) a.1 in
+    let c = both_equal (c₀ h n g m) (ordering_then (d₀ h n g m) w) b.1 in
     let d = both_equal (d₀ h n g m) w c.1 in
-    record { name = a.0; notes = c.0; kinds = equal_means (kind_of n) (kind_of m) d.0; inside = d.1 }
+    record { name = a.0; notes = c.0; kinds = exact_unsigned (kind_of n) (kind_of m) d.0; inside = d.1 }
 
 -- ---- nodes
 mutual
   unfolding contents nodes
 
-  contents_swap : (x y : Node) → contents y x ≡ turned (contents x y)
+  contents_swap : (x y : Node) → contents y x ≡ ordering_reverse (contents x y)
   contents_swap (scalar s) (scalar t) = scalars-total.swap s t
   contents_swap (scalar s) (nest g ms) = refl
   contents_swap (scalar s) marker = refl
@@ -262,7 +264,7 @@ mutual
   contents_swap marker (nest g ms) = refl
   contents_swap marker marker = refl
 
-  nodes_swap : (x y : Nodes) → nodes y x ≡ turned (nodes x y)
+  nodes_swap : (x y : Nodes) → nodes y x ≡ ordering_reverse (nodes x y)
   nodes_swap nil nil = refl
   nodes_swap nil (more g m ms) = refl
   nodes_swap (more h n ns) nil = refl
@@ -305,10 +307,10 @@ mutual
   nodes_through nil nil nil = refl
   nodes_through nil nil (more f l ls) = refl
   nodes_through nil (more g m ms) nil = tt
-  nodes_through nil (more g m ms) (more f l ls) = less_through (then_by (headed g m f l (contents m l)) (nodes ms ls))
+  nodes_through nil (more g m ms) (more f l ls) = less_through (ordering_then (headed g m f l (contents m l)) (nodes ms ls))
   nodes_through (more h n ns) nil nil = refl
   nodes_through (more h n ns) nil (more f l ls) = tt
-  nodes_through (more h n ns) (more g m ms) nil = through_greater (then_by (headed h n g m (contents n m)) (nodes ns ms))
+  nodes_through (more h n ns) (more g m ms) nil = through_greater (ordering_then (headed h n g m (contents n m)) (nodes ns ms))
   nodes_through (more h n ns) (more g m ms) (more f l ls) =
       through_then (headed h n g m (contents n m)) (headed g m f l (contents m l)) (headed h n f l (contents n l)) (nodes ns ms) (nodes ms ls) (nodes ns ls)
       (headed_through h n g m f l (contents n m) (contents m l) (contents n l) (contents_through n m l)) (nodes_through ns ms ls)
@@ -331,24 +333,24 @@ mutual
 
   contents_same : (x y : Node) (d d' : ℕ) (k k' : Frame) (ss ss' : List Sym) → Fine d k ss x → Fine d' k' ss' y → kind_of x ≡ kind_of y → contents x y ≡ Equal → x ≡ y
   contents_same (scalar s) (scalar t) d d' k k' ss ss' p q u e = ap scalar (scalars-total.same s t p q e)
-  contents_same (scalar s) (nest g ms) d d' k k' ss ss' p q u e = apart e (λ z. omega arith)
-  contents_same (scalar s) marker d d' k k' ss ss' p q u e = apart e (λ z. omega arith)
-  contents_same (nest f ns) (scalar t) d d' k k' ss ss' p q u e = apart e (λ z. omega arith)
+  contents_same (scalar s) (nest g ms) d d' k k' ss ss' p q u e = cc
+  contents_same (scalar s) marker d d' k k' ss ss' p q u e = cc
+  contents_same (nest f ns) (scalar t) d d' k k' ss ss' p q u e = cc
   contents_same (nest f ns) (nest g ms) zero d' k k' ss ss' p q u e = absurd p
   contents_same (nest f ns) (nest g ms) (suc d) zero k k' ss ss' p q u e = absurd q
   contents_same (nest f ns) (nest g ms) (suc d) (suc d') k k' ss ss' p q u e =
       let a = tag_same f g u in
       let b = nodes_same ns ms d d' f g p.2 q.2 e in
       λ i. nest (a i) (b i)
-  contents_same (nest f ns) marker d d' k k' ss ss' p q u e = apart e (λ z. omega arith)
-  contents_same marker (scalar t) d d' k k' ss ss' p q u e = apart e (λ z. omega arith)
-  contents_same marker (nest g ms) d d' k k' ss ss' p q u e = apart e (λ z. omega arith)
+  contents_same (nest f ns) marker d d' k k' ss ss' p q u e = cc
+  contents_same marker (scalar t) d d' k k' ss ss' p q u e = cc
+  contents_same marker (nest g ms) d d' k k' ss ss' p q u e = cc
   contents_same marker marker d d' k k' ss ss' p q u e = refl
 
   nodes_same : (x y : Nodes) (d d' : ℕ) (k k' : Frame) → Fines d k x → Fines d' k' y → nodes x y ≡ Equal → x ≡ y
   nodes_same nil nil d d' k k' p q e = refl
-  nodes_same nil (more g m ms) d d' k k' p q e = apart e (λ z. omega arith)
-  nodes_same (more h n ns) nil d d' k k' p q e = apart e (λ z. omega arith)
+  nodes_same nil (more g m ms) d d' k k' p q e = cc
+  nodes_same (more h n ns) nil d d' k k' p q e = cc
   nodes_same (more h n ns) (more g m ms) d d' k k' p q e =
       let b = both_equal (headed h n g m (contents n m)) (nodes ns ms) e in
       let a = headed_alike h n g m (contents n m) b.0 in

@@ -1,4 +1,6 @@
 -- Bytes that stand in both tapes: how far they reach, and that children within them are the same. Assumes nothing.
+use Rattle.std.specs.Ordering.{nat_cmp}
+use Rattle.std.specs.Cmp.Lexicographic.{slice_cmp}
 use Prim.Native.Nat.{ℕ, zero, suc, ◌+◌, ◌-◌, ◌<◌, ◌≤◌}
 use mathlib.Core.Path.{◌≡◌, refl, sym, ap, subst, ◌∙◌}
 use mathlib.Core.List.{List, [], ◌∷◌, ◌++◌, append_assoc}
@@ -11,7 +13,7 @@ use Rattle.output.specs.Wrote.{le_bytes}
 use Rattle.output.proofs.Laws.{length-le}
 use Rattle.tape.specs.Bytes.{part}
 use Rattle.tape.specs.Tree.{Head, Node, Nodes, scalar, nest, marker, nil, more, encode_head, encode, encodes}
-use Rattle.tape.specs.Tape.{reading, head_of, leaf, body, value_of, Walked, walk}
+use Rattle.tape.specs.Tape.{reading, head_of, leaf, value_of, Walked, walk}
 use Rattle.tape.specs.Fine.{Bytes, FineHead, Fine, Fines}
 use Rattle.tape.specs.Steps.{head_at, size_taken, node_is, size_is, node_at, size_at}
 use Rattle.tape.specs.declared.Frame.{Frame}
@@ -22,8 +24,8 @@ use Rattle.tape.proofs.FineBack.{walk_fine}
 use Rattle.tape.proofs.CodeReading.{value_marker}
 use Rattle.tape.proofs.Accepted.{head_as, kind_as, value_as, nest_as, accepted}
 use Rattle.tape.proofs.Turning.{Turn, turn_here, size-some}
-use Rattle.order.specs.declared.Order.TheVariants.{Equal}
-use Rattle.order.specs.Order.{numbers, lists, headed, contents, nodes}
+use Rattle.std.specs.declared.cmp.Ordering.TheVariants.{Equal}
+use Rattle.order.specs.Order.{headed, contents, nodes}
 use Rattle.order.specs.Steps.{Body, Shared, Passed}
 use Rattle.order.proofs.Combine.{reflexive, equal_is, both_equal}
 use Rattle.order.proofs.NodeOrder.{nodes_total}
@@ -113,8 +115,7 @@ bytes_of : (s : List ℕ) (x : ℕ) (t : List ℕ) (y n c : ℕ) → c ≤ n →
 bytes_of s x t y n c h q = sym (take-take c n (drop x s) h) ∙ ap (take c) q ∙ take-take c n (drop y t) h
 
 -- texts that start with the same bytes compare as what is left of them
-pub lists_shared : (n : ℕ) (s t : List ℕ) → n ≤ length s → n ≤ length t → take n s ≡ take n t → lists numbers s t ≡ lists numbers (drop n s) (drop n t)
-unfolding lists
+pub lists_shared : (n : ℕ) (s t : List ℕ) → n ≤ length s → n ≤ length t → take n s ≡ take n t → slice_cmp nat_cmp s t ≡ slice_cmp nat_cmp (drop n s) (drop n t)
 lists_shared zero s t h k q = refl
 lists_shared (suc n) [] t h k q = absurd (omega arith)
 lists_shared (suc n) (x ∷ s) [] h k q = absurd (omega arith)

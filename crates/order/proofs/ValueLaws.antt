@@ -1,9 +1,11 @@
 -- Values at a place, and two bodies a turn at a time. Assumes nothing.
+use Rattle.std.specs.Ordering.{nat_cmp, ordering_then, is_ne}
+use Rattle.std.specs.Cmp.Lexicographic.{slice_cmp}
 use Prim.Native.Nat.{ℕ, ◌+◌, ◌-◌, ◌<◌, ◌≤◌}
 use mathlib.Core.Path.{◌≡◌, refl, sym, ap, ◌∙◌}
 use mathlib.Core.List.{List}
 use mathlib.Core.Bool.{Bool, true, false}
-use mathlib.Core.Option.{Option, none, some}
+use mathlib.Core.Option.{Option}
 use native.Mathlib.Omega.{arith}
 use native.Mathlib.Decide.{dec_le, ℕ_discrete}
 use borrow.Author.Tests.{eqb-true, eqb-false}
@@ -20,11 +22,11 @@ use Rattle.tape.specs.declared.Frame.{Frame}
 use Rattle.tape.proofs.Parts.{part_length, part-first, part-number, part-inner}
 use Rattle.tape.proofs.Walking.{walk_end}
 use Rattle.tape.proofs.CodeReading.{scalar-other, value-scalar as value-other}
-use Rattle.order.specs.declared.Order.{Order}
-use Rattle.order.specs.declared.Order.TheVariants.{Less, Equal, Greater}
-use Rattle.order.specs.Order.{then_by, numbers, lists, options, scalars, syms, kind_of, kind_behind, headed, contents, nodes}
-use Rattle.order.specs.Steps.{code, scalar_in, Leaf, number_at, notes_count, notes_start, Headed, fronts, ValueAt, Body, valued}
-use Rattle.order.proofs.Combine.{less_is, greater_is, equal_is}
+use Rattle.std.specs.declared.cmp.Ordering.{Ordering}
+use Rattle.std.specs.declared.cmp.Ordering.TheVariants.{Less, Equal, Greater}
+use Rattle.order.specs.Order.{options, scalars, syms, kind_of, kind_behind, contents, nodes}
+use Rattle.order.specs.Steps.{scalar_in, Leaf, number_at, notes_count, notes_start, Headed, fronts, ValueAt, Body, valued}
+use Rattle.order.proofs.Combine.{equal_is}
 use Rattle.order.proofs.CodeLaws.{decided, passed}
 use Rattle.order.proofs.Leaves.{kind_key}
 use Rattle.order.proofs.HeadLaws.{notes_here, NotesHere, head_parts, HeadHere, symbols_turn, symbols_none}
@@ -152,13 +154,13 @@ module _ (d : ℕ) (s t : List ℕ) (p e q f : ℕ) (g : ValueAt d s p e) (h : V
   abbrev y : Node
   y = node_at d (part t q f)
 
-  pub value_less : get_or s p 0 < get_or t q 0 → valued x y ≡ Less
+  -- kinds that differ decide
+  pub value_kind : (w : Ordering) → w ≡ nat_cmp (get_or s p 0) (get_or t q 0) → is_ne w ≡ true → w ≡ valued x y
   unfolding valued
-  value_less i = let a = kind-node d s p e g in let b = kind-node d t q f h in rw (less_is (kind_of x) (kind_of y) (omega arith))
-
-  pub value_greater : get_or t q 0 < get_or s p 0 → valued x y ≡ Greater
-  unfolding valued
-  value_greater i = let a = kind-node d s p e g in let b = kind-node d t q f h in rw (greater_is (kind_of x) (kind_of y) (omega arith))
+  value_kind w i n =
+      let a = kind-node d s p e g in
+      let b = kind-node d t q f h in
+      decided (nat_cmp (kind_of x) (kind_of y)) (contents x y) w (i ∙ ap (λ (k : ℕ). nat_cmp k (get_or t q 0)) (sym a) ∙ ap (nat_cmp (kind_of x)) (sym b)) n
 
   value_same : get_or s p 0 ≡ get_or t q 0 → valued x y ≡ contents x y
   unfolding valued
@@ -182,7 +184,7 @@ module _ (d : ℕ) (s t : List ℕ) (p e q f : ℕ) (g : ValueAt d s p e) (h : V
 
 -- ---- a turn of two bodies
 
-assoc : (a b c v : Order) → then_by (then_by a (then_by b c)) v ≡ then_by a (then_by b (then_by c v))
+assoc : (a b c v : Ordering) → ordering_then (ordering_then a (ordering_then b c)) v ≡ ordering_then a (ordering_then b (ordering_then c v))
 assoc Less b c v = refl
 assoc Equal Less c v = refl
 assoc Equal Equal c v = refl
@@ -274,42 +276,42 @@ module _ (d : ℕ) (k : Frame) (s t : List ℕ) (i e j f : ℕ) (nz : d ≡ 0 �
 
   pub nodes_both : i < e → j < f
       → nodes (walk d k (part s i e)).0 (walk d k (part t j f)).0
-      ≡ then_by (fronts k s i e t j f) (then_by (valued (node_at (d - 1) (part s P e)) (node_at (d - 1) (part t Q f))) (nodes (walk d k (part s (P + size_at (part s P e)) e)).0 (walk d k (part t (Q + size_at (part t Q f)) f)).0))
+      ≡ ordering_then (fronts k s i e t j f) (ordering_then (valued (node_at (d - 1) (part s P e)) (node_at (d - 1) (part t Q f))) (nodes (walk d k (part s (P + size_at (part s P e)) e)).0 (walk d k (part t (Q + size_at (part t Q f)) f)).0))
   unfolding nodes valued
   nodes_both a b =
       let u = child_here d k s i e nz a g in
       let v = child_here d k t j f nz b h in
       let rest = nodes (walk d k (part s (P + size_at (part s P e)) e)).0 (walk d k (part t (Q + size_at (part t Q f)) f)).0 in
       let A = options syms (head_at k (part s i e)).0 (head_at k (part t j f)).0 in
-      let B = numbers (kind_behind (head_at k (part s i e)).1 (node_at (d - 1) (part s P e))) (kind_behind (head_at k (part t j f)).1 (node_at (d - 1) (part t Q f))) in
-      let C = lists syms (head_at k (part s i e)).1 (head_at k (part t j f)).1 in
+      let B = nat_cmp (kind_behind (head_at k (part s i e)).1 (node_at (d - 1) (part s P e))) (kind_behind (head_at k (part t j f)).1 (node_at (d - 1) (part t Q f))) in
+      let C = slice_cmp syms (head_at k (part s i e)).1 (head_at k (part t j f)).1 in
       let Va = valued (node_at (d - 1) (part s P e)) (node_at (d - 1) (part t Q f)) in
-      rw (u.nodes, v.nodes, u.byte, v.byte) (ap (λ (w : Order). then_by w rest) (sym (assoc A B C Va)) ∙ again (then_by A (then_by B C)) Va rest)
+      rw (u.nodes, v.nodes, u.byte, v.byte) (ap (λ (w : Ordering). ordering_then w rest) (sym (assoc A B C Va)) ∙ again (ordering_then A (ordering_then B C)) Va rest)
     where
-      again : (w v r : Order) → then_by (then_by w v) r ≡ then_by w (then_by v r)
+      again : (w v r : Ordering) → ordering_then (ordering_then w v) r ≡ ordering_then w (ordering_then v r)
       again Less v r = refl
       again Equal v r = refl
       again Greater v r = refl
 
   -- the same by what the code finds
-  module _ (a : i < e) (b : j < f) {o : ℕ} (w : o ≡ code (fronts k s i e t j f)) where
-    abbrev rest : Order
-    rest = then_by (valued (node_at (d - 1) (part s P e)) (node_at (d - 1) (part t Q f))) (nodes (walk d k (part s (P + size_at (part s P e)) e)).0 (walk d k (part t (Q + size_at (part t Q f)) f)).0)
+  module _ (a : i < e) (b : j < f) {o : Ordering} (w : o ≡ (fronts k s i e t j f)) where
+    abbrev rest : Ordering
+    rest = ordering_then (valued (node_at (d - 1) (part s P e)) (node_at (d - 1) (part t Q f))) (nodes (walk d k (part s (P + size_at (part s P e)) e)).0 (walk d k (part t (Q + size_at (part t Q f)) f)).0)
 
-    pub front_decides : (o ≡ 1 → ⊥) → o ≡ code (nodes (walk d k (part s i e)).0 (walk d k (part t j f)).0)
-    front_decides n = decided (fronts k s i e t j f) rest o w n ∙ sym (ap code (nodes_both a b))
+    pub front_decides : is_ne o ≡ true → o ≡ (nodes (walk d k (part s i e)).0 (walk d k (part t j f)).0)
+    front_decides n = decided (fronts k s i e t j f) rest o w n ∙ sym ((nodes_both a b))
 
-    module _ (one : o ≡ 1) {p q v : ℕ} (x : p ≡ P) (y : q ≡ Q) (u : v ≡ code (valued (node_at (d - 1) (part s p e)) (node_at (d - 1) (part t q f)))) where
+    module _ (one : is_ne o ≡ false) {p q : ℕ} {v : Ordering} (x : p ≡ P) (y : q ≡ Q) (u : v ≡ (valued (node_at (d - 1) (part s p e)) (node_at (d - 1) (part t q f)))) where
       after : nodes (walk d k (part s i e)).0 (walk d k (part t j f)).0
-          ≡ then_by (valued (node_at (d - 1) (part s p e)) (node_at (d - 1) (part t q f))) (nodes (walk d k (part s (p + size_at (part s p e)) e)).0 (walk d k (part t (q + size_at (part t q f)) f)).0)
+          ≡ ordering_then (valued (node_at (d - 1) (part s p e)) (node_at (d - 1) (part t q f))) (nodes (walk d k (part s (p + size_at (part s p e)) e)).0 (walk d k (part t (q + size_at (part t q f)) f)).0)
       after = nodes_both a b ∙ passed (fronts k s i e t j f) rest o w one ∙ rw (x, y) refl
 
-      pub value_decides : (v ≡ 1 → ⊥) → v ≡ code (nodes (walk d k (part s i e)).0 (walk d k (part t j f)).0)
+      pub value_decides : is_ne v ≡ true → v ≡ (nodes (walk d k (part s i e)).0 (walk d k (part t j f)).0)
       value_decides n =
           decided (valued (node_at (d - 1) (part s p e)) (node_at (d - 1) (part t q f))) (nodes (walk d k (part s (p + size_at (part s p e)) e)).0 (walk d k (part t (q + size_at (part t q f)) f)).0) v u n
-          ∙ sym (ap code after)
+          ∙ sym (after)
 
-      pub both_pass : v ≡ 1 → {c r : ℕ} → c ≡ size_at (part s p e) → r ≡ size_at (part t q f)
+      pub both_pass : is_ne v ≡ false → {c r : ℕ} → c ≡ size_at (part s p e) → r ≡ size_at (part t q f)
           → nodes (walk d k (part s i e)).0 (walk d k (part t j f)).0 ≡ nodes (walk d k (part s (p + c) e)).0 (walk d k (part t (q + r) f)).0
       both_pass n z z' =
           after

@@ -1,5 +1,5 @@
 -- The order on the nodes of accepted tapes: document 02, A11. Assumes nothing: these are definitions.
-use Rattle.std.specs.Prelude.{ℕ, suc, ◌+◌, ◌-◌, ◌*◌, ◌^◌, ℤ, pos, negsuc, neg_ℤ, List, [], ◌∷◌, Bool, true, false, not, eqb, ltb, Float}
+use Rattle.std.specs.Prelude.{ℕ, suc, ◌+◌, ◌-◌, ◌*◌, ◌^◌, ℤ, pos, negsuc, neg_ℤ, List, [], ◌∷◌, Bool, true, false, not, eqb, Float, Result, Ok, Err}
 use Rattle.std.proofs.Math.Option.{Option, none, some}
 use Rattle.std.specs.Float.{nan, inf, fin}
 use Rattle.output.specs.Logic.{if}
@@ -9,37 +9,24 @@ use Rattle.numbers.specs.declared.timestamp.Timestamp.{Timestamp}
 use Rattle.tape.specs.Tree.{Scalar, Head, Node, Nodes, null, bool, int, float, decimal, timestamp, symbol, string, clob, blob, scalar, nest, marker, nil, more, bit, tag}
 use Rattle.tape.specs.Tape.{nodes_of}
 use Rattle.tape.specs.Verdict.{verdict}
-use Rattle.order.specs.declared.Compared.{Compared}
-use Rattle.order.specs.declared.Compared.TheVariants.{Is, Refused}
-use Rattle.order.specs.declared.Order.{Order}
-use Rattle.order.specs.declared.Order.TheVariants.{Less, Equal, Greater}
+use Rattle.tape.specs.Answer.{fault_number}
+use Rattle.tape.specs.declared.answer.Fault.{Fault}
+use Rattle.std.specs.declared.cmp.Ordering.{Ordering}
+use Rattle.std.specs.declared.cmp.Ordering.TheVariants.{Less, Equal, Greater}
+use Rattle.std.specs.Ordering.{ordering_then, nat_cmp}
+use Rattle.std.specs.Cmp.Lexicographic.{slice_cmp}
 
 -- ---- how orders are put together
 
--- the first of two comparisons decides, unless it finds no difference
-abbrev pub then_by : Order → Order → Order
-then_by Less w = Less
-then_by Equal w = w
-then_by Greater w = Greater
-
-abbrev pub numbers : ℕ → ℕ → Order
-numbers m n = if (ltb m n) Less (if (ltb n m) Greater Equal)
-
-abbrev pub integers : ℤ → ℤ → Order
-integers (pos m) (pos n) = numbers m n
+-- integers in their order, by the naturals that they are made of
+abbrev pub integers : ℤ → ℤ → Ordering
+integers (pos m) (pos n) = nat_cmp m n
 integers (pos m) (negsuc n) = Greater
 integers (negsuc m) (pos n) = Less
-integers (negsuc m) (negsuc n) = numbers n m
-
--- in turn, and a proper beginning is less
-unfoldable pub lists : {A : Type 0} → (A → A → Order) → List A → List A → Order
-lists c [] [] = Equal
-lists c [] (y ∷ t) = Less
-lists c (x ∷ s) [] = Greater
-lists c (x ∷ s) (y ∷ t) = then_by (c x y) (lists c s t)
+integers (negsuc m) (negsuc n) = nat_cmp n m
 
 -- nothing before something
-abbrev pub options : {A : Type 0} → (A → A → Order) → Option A → Option A → Order
+abbrev pub options : {A : Type 0} → (A → A → Ordering) → Option A → Option A → Ordering
 options c none none = Equal
 options c none (some y) = Less
 options c (some x) none = Greater
@@ -68,12 +55,12 @@ abbrev pub value_over : ℤ → Decimal → ℤ
 value_over e d = signed_by d.0 (d.1 * 10 ^ above d.2 e)
 
 -- by exact value: both over ten to the lesser of the two exponents
-unfoldable pub values : Decimal → Decimal → Order
+unfoldable pub values : Decimal → Decimal → Ordering
 values d f = integers (value_over f.2 d) (value_over d.2 f)
 
 -- by exact value, then by exponent, then negative before positive
-abbrev pub decimals : Decimal → Decimal → Order
-decimals d f = then_by (values d f) (then_by (integers d.2 f.2) (numbers (bit (not d.0)) (bit (not f.0))))
+abbrev pub decimals : Decimal → Decimal → Ordering
+decimals d f = ordering_then (values d f) (ordering_then (integers d.2 f.2) (nat_cmp (bit (not d.0)) (bit (not f.0))))
 
 -- ---- scalars
 
@@ -134,14 +121,14 @@ key_of (string s) = by_bytes 8 s
 key_of (clob s) = by_bytes 9 s
 key_of (blob s) = by_bytes 15 s
 
-abbrev pub keys : Key → Key → Order
-keys x y = then_by (numbers x.0 y.0) (then_by (lists integers x.1 y.1) (then_by (lists numbers x.2 y.2) (decimals x.3 y.3)))
+abbrev pub keys : Key → Key → Ordering
+keys x y = ordering_then (nat_cmp x.0 y.0) (ordering_then (slice_cmp integers x.1 y.1) (ordering_then (slice_cmp nat_cmp x.2 y.2) (decimals x.3 y.3)))
 
-abbrev pub scalars : Scalar → Scalar → Order
+abbrev pub scalars : Scalar → Scalar → Ordering
 scalars x y = keys (key_of x) (key_of y)
 
 -- names and annotations, as the nodes 6 and 7 that they are
-abbrev pub syms : Sym → Sym → Order
+abbrev pub syms : Sym → Sym → Ordering
 syms s t = scalars (symbol s) (symbol t)
 
 -- ---- nodes
@@ -159,15 +146,15 @@ kind_behind (s ∷ ss) n = 13
 
 -- Two nodes with their heads, w being how the contents of two values of one kind compare: the names; then the kinds; then, of annotated nodes,
 -- the annotations, and the values by kind and contents. (Of two nodes without annotations of one kind, what stands between is equal.)
-abbrev pub headed : Head → Node → Head → Node → Order → Order
+abbrev pub headed : Head → Node → Head → Node → Ordering → Ordering
 headed h n g m w =
-    then_by (options syms h.0 g.0)
-    (then_by (numbers (kind_behind h.1 n) (kind_behind g.1 m)) (then_by (lists syms h.1 g.1) (then_by (numbers (kind_of n) (kind_of m)) w)))
+    ordering_then (options syms h.0 g.0)
+    (ordering_then (nat_cmp (kind_behind h.1 n) (kind_behind g.1 m)) (ordering_then (slice_cmp syms h.1 g.1) (ordering_then (nat_cmp (kind_of n) (kind_of m)) w)))
 
 -- Contents of values of one kind; child by child in containers. Where one is a scalar, a container or the marker and the other is not, the kinds
 -- have told them apart.
 unfoldable mutual
-  pub contents : Node → Node → Order
+  pub contents : Node → Node → Ordering
   contents (scalar s) (scalar t) = scalars s t
   contents (scalar s) (nest g ms) = Less
   contents (scalar s) marker = Less
@@ -179,18 +166,23 @@ unfoldable mutual
   contents marker marker = Equal
 
   -- in turn, and a proper beginning is less
-  pub nodes : Nodes → Nodes → Order
+  pub nodes : Nodes → Nodes → Ordering
   nodes nil nil = Equal
   nodes nil (more g m ms) = Less
   nodes (more h n ns) nil = Greater
-  nodes (more h n ns) (more g m ms) = then_by (headed h n g m (contents n m)) (nodes ns ms)
+  nodes (more h n ns) (more g m ms) = ordering_then (headed h n g m (contents n m)) (nodes ns ms)
 
 -- ---- tapes
 
 -- two accepted tapes
-unfoldable pub tapes : List ℕ → List ℕ → Order
+unfoldable pub tapes : List ℕ → List ℕ → Ordering
 tapes t u = nodes (nodes_of t) (nodes_of u)
 
--- of any two: the order, or the refusal of the first that is refused
-unfoldable pub compared : List ℕ → List ℕ → Compared
-compared t u = if (eqb (verdict t) 0) (if (eqb (verdict u) 0) (Is (tapes t u)) (Refused (verdict u))) (Refused (verdict t))
+-- of any two: the order, or the number of the refusal of the first that is refused
+unfoldable pub compared : List ℕ → List ℕ → Result Ordering ℕ
+compared t u = if (eqb (verdict t) 0) (if (eqb (verdict u) 0) (Ok (tapes t u)) (Err (verdict u))) (Err (verdict t))
+
+-- and the code's answer, by the refusal's number
+abbrev pub told : Result Ordering Fault → Result Ordering ℕ
+told (Ok w) = Ok w
+told (Err r) = Err (fault_number r)

@@ -1,4 +1,6 @@
 -- What the contracts of the comparison's parts name. Assumes nothing: these are definitions.
+use Rattle.std.specs.Ordering.{nat_cmp, ordering_then}
+use Rattle.std.specs.Cmp.Lexicographic.{slice_cmp}
 use Rattle.std.specs.Prelude.{ℕ, zero, suc, ◌+◌, ◌-◌, ◌*◌, ◌<◌, ◌≤◌, ℤ, pos, negsuc, ◌≡◌, List, [], ◌∷◌, Bool, true, false, eqb, Float, length, get_or, take, drop}
 use Rattle.numbers.specs.declared.timestamp.Timestamp.{Timestamp}
 use Rattle.std.proofs.Math.Option.{Option, none, some}
@@ -13,19 +15,9 @@ use Rattle.tape.specs.declared.Frame.{Frame}
 use Rattle.order.specs.declared.Side.{Side}
 use Rattle.tape.specs.Fine.{Bytes}
 use Rattle.tape.specs.Tape.{reading, syms_of, name_of, notes_of, head_of, scalar_of, walk}
-use Rattle.order.specs.declared.Order.{Order}
-use Rattle.order.specs.declared.Order.TheVariants.{Less, Equal, Greater}
-use Rattle.order.specs.Order.{then_by, numbers, lists, options, Decimal, rank, or_zero, syms, kind_of, contents, nodes}
-
--- inside, an order is a number
-abbrev pub code : Order → ℕ
-code Less = 0
-code Equal = 1
-code Greater = 2
-
--- the first decides, unless it is equal
-unfoldable pub then_code : ℕ → ℕ → ℕ
-then_code c d = if (eqb c 1) d c
+use Rattle.std.specs.declared.cmp.Ordering.{Ordering}
+use Rattle.std.specs.declared.cmp.Ordering.TheVariants.{Equal}
+use Rattle.order.specs.Order.{options, Decimal, rank, or_zero, syms, kind_of, contents, nodes}
 
 -- a signed number from -N on, as a natural number
 abbrev pub over_by : ℕ → ℤ → ℕ
@@ -41,11 +33,11 @@ pub record Biased (N : ℕ) (e : ℤ) (r : ℕ) : Type 0 where
   pub is : r ≡ over_by N e
 
 -- naturals with signs
-abbrev pub by_sign : Bool → Bool → ℕ → ℕ → Order
-by_sign false false a b = numbers a b
-by_sign false true a b = numbers (a + b) 0
-by_sign true false a b = numbers 0 (a + b)
-by_sign true true a b = numbers b a
+abbrev pub by_sign : Bool → Bool → ℕ → ℕ → Ordering
+by_sign false false a b = nat_cmp a b
+by_sign false true a b = nat_cmp (a + b) 0
+by_sign true false a b = nat_cmp 0 (a + b)
+by_sign true true a b = nat_cmp b a
 
 -- the scalar that the bytes l start with
 unfoldable pub scalar_in : List ℕ → Scalar
@@ -128,15 +120,15 @@ pub record Headed (k : Frame) (s : List ℕ) (at e : ℕ) : Type 0 where
   pub read : head_of k (part s at e) ≡ some (head_at k (part s at e), size_taken (head_of k (part s at e)))
 
 -- a comparison, and where it ended in both where it found no difference
-pub record SideIs (w : Order) (x y : ℕ) (r : Side) : Type 0 where
-  pub order : r.order ≡ code w
-  pub places : r.order ≡ 1 → (r.a ≡ x) × (r.b ≡ y)
+pub record SideIs (w : Ordering) (x y : ℕ) (r : Side) : Type 0 where
+  pub order : r.order ≡ w
+  pub places : r.order ≡ Equal → (r.a ≡ x) × (r.b ≡ y)
 
 -- names, then the bytes behind them (13, or the value's kind), then annotations
-abbrev pub fronts : Frame → List ℕ → ℕ → ℕ → List ℕ → ℕ → ℕ → Order
+abbrev pub fronts : Frame → List ℕ → ℕ → ℕ → List ℕ → ℕ → ℕ → Ordering
 fronts k s i e t j f =
-    then_by (options syms (head_at k (part s i e)).0 (head_at k (part t j f)).0)
-    (then_by (numbers (get_or s (i + size_taken (name_of k (part s i e))) 0) (get_or t (j + size_taken (name_of k (part t j f))) 0)) (lists syms (head_at k (part s i e)).1 (head_at k (part t j f)).1))
+    ordering_then (options syms (head_at k (part s i e)).0 (head_at k (part t j f)).0)
+    (ordering_then (nat_cmp (get_or s (i + size_taken (name_of k (part s i e))) 0) (get_or t (j + size_taken (name_of k (part t j f))) 0)) (slice_cmp syms (head_at k (part s i e)).1 (head_at k (part t j f)).1))
 
 -- ---- values and bodies
 
@@ -153,8 +145,8 @@ pub record Body (d : ℕ) (k : Frame) (s : List ℕ) (at e : ℕ) : Type 0 where
   pub fine : (walk d k (part s at e)).1 ≡ 0
 
 -- by kind, then by contents
-unfoldable pub valued : Node → Node → Order
-valued x y = then_by (numbers (kind_of x) (kind_of y)) (contents x y)
+unfoldable pub valued : Node → Node → Ordering
+valued x y = ordering_then (nat_cmp (kind_of x) (kind_of y)) (contents x y)
 
 -- ---- bytes that are equal in both tapes
 

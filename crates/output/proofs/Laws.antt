@@ -7,7 +7,8 @@ use native.Mathlib.Decide.{dec_le}
 use native.Mathlib.Numerals.{add-one}
 use native.Mathlib.Omega.{arith}
 use lib.ListN.{length, take, drop, get_or, set, length-append, length-take, length-drop, take-append-drop}
-use lib.Seq.{sets, length-sets, set_out, set-set, set_comm, take-length, length-take-le, take_all, take-add, drop-drop, drop-cons}
+use borrow.Rule.Slice.PartMut.{put_mid}
+use lib.Seq.{sets, sets-eq, length-sets, set_out, set-set, set_comm, take-length, length-take-le, take_all, take-add, drop-drop, drop-cons}
 use Rattle.output.specs.Wrote.{Wrote, limit, le_bytes}
 
 -- past the end nothing is stored
@@ -23,6 +24,12 @@ sets-append l i (x ∷ s) t =
     ap (λ (k : ℕ). sets (sets (set l i x) (suc i) s) k t) (add-suc i (length s) ∙ sym (suc-add i (length s)))
     ∙ sets-append (set l i x) (suc i) s t
 
+-- s in the place of a part of its length
+pub sets-part : (l v s : List ℕ) (p k : ℕ) → length s ≡ k → p + k ≤ length l → v ≡ s → put_mid p k l v ≡ sets l p s
+sets-part l v s p k e h q =
+    let room : p + length s ≤ length l = omega arith in
+    rw (q, drop-drop k p l, ← e, ← append_assoc (take p l) s (drop (p + length s) l)) (sym (sets-eq s l p room))
+
 -- a position at the limit is as good as any other past it
 sets-clip : (l : List ℕ) (i : ℕ) (s : List ℕ) → length l < limit → sets l (min i limit) s ≡ sets l i s
 sets-clip l i s room = go (dec_le i limit)
@@ -31,8 +38,12 @@ sets-clip l i s room = go (dec_le i limit)
     go (yes h) = let e : min i limit ≡ i = omega arith in rw e
     go (no h) = sets-out l (min i limit) s (omega arith) ∙ sym (sets-out l i s (omega arith))
 
+-- nothing is written from a position, which is then bounded
+pub wrote_empty : (a : List ℕ) (p r : ℕ) → r ≡ min p limit → length a < limit → Wrote a a p r []
+wrote_empty a p r e room = record { bytes = refl; count = omega arith; room = room }
+
 pub wrote_none : (a : List ℕ) (p : ℕ) → p ≤ limit → length a < limit → Wrote a a p p []
-wrote_none a p h room = record { bytes = refl; count = omega arith; room = room }
+wrote_none a p h room = wrote_empty a p p (omega arith) room
 
 -- past the buffer's end nothing is stored, and all n bytes are counted
 pub wrote-past : (a : List ℕ) (p r n : ℕ) (s : List ℕ) → length a ≤ p → length a < limit → length s ≡ n → r ≡ min (p + n) limit → Wrote a a p r s
@@ -175,8 +186,11 @@ pub record Progress (a b : List ℕ) (pos p : ℕ) (whole left : List ℕ) : Typ
   pub wrote : Wrote a b pos p done
   pub splits : whole ≡ done ++ left
 
+pub begin : (a : List ℕ) (p r : ℕ) (whole : List ℕ) → r ≡ min p limit → length a < limit → Progress a a p r whole whole
+begin a p r whole e room = record { done = []; wrote = wrote_empty a p r e room; splits = refl }
+
 pub start : (a : List ℕ) (p : ℕ) (whole : List ℕ) → p ≤ limit → length a < limit → Progress a a p p whole whole
-start a p whole h room = record { done = []; wrote = wrote_none a p h room; splits = refl }
+start a p whole h room = begin a p p whole (omega arith) room
 
 -- one text more
 pub more : {a b c : List ℕ} {pos p q : ℕ} {whole s left left' : List ℕ} → Progress a b pos p whole left → Wrote b c p q s → left ≡ s ++ left' → Progress a c pos q whole left'

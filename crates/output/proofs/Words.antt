@@ -4,8 +4,13 @@ use mathlib.Core.List.{List, [], ◌∷◌, ◌++◌}
 use Prim.Native.Nat.{ℕ, zero, suc, ◌+◌, ◌-◌, ◌*◌, ◌/◌, ◌%◌, ◌^◌, ◌≤◌, ◌<◌}
 use native.Mathlib.Nat.{suc-add, zero-add, sub-zero, mul_assoc, div-one, div-div-eq-div-mul, pow-succ'}
 use native.Mathlib.Omega.{arith}
-use lib.ListN.{length, take, drop, replicate}
+use lib.ListN.{length, get_or, take, drop, replicate, length-take, length-drop}
 use lib.Seq.{sets}
+use Rattle.std.specs.Int.{to_le_bytes, from_le_bytes, w8, w64}
+use Rattle.std.proofs.Common.{Fits}
+use Rattle.std.proofs.lemmas.List.{get_or-take, get_or-drop, get_or_past}
+use Rattle.std.proofs.lemmas.Nat.{le_bytes_8}
+use native.Mathlib.Decide.{dec_lt}
 use lib.Pow.{pow-add, shr-shr}
 use Rattle.output.specs.Wrote.{le_bytes}
 use Rattle.output.proofs.Laws.{length-le, sets-lap}
@@ -78,7 +83,7 @@ last-lap l p v c k h g b =
     ∙ le-lap l p q c k h g
     ∙ ap (sets l p) (shift c v b)
 
--- the four and the eight lowest bytes, each by one division
+-- the four lowest bytes, each by one division, and so the eight, which std has a word for
 pub le-4 : (w : ℕ) → le_bytes 4 w ≡ w % 256 ∷ w / 256 % 256 ∷ w / 65536 % 256 ∷ w / 16777216 % 256 ∷ []
 unfolding le_bytes
 le-4 w =
@@ -86,7 +91,7 @@ le-4 w =
     let f : w / 65536 / 256 ≡ w / 16777216 = div-div-eq-div-mul w 65536 256 in
     rw (e, f)
 
-pub le-8 : (w : ℕ) → le_bytes 8 w ≡ w % 256 ∷ w / 256 % 256 ∷ w / 65536 % 256 ∷ w / 16777216 % 256 ∷ w / 4294967296 % 256 ∷ w / 1099511627776 % 256 ∷ w / 281474976710656 % 256 ∷ w / 72057594037927936 % 256 ∷ []
+pub le-8 : (w : ℕ) → le_bytes 8 w ≡ to_le_bytes w64 w
 le-8 w =
     let e : w / 4294967296 / 256 ≡ w / 1099511627776 = div-div-eq-div-mul w 4294967296 256 in
     let f : w / 4294967296 / 65536 ≡ w / 281474976710656 = div-div-eq-div-mul w 4294967296 65536 in
@@ -94,6 +99,21 @@ le-8 w =
     le_add 4 4 w
     ∙ ap (λ (t : List ℕ). t ++ le_bytes 4 (w / 4294967296)) (le-4 w)
     ∙ ap (λ (t : List ℕ). w % 256 ∷ w / 256 % 256 ∷ w / 65536 % 256 ∷ w / 16777216 % 256 ∷ t) (le-4 (w / 4294967296) ∙ rw (e, f, g))
+
+-- eight bytes of a text, read as a number
+part-small : (s : List ℕ) (i k : ℕ) → ((j : ℕ) → Fits w8 (get_or s j 0)) → get_or (take 8 (drop i s)) k 0 < 256
+part-small s i k small = go (dec_lt k 8)
+  where
+    go : Dec (k < 8) → get_or (take 8 (drop i s)) k 0 < 256
+    go (yes h) = rw (get_or-take 8 (drop i s) k 0 h, get_or-drop i s k 0) (small (i + k)).fits
+    go (no h) =
+        let past : length (take 8 (drop i s)) ≤ k = omega (arith, length-take {A = ℕ}) in
+        rw (get_or_past (take 8 (drop i s)) k 0 past) (omega arith)
+
+pub le-eight : (t : List ℕ) (n : ℕ) (s : List ℕ) (i : ℕ) → t ≡ take 8 (drop i s) → i + 8 ≤ length s → ((k : ℕ) → Fits w8 (get_or s k 0)) → n ≡ from_le_bytes w64 t → le_bytes 8 n ≡ take 8 (drop i s)
+le-eight t n s i e h small is =
+    let l : length t ≡ 8 = rw e (omega (arith, length-take {A = ℕ}, length-drop {A = ℕ})) in
+    le-8 n ∙ le_bytes_8 t n l (λ k. rw e (part-small s i k small)) is ∙ e
 
 -- bytes as a number, the lowest first
 unfoldable pub value : List ℕ → ℕ
@@ -146,7 +166,7 @@ le-above (suc v) w a b h =
     rw (suc-add v w, pow-succ' 256 v, e) (le-cons (v + w) (a % 256) (a / 256 + p * b) (omega arith) ∙ ap (λ (t : List ℕ). a % 256 ∷ t) (le-above v w (a / 256) b (omega arith)))
 
 -- one byte n times, as the bytes of a word
-take-replicate : (n m x : ℕ) → n ≤ m → take n (replicate m x) ≡ replicate n x
+pub take-replicate : (n m x : ℕ) → n ≤ m → take n (replicate m x) ≡ replicate n x
 take-replicate zero m x h = refl
 take-replicate (suc n) zero x h = let bad : ⊥ = omega arith in absurd bad
 take-replicate (suc n) (suc m) x h = ap (λ (l : List ℕ). x ∷ l) (take-replicate n m x (omega arith))

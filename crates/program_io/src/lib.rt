@@ -1,69 +1,60 @@
-// What the programs share: hex digits and refusals put into a buffer, a buffer printed, what the system refused told, an input read, and where
+// What the programs share: hex digits and refusals to print, a buffer printed, what the system refused told, an input read, and where
 // the parts of an input end.
 #![tactic(auto)]
 
-ghost use Rattle.std.specs.Prelude.{◌≡◌, true, ◌+◌, ◌<◌, ◌≤◌, length, drop, IfOk};
-ghost use Rattle.output.specs.Wrote.{Wrote, limit};
-ghost use Rattle.text_rules.specs.Escapes.{hex_digit};
+ghost use Rattle.std.specs.Prelude.{◌≡◌, true, ◌+◌, ◌≤◌, length, drop, IfOk, IfSome, Some};
 ghost use Rattle.tape.specs.Answer.{outcome};
 ghost use Rattle.program_io.specs.Shown.{hex_text, refusal_text, answer_text};
-ghost use Rattle.program_io.specs.Framed.{framed, distance};
+ghost use Rattle.program_io.specs.Framed.{framed, FramesTo, distance};
 
 use std::fmt::{Display, InlineText};
-use std::io;
 use std::io::Read;
+use std::{fmt, io};
 use tape::answer::Answer;
 
 // ---- what is printed
 
-fn digit(d: u8) -> u8
-    requires { d < 16 }
-    ensures { result ≡ hex_digit d }
-{
-    if d < 10 {
-        return b'0' + d;
-    }
-    b'a' + (d - 10)
-}
-
 // Every byte as two hex digits.
-pub fn put_hex(buf: &mut [u8], pos: usize, bytes: &[u8]) -> usize
-    requires { pos ≤ limit }
-    ensures { Wrote buf.old buf.new pos result (hex_text bytes.now) }
-{
-    let mut p = pos;
-    let mut i: usize = 0;
-    while i < bytes.len() {
-        let b = bytes[i];
-        p = output::put_two(buf, p, digit(b / 16), digit(b % 16));
-        i += 1;
+#[derive(Clone, Copy)]
+pub struct Hex<'a>(pub &'a [u8]);
+
+impl Display for Hex<'_> {
+    ghost output = { λ h. Some (hex_text h.0.now) };
+
+    fn fmt<W: fmt::Write>(&self, f: &mut fmt::Formatter<W>) -> fmt::Result {
+        for &b in self.0 {
+            write!(f, "{b:02x}")?;
+        }
+        Ok(())
     }
-    p
 }
 
 // `refused`, a blank and the number of a refusal.
-pub fn put_refusal(buf: &mut [u8], pos: usize, number: u8) -> usize
-    requires { pos ≤ limit }
-    ensures { Wrote buf.old buf.new pos result (refusal_text number) }
-{
-    let p = output::put_bytes(buf, pos, b"refused ");
-    text_rules::digits::put_digits(buf, p, number as u64)
+#[derive(Clone, Copy)]
+pub struct Refused(pub u8);
+
+impl Display for Refused {
+    ghost output = { λ r. Some (refusal_text r.0) };
+
+    fn fmt<W: fmt::Write>(&self, f: &mut fmt::Formatter<W>) -> fmt::Result {
+        let number = self.0;
+        write!(f, "refused {number}")
+    }
 }
 
 // What a reader answered: the tape at the start of its buffer in hex, `end`, or the refusal.
-pub fn put_answer(buf: &mut [u8], pos: usize, a: Answer, out: &[u8]) -> usize
-    requires { pos ≤ limit }
-    ensures { Wrote buf.old buf.new pos result (answer_text (outcome a) out.now) }
-{
-    match a {
-        Answer::Count(n) => {
-            if out.len() < n {
-                return put_hex(buf, pos, out);
-            }
-            put_hex(buf, pos, &out[0..n])
+#[derive(Clone, Copy)]
+pub struct Answered<'a>(pub Answer, pub &'a [u8]);
+
+impl Display for Answered<'_> {
+    ghost output = { λ a. Some (answer_text (outcome a.0) a.1.now) };
+
+    fn fmt<W: fmt::Write>(&self, f: &mut fmt::Formatter<W>) -> fmt::Result {
+        match self.0 {
+            Answer::Count(n) => Hex(self.1.get(..n).unwrap_or(self.1)).fmt(f),
+            Answer::End => f.write_str("end"),
+            refused => Refused(tape::answer::number(refused)).fmt(f),
         }
-        Answer::End => output::put_bytes(buf, pos, b"end"),
-        _ => put_refusal(buf, pos, tape::answer::number(a)),
     }
 }
 
@@ -71,10 +62,10 @@ pub fn put_answer(buf: &mut [u8], pos: usize, a: Answer, out: &[u8]) -> usize
 pub fn print(rt: &impl Print, buf: &[u8], n: usize) -> io::Result<bool>
     ensures { IfOk result (λ whole. whole ≡ true → n ≤ length buf.now) }
 {
-    if buf.len() < n {
+    let Some(bytes) = buf.get(..n) else {
         return Ok(false);
-    }
-    rt.write_all(&buf[0..n])?;
+    };
+    rt.write_all(bytes)?;
     Ok(true)
 }
 
@@ -87,10 +78,7 @@ pub fn say(rt: &impl Eprint, sentence: impl Display + Drop) {
 pub fn fail(rt: &impl Eprint, what: impl Display + Drop, error: &io::Error) {
     let said = InlineText::<96>::of(error);
     let said = said.as_str();
-    let why = match said.split_once(" (os error ") {
-        Some((why, _)) => why,
-        None => said,
-    };
+    let why = said.split_once(" (os error ").map_or(said, |(why, _)| why);
     say(rt, format_args!("{what}: {why}"));
 }
 
@@ -101,6 +89,7 @@ pub fn read_full(input: &mut impl Read, buf: &mut [u8]) -> io::Result<usize>
     ensures { IfOk result (λ n. n ≤ length buf.new) }
 {
     let mut count: usize = 0;
+    // A walk: the step is what one read gives.
     while count < buf.len() {
         let n = input.read(&mut buf[count..])?;
         if n == 0 {
@@ -113,22 +102,48 @@ pub fn read_full(input: &mut impl Read, buf: &mut [u8]) -> io::Result<usize>
 
 // ---- where the parts of an input end
 
-// The end of the frame at a place, whose head has so many bytes; the last four of these tell how many bytes stand behind them. The place itself
-// where not all of the frame is there.
-pub fn frame_end(input: &[u8], at: usize, head: usize) -> usize
+// The end of the frame at a place, whose head has so many bytes; the last four of these tell how many bytes stand behind them. None where not all
+// of the frame is there.
+pub fn frame_end(input: &[u8], at: usize, head: usize) -> Option<usize>
     requires at_in_bounds { at ≤ length input.now }
     requires le_head { 4 ≤ head }
-    ensures { (result ≡ framed input.now at head) × (at ≤ result) × (result ≤ length input.now) }
+    ensures end { result ≡ framed input.now at head }
+    ensures within { IfSome result (λ end. (at + head ≤ end) × (end ≤ length input.now)) }
 {
     let left = input.len() - at;
     if left < head {
-        return at;
+        return None;
     }
     let n = tape::u32_at(input, at + (head - 4)) as usize;
     if left - head < n {
-        return at;
+        return None;
     }
-    at + (head + n)
+    Some(at + (head + n))
+}
+
+// Gives the frames of an input to `each`, in order. Whether all of the input is frames that it takes; what stands behind the first that it does not
+// take, or that is not whole, is left.
+pub fn all_frames<F: FnMut(&[u8]) -> io::Result<bool>>(
+    input: &[u8],
+    head: usize,
+    mut each: F,
+) -> io::Result<bool>
+    requires callable { F.IsAlwaysCallable each }
+    requires le_head { 4 ≤ head }
+    ensures { IfOk result (λ whole. whole ≡ true → FramesTo head input.now (length input.now)) }
+{
+    let mut at: usize = 0;
+    // A walk: the step is the frame's length.
+    while at < input.len() {
+        let Some(end) = frame_end(input, at, head) else {
+            return Ok(false);
+        };
+        if !each(&input[at..end])? {
+            return Ok(false);
+        }
+        at = end;
+    }
+    Ok(true)
 }
 
 // The first place of a byte, from a place on; the input's end where there is none.
@@ -136,12 +151,10 @@ pub fn find(input: &[u8], at: usize, x: u8) -> usize
     requires { at ≤ length input.now }
     ensures { (result ≡ at + distance x (drop at input.now)) × (result ≤ length input.now) }
 {
-    let mut i = at;
-    while i < input.len() {
+    for i in at..input.len() {
         if input[i] == x {
             return i;
         }
-        i += 1;
     }
-    i
+    input.len()
 }

@@ -21,7 +21,8 @@ use Rattle.tokens.specs.Token.{word_symbol, bare_symbol, symbol}
 use Rattle.tokens.specs.Steps.{Kept}
 use Rattle.tokens.specs.TokenSteps.{SymbolAt}
 use Rattle.tokens.specs.declared.quoted.Step.{Step}
-use Rattle.tokens.specs.declared.quoted.Step.TheVariants.{Next, Bad}
+use Rattle.std.specs.Prelude.{Some, None}
+use Rattle.std.specs.Prelude as std
 use Rattle.tokens.specs.declared.values.SymbolRead.TheVariants as S
 use Rattle.tape.specs.Tree.{encode_sym, encode_syms, encode_name, encode_notes, encode_head}
 use Rattle.tape.specs.declared.Frame.{Frame}
@@ -29,7 +30,6 @@ use Rattle.tape.specs.declared.Frame.TheVariants.{Top, List as ListF, Sexp, Stru
 use Rattle.reader.specs.Grammar.{skip, note, notes, field, name, head, free}
 use Rattle.reader.specs.Steps.{Laid, Read, Counted, MarksAt, note_count, free_by}
 use Rattle.reader.specs.declared.heads.Run.{Run}
-use Rattle.reader.specs.declared.heads.Run.TheVariants.{Whole, Broken}
 use Rattle.tokens.proofs.Keeping.{kept_before}
 use Rattle.tokens.proofs.SymbolSteps.{bare_none, no_symbol, is_bare}
 use Rattle.reader.proofs.Laying.{laid, laid_none, laid_then_kept, laid_then, laid-before, laid-sized}
@@ -63,11 +63,11 @@ module _ (is_raw : ℕ → Bool) where
   -- ---- a symbol's node
 
   module _ {text : List ℕ} {at p s : ℕ} {b b1 b2 : List ℕ} where
-    pub symbol-text : {a e z : ℕ} → s ≡ min (p + 5) limit → SymbolAt text (suc at) b b1 s (symbol is_raw (drop at text)) (S.Text a e) → Wrote b1 b2 p z (6 ∷ le_bytes 4 (e - s)) → Read encode_sym text (suc at) b b2 p (symbol is_raw (drop at text)) (Next a e)
+    pub symbol-text : {a e z : ℕ} → s ≡ min (p + 5) limit → SymbolAt text (suc at) b b1 s (symbol is_raw (drop at text)) (Some (S.Text a e)) → Wrote b1 b2 p z (6 ∷ le_bytes 4 (e - s)) → Read encode_sym text (suc at) b b2 p (symbol is_raw (drop at text)) (Some record { at = a; pos = e })
     unfolding encode_sym
     symbol-text m k w = let g = k.told in (Sym.text g.0, g.1, g.2, g.3, laid-sized 6 m (laid g.4) w)
 
-    pub symbol-id : {a n q : ℕ} → SymbolAt text (suc at) b b1 s (symbol is_raw (drop at text)) (S.Id n a) → Wrote b1 b2 p q (7 ∷ le_bytes 4 n) → Read encode_sym text (suc at) b b2 p (symbol is_raw (drop at text)) (Next a q)
+    pub symbol-id : {a n q : ℕ} → SymbolAt text (suc at) b b1 s (symbol is_raw (drop at text)) (Some (S.Id n a)) → Wrote b1 b2 p q (7 ∷ le_bytes 4 n) → Read encode_sym text (suc at) b b2 p (symbol is_raw (drop at text)) (Some record { at = a; pos = q })
     unfolding encode_sym
     symbol-id {n = n} {q = q} k w =
         let g = k.told in
@@ -131,41 +131,41 @@ module _ (is_raw : ℕ → Bool) where
   unfolding notes
   notes_more n t u s o h e = rw (h, e)
 
-  marks_kept : {text : List ℕ} {at n p m : ℕ} {b : List ℕ} → note is_raw (drop at text) ≡ none → at ≤ length text → p ≤ limit → MarksAt is_raw text at n b b p m (Whole at p m)
+  marks_kept : {text : List ℕ} {at n p m : ℕ} {b : List ℕ} → note is_raw (drop at text) ≡ none → at ≤ length text → p ≤ limit → MarksAt is_raw text at n b b p m (Some record { at = at; pos = p; count = m })
   unfolding encode_syms
   marks_kept {text} {at} {n} {p} {m} {b} h hi lp = record { told = ([], notes-end n (drop at text) h, omega arith, omega arith, hi, laid_none b p lp); few = omega arith }
 
-  pub marks_end : {text : List ℕ} {at n p m : ℕ} {b b' : List ℕ} → b' ≡ b → note is_raw (drop at text) ≡ none → at ≤ length text → p ≤ limit → MarksAt is_raw text at n b b' p m (Whole at p m)
-  marks_end {text} {at} {n} {p} {m} {b} {b'} e h hi lp = subst (λ (z : List ℕ). MarksAt is_raw text at n b z p m (Whole at p m)) (sym e) (marks_kept h hi lp)
+  pub marks_end : {text : List ℕ} {at n p m : ℕ} {b b' : List ℕ} → b' ≡ b → note is_raw (drop at text) ≡ none → at ≤ length text → p ≤ limit → MarksAt is_raw text at n b b' p m (Some record { at = at; pos = p; count = m })
+  marks_end {text} {at} {n} {p} {m} {b} {b'} e h hi lp = subst (λ (z : List ℕ). MarksAt is_raw text at n b z p m (Some record { at = at; pos = p; count = m })) (sym e) (marks_kept h hi lp)
 
-  pub marks_over : {text : List ℕ} {at n p m : ℕ} {b b' u : List ℕ} {s : Sym} → n ≡ 0 → note is_raw (drop at text) ≡ some (s, u) → Kept p b b' → MarksAt is_raw text at n b b' p m Broken
+  pub marks_over : {text : List ℕ} {at n p m : ℕ} {b b' u : List ℕ} {s : Sym} → n ≡ 0 → note is_raw (drop at text) ≡ some (s, u) → Kept p b b' → MarksAt is_raw text at n b b' p m None
   marks_over {text} {at} {n} {p} {m} {u = u} {s = s} z h lb = record { told = (ap (λ (j : ℕ). notes is_raw j (drop at text)) z ∙ notes_over (drop at text) u s h, lb); few = tt }
 
-  pub marks_more : {text : List ℕ} {at n p q m : ℕ} {b b1 b' : List ℕ} (next n' : ℕ) (s : Sym) (r : Run) → n ≡ suc n' → note is_raw (drop at text) ≡ some (s, drop next text) → at < next → p ≤ limit → Laid b b1 p q (encode_sym s)
+  pub marks_more : {text : List ℕ} {at n p q m : ℕ} {b b1 b' : List ℕ} (next n' : ℕ) (s : Sym) (r : std.Option Run) → n ≡ suc n' → note is_raw (drop at text) ≡ some (s, drop next text) → at < next → p ≤ limit → Laid b b1 p q (encode_sym s)
       → MarksAt is_raw text next n' b1 b' q (m + 1) r → MarksAt is_raw text at n b b' p m r
   unfolding encode_syms
-  marks_more {text} {at} {n} {p} {q} {m} next n' s (Whole a e c) z h lo lp w k = let g = k.told in record {
-    told = (s ∷ g.0, ap (λ (j : ℕ). notes is_raw j (drop at text)) z ∙ notes_more n' (drop at text) (drop next text) s (some (g.0, drop a text)) h g.1, omega (arith, g.2), omega (arith, g.3), g.4, laid_then lp w g.5);
+  marks_more {text} {at} {n} {p} {q} {m} next n' s (Some r) z h lo lp w k = let g = k.told in record {
+    told = (s ∷ g.0, ap (λ (j : ℕ). notes is_raw j (drop at text)) z ∙ notes_more n' (drop at text) (drop next text) s (some (g.0, drop r.at text)) h g.1, omega (arith, g.2), omega (arith, g.3), g.4, laid_then lp w g.5);
     few = omega (arith, k.few);
   }
-  marks_more {text} {at} {n} {p} {q} {m} next n' s Broken z h lo lp w k = let g = k.told in record {
+  marks_more {text} {at} {n} {p} {q} {m} next n' s None z h lo lp w k = let g = k.told in record {
     told = (ap (λ (j : ℕ). notes is_raw j (drop at text)) z ∙ notes_more n' (drop at text) (drop next text) s none h g.0, laid_then_kept lp w g.1);
     few = tt;
   }
 
   -- the annotations, with their number before them
-  notes_kept : (text : List ℕ) (at p : ℕ) (b : List ℕ) → note is_raw (drop at text) ≡ none → at ≤ length text → p ≤ limit → Counted encode_notes length text at b b p 0 (notes is_raw 16 (drop at text)) (Whole at p 0)
+  notes_kept : (text : List ℕ) (at p : ℕ) (b : List ℕ) → note is_raw (drop at text) ≡ none → at ≤ length text → p ≤ limit → Counted encode_notes length text at b b p 0 (notes is_raw 16 (drop at text)) (Some record { at = at; pos = p; count = 0 })
   unfolding encode_notes
   notes_kept text at p b h hi lp = ([], notes-end 16 (drop at text) h, omega arith, omega arith, hi, laid_none b p lp)
 
-  pub notes_no : (text : List ℕ) (at p : ℕ) (b b' : List ℕ) → b' ≡ b → note is_raw (drop at text) ≡ none → at ≤ length text → p ≤ limit → Counted encode_notes length text at b b' p 0 (notes is_raw 16 (drop at text)) (Whole at p 0)
-  notes_no text at p b b' e h hi lp = subst (λ (z : List ℕ). Counted encode_notes length text at b z p 0 (notes is_raw 16 (drop at text)) (Whole at p 0)) (sym e) (notes_kept text at p b h hi lp)
+  pub notes_no : (text : List ℕ) (at p : ℕ) (b b' : List ℕ) → b' ≡ b → note is_raw (drop at text) ≡ none → at ≤ length text → p ≤ limit → Counted encode_notes length text at b b' p 0 (notes is_raw 16 (drop at text)) (Some record { at = at; pos = p; count = 0 })
+  notes_no text at p b b' e h hi lp = subst (λ (z : List ℕ). Counted encode_notes length text at b z p 0 (notes is_raw 16 (drop at text)) (Some record { at = at; pos = p; count = 0 })) (sym e) (notes_kept text at p b h hi lp)
 
   module _ (text : List ℕ) (at a p : ℕ) {q s : ℕ} {b b1 b2 : List ℕ} (x : Sym) (first : note is_raw (drop at text) ≡ some (x, drop a text)) (lo : at < a) (w : Laid b b1 s q (encode_sym x)) where
-    pub notes-broken : p ≤ s → s ≤ limit → MarksAt is_raw text a 15 b1 b2 q 0 Broken → Counted encode_notes length text at b b2 p 0 (notes is_raw 16 (drop at text)) Broken
+    pub notes-broken : p ≤ s → s ≤ limit → MarksAt is_raw text a 15 b1 b2 q 0 None → Counted encode_notes length text at b b2 p 0 (notes is_raw 16 (drop at text)) None
     notes-broken u l k = let g = k.told in (notes_more 15 (drop at text) (drop a text) x none first g.0, kept_before (omega arith) (laid_then_kept l w g.1))
 
-    pub notes-some : {b3 : List ℕ} {z e c y : ℕ} → s ≡ min (p + 2) limit → MarksAt is_raw text a 15 b1 b2 q 0 (Whole z e c) → Wrote b2 b3 p y (13 ∷ (c + 1) ∷ []) → Counted encode_notes length text at b b3 p 0 (notes is_raw 16 (drop at text)) (Whole z e (c + 1))
+    pub notes-some : {b3 : List ℕ} {z e c y : ℕ} → s ≡ min (p + 2) limit → MarksAt is_raw text a 15 b1 b2 q 0 (Some record { at = z; pos = e; count = c }) → Wrote b2 b3 p y (13 ∷ (c + 1) ∷ []) → Counted encode_notes length text at b b3 p 0 (notes is_raw 16 (drop at text)) (Some record { at = z; pos = e; count = c + 1 })
     unfolding encode_notes encode_syms
     notes-some {b3} {z} {e} {c} {y} m k v =
         let g = k.told in
@@ -187,14 +187,22 @@ module _ (is_raw : ℕ → Bool) where
   unfolding field
   field_here t u v x y h w e z = rw (h, ← w, e, z)
 
-  pub name_no : (text : List ℕ) (at p : ℕ) (b : List ℕ) (k : Frame) → name is_raw k (drop at text) ≡ some (none, drop at text) → at ≤ length text → p ≤ limit → Read encode_name text at b b p (name is_raw k (drop at text)) (Next at p)
+  -- only a struct's values have names
+  pub nameless : (k : Frame) (t : List ℕ) → (k ≡ Struct → ⊥) → name is_raw k t ≡ some (none, t)
+  unfolding name
+  nameless Top t n = refl
+  nameless ListF t n = refl
+  nameless Sexp t n = refl
+  nameless Struct t n = absurd (n refl)
+
+  pub name_no : (text : List ℕ) (at p : ℕ) (b : List ℕ) (k : Frame) → name is_raw k (drop at text) ≡ some (none, drop at text) → at ≤ length text → p ≤ limit → Read encode_name text at b b p (name is_raw k (drop at text)) (Some record { at = at; pos = p })
   unfolding encode_name
   name_no text at p b k h hi l = (none, h, omega arith, hi, laid_none b p l)
 
-  pub name-field : (text : List ℕ) (at p : ℕ) (b b' : List ℕ) (r : Step) → Read encode_sym text (suc at) b b' p (field is_raw (drop at text)) r → Read encode_name text at b b' p (name is_raw Struct (drop at text)) r
+  pub name-field : (text : List ℕ) (at p : ℕ) (b b' : List ℕ) (r : std.Option Step) → Read encode_sym text (suc at) b b' p (field is_raw (drop at text)) r → Read encode_name text at b b' p (name is_raw Struct (drop at text)) r
   unfolding name encode_name
-  name-field text at p b b' (Next a e) h = (some h.0, rw h.1, omega (arith, h.2), h.3, h.4)
-  name-field text at p b b' Bad h = (rw h.0, h.1)
+  name-field text at p b b' (Some s) h = (some h.0, rw h.1, omega (arith, h.2), h.3, h.4)
+  name-field text at p b b' None h = (rw h.0, h.1)
 
   -- ---- a head
 
@@ -206,12 +214,12 @@ module _ (is_raw : ℕ → Bool) where
   unfolding head
   head_then t u k x o h e = rw (h, e)
 
-  pub head-notes : (text : List ℕ) (at p q : ℕ) (b b1 b' : List ℕ) (a : ℕ) (k : Frame) (r : Run) → p ≤ limit → Read encode_name text at b b1 p (name is_raw k (drop at text)) (Next a q) → Counted encode_notes length text a b1 b' q 0 (notes is_raw 16 (drop a text)) r
+  pub head-notes : (text : List ℕ) (at p q : ℕ) (b b1 b' : List ℕ) (a : ℕ) (k : Frame) (r : std.Option Run) → p ≤ limit → Read encode_name text at b b1 p (name is_raw k (drop at text)) (Some record { at = a; pos = q }) → Counted encode_notes length text a b1 b' q 0 (notes is_raw 16 (drop a text)) r
       → Counted encode_head note_count text at b b' p 0 (head is_raw k (drop at text)) r
   unfolding encode_head
-  head-notes text at p q b b1 b' a k (Whole z e c) lp m g =
-      ((m.0, g.0), head_then (drop at text) (drop a text) k m.0 (some (g.0, drop z text)) m.1 g.1, g.2, omega (arith, m.2, g.3), g.4, laid_then lp m.4 g.5)
-  head-notes text at p q b b1 b' a k Broken lp m g = (head_then (drop at text) (drop a text) k m.0 none m.1 g.0, laid_then_kept lp m.4 g.1)
+  head-notes text at p q b b1 b' a k (Some r) lp m g =
+      ((m.0, g.0), head_then (drop at text) (drop a text) k m.0 (some (g.0, drop r.at text)) m.1 g.1, g.2, omega (arith, m.2, g.3), g.4, laid_then lp m.4 g.5)
+  head-notes text at p q b b1 b' a k None lp m g = (head_then (drop at text) (drop a text) k m.0 none m.1 g.0, laid_then_kept lp m.4 g.1)
 
 -- where a marker may stand, by the number of annotations
 pub free-count : (k : Frame) (ss : List Sym) → free k ss ≡ free_by k (length ss)

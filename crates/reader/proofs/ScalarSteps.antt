@@ -25,7 +25,8 @@ use Rattle.tokens.specs.Blob.{blob}
 use Rattle.tokens.specs.Steps.{Copies}
 use Rattle.tokens.specs.Token.{symbol, null_behind}
 use Rattle.tokens.specs.declared.quoted.Step.{Step}
-use Rattle.tokens.specs.declared.quoted.Step.TheVariants.{Next, Bad}
+use Rattle.std.specs.Prelude.{Some, None}
+use Rattle.std.specs.Prelude as std
 use Rattle.tokens.proofs.TokensLaws.{word_ahead}
 use Rattle.numbers.specs.Numeral.{Numeral, numeral}
 use Rattle.numbers.specs.TimestampRead.{timestamp}
@@ -42,21 +43,21 @@ use Rattle.reader.proofs.Laying.{laid, laid-sized}
 pub taken_none : {A : Type 0} {o : Option (A × List ℕ)} (f : A → Node) → o ≡ none → taken f o ≡ none
 taken_none f e = rw e
 
-pub read_some : {A : Type 0} {text : List ℕ} {lo e p q : ℕ} {o : Option (A × List ℕ)} {b b' : List ℕ} (f : A → Node) (x : A) → Reads text lo o (some (x, e)) → Wrote b b' p q (encode (f x)) → Read encode text lo b b' p (taken f o) (Next e q)
+pub read_some : {A : Type 0} {text : List ℕ} {lo e p q : ℕ} {o : Option (A × List ℕ)} {b b' : List ℕ} (f : A → Node) (x : A) → Reads text lo o (some (x, e)) → Wrote b b' p q (encode (f x)) → Read encode text lo b b' p (taken f o) (Some record { at = e; pos = q })
 read_some f x r w = (f x, rw r.is, r.place.0, r.place.1, laid w)
 
 -- text that was written before its length
 copied : {text : List ℕ} {lo s p a e z : ℕ} {o : Option (List ℕ × List ℕ)} {b b1 b2 : List ℕ} (k : ℕ) (f : List ℕ → Node) → ((x : List ℕ) → encode (f x) ≡ k ∷ sized x)
-    → s ≡ min (p + 5) limit → Copies text lo b b1 s o (Next a e) → Wrote b1 b2 p z (k ∷ le_bytes 4 (e - s)) → Read encode text lo b b2 p (taken f o) (Next a e)
+    → s ≡ min (p + 5) limit → Copies text lo b b1 s o (Some record { at = a; pos = e }) → Wrote b1 b2 p z (k ∷ le_bytes 4 (e - s)) → Read encode text lo b b2 p (taken f o) (Some record { at = a; pos = e })
 copied {p = p} {e = e} {b = b} {b2 = b2} k f same m c w =
     let g = c.told in
     (f g.0, rw g.1, g.2, g.3, subst (Laid b b2 p e) (sym (same g.0)) (laid-sized k m (laid g.4) w))
 
-pub copied_clob : {text : List ℕ} {lo s p a e z : ℕ} {o : Option (List ℕ × List ℕ)} {b b1 b2 : List ℕ} → s ≡ min (p + 5) limit → Copies text lo b b1 s o (Next a e) → Wrote b1 b2 p z (9 ∷ le_bytes 4 (e - s)) → Read encode text lo b b2 p (taken clob_node o) (Next a e)
+pub copied_clob : {text : List ℕ} {lo s p a e z : ℕ} {o : Option (List ℕ × List ℕ)} {b b1 b2 : List ℕ} → s ≡ min (p + 5) limit → Copies text lo b b1 s o (Some record { at = a; pos = e }) → Wrote b1 b2 p z (9 ∷ le_bytes 4 (e - s)) → Read encode text lo b b2 p (taken clob_node o) (Some record { at = a; pos = e })
 unfolding encode encode_scalar
 copied_clob m c w = copied 9 clob_node (λ x. refl) m c w
 
-pub copied_blob : {text : List ℕ} {lo s p a e z : ℕ} {o : Option (List ℕ × List ℕ)} {b b1 b2 : List ℕ} → s ≡ min (p + 5) limit → Copies text lo b b1 s o (Next a e) → Wrote b1 b2 p z (15 ∷ le_bytes 4 (e - s)) → Read encode text lo b b2 p (taken blob_node o) (Next a e)
+pub copied_blob : {text : List ℕ} {lo s p a e z : ℕ} {o : Option (List ℕ × List ℕ)} {b b1 b2 : List ℕ} → s ≡ min (p + 5) limit → Copies text lo b b1 s o (Some record { at = a; pos = e }) → Wrote b1 b2 p z (15 ∷ le_bytes 4 (e - s)) → Read encode text lo b b2 p (taken blob_node o) (Some record { at = a; pos = e })
 unfolding encode encode_scalar
 copied_blob m c w = copied 15 blob_node (λ x. refl) m c w
 
@@ -94,8 +95,8 @@ module _ (is_raw : ℕ → Bool) where
     pub string-none : quoted is_raw (byte "\"") (drop (at + 1) text) ≡ none → taken string_node (string is_raw (drop at text)) ≡ none
     string-none e = taken_none string_node (string-is ∙ e)
 
-    pub copied_string : {s p a e z : ℕ} {b b1 b2 : List ℕ} → s ≡ min (p + 5) limit → Copies text (suc (at + 1)) b b1 s (quoted is_raw (byte "\"") (drop (at + 1) text)) (Next a e) → Wrote b1 b2 p z (8 ∷ le_bytes 4 (e - s))
-        → Read encode text (suc at) b b2 p (taken string_node (string is_raw (drop at text))) (Next a e)
+    pub copied_string : {s p a e z : ℕ} {b b1 b2 : List ℕ} → s ≡ min (p + 5) limit → Copies text (suc (at + 1)) b b1 s (quoted is_raw (byte "\"") (drop (at + 1) text)) (Some record { at = a; pos = e }) → Wrote b1 b2 p z (8 ∷ le_bytes 4 (e - s))
+        → Read encode text (suc at) b b2 p (taken string_node (string is_raw (drop at text))) (Some record { at = a; pos = e })
     unfolding encode encode_scalar
     copied_string m c w =
         let r = copied 8 string_node (λ x. refl) m c w in
@@ -125,19 +126,19 @@ module _ {text : List ℕ} {at : ℕ} {w : Word} (a : WordAt text at w) (m : Boo
   word_none k e h = words-is m (drop at text) k (sym a.kind ∙ e) ∙ h
 
   pub word_here : {p q : ℕ} {b b' : List ℕ} (k : Kind) (n : Node) → w.kind ≡ k → refused k ≡ false → by_kind m k (drop at text) ≡ some (n, behind_word (drop at text)) → Wrote b b' p q (encode n)
-      → Read encode text (suc at) b b' p (words m (drop at text)) (Next w.end q)
+      → Read encode text (suc at) b b' p (words m (drop at text)) (Some record { at = w.end; pos = q })
   word_here k n e z h v =
       (n, words-is m (drop at text) k (sym a.kind ∙ e) ∙ h ∙ ap (λ (l : List ℕ). some (n, l)) (sym a.rest), read_ahead k e z, a.inside, laid v)
 
-  pub word-null : (p : ℕ) (b b' : List ℕ) (r : Step) → w.kind ≡ Null → Read encode text w.end b b' p (taken null_node (null_behind (drop w.end text))) r → Read encode text (suc at) b b' p (words m (drop at text)) r
+  pub word-null : (p : ℕ) (b b' : List ℕ) (r : std.Option Step) → w.kind ≡ Null → Read encode text w.end b b' p (taken null_node (null_behind (drop w.end text))) r → Read encode text (suc at) b b' p (words m (drop at text)) r
   word-null p b b' r e h = go r h
     where
       is : words m (drop at text) ≡ taken null_node (null_behind (drop w.end text))
       is = words-is m (drop at text) Null (sym a.kind ∙ e) ∙ ap (λ (t : List ℕ). taken null_node (null_behind t)) (sym a.rest)
 
-      go : (s : Step) → Read encode text w.end b b' p (taken null_node (null_behind (drop w.end text))) s → Read encode text (suc at) b b' p (words m (drop at text)) s
-      go (Next x y) g = (g.0, is ∙ g.1, omega (arith, read_ahead Null e refl, g.2), g.3, g.4)
-      go Bad g = (is ∙ g.0, g.1)
+      go : (s : std.Option Step) → Read encode text w.end b b' p (taken null_node (null_behind (drop w.end text))) s → Read encode text (suc at) b b' p (words m (drop at text)) s
+      go (Some s) g = (g.0, is ∙ g.1, omega (arith, read_ahead Null e refl, g.2), g.3, g.4)
+      go None g = (is ∙ g.0, g.1)
 
 -- ---- numbers
 
@@ -154,7 +155,7 @@ untimed_other t e = rw e
 
 -- an int or a decimal without `e` behind it is no float's beginning
 pub untimed_numeral : {text : List ℕ} {at e p q : ℕ} {b b' : List ℕ} (v : Numeral) → Reads text (suc at) (numeral (drop at text)) (some (v, e)) → starts (byte "e") (drop e text) ≡ false → Wrote b b' p q (encode (numeral_node v))
-    → Read encode text (suc at) b b' p (untimed_number (drop at text)) (Next e q)
+    → Read encode text (suc at) b b' p (untimed_number (drop at text)) (Some record { at = e; pos = q })
 untimed_numeral {text} {at} {e} v r h w =
     let t = drop at text in
     (numeral_node v, untimed_other t (numeral-float t v (drop e text) r.is h) ∙ rw r.is, r.place.0, r.place.1, laid w)
@@ -186,10 +187,10 @@ module _ (is_raw : ℕ → Bool) where
       unfolding scalar
       scalar-symbol h = rw (byte_at text at i, ne_eqb _ _ s, eq-eqb _ _ h)
 
-      pub scalar-quoted : (p : ℕ) (b b' : List ℕ) (r : Step) → get_or text at 0 ≡ byte "'" → Read encode_sym text (suc at) b b' p (symbol is_raw (drop at text)) r → Read encode text (suc at) b b' p (scalar is_raw m (drop at text)) r
+      pub scalar-quoted : (p : ℕ) (b b' : List ℕ) (r : std.Option Step) → get_or text at 0 ≡ byte "'" → Read encode_sym text (suc at) b b' p (symbol is_raw (drop at text)) r → Read encode text (suc at) b b' p (scalar is_raw m (drop at text)) r
       unfolding encode encode_scalar
-      scalar-quoted p b b' (Next a e) h g = (Node.scalar (Scalar.symbol g.0), scalar-symbol h ∙ rw g.1, g.2, g.3, g.4)
-      scalar-quoted p b b' Bad h g = (scalar-symbol h ∙ rw g.0, g.1)
+      scalar-quoted p b b' (Some s) h g = (Node.scalar (Scalar.symbol g.0), scalar-symbol h ∙ rw g.1, g.2, g.3, g.4)
+      scalar-quoted p b b' None h g = (scalar-symbol h ∙ rw g.0, g.1)
 
       module _ (q : get_or text at 0 ≡ byte "'" → ⊥) where
         pub scalar-braces : get_or text at 0 ≡ byte "{" → scalar is_raw m (drop at text) ≡ braces (drop at text)

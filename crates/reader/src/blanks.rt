@@ -4,32 +4,22 @@ ghost use Rattle.text_rules.specs.Texts.{blank, strip};
 ghost use Rattle.tape.specs.Tree.{tag};
 ghost use Rattle.tape.specs.declared.Frame.TheVariants.{Top, Sexp};
 ghost use Rattle.reader.specs.Grammar.{skip, closes, comma, gap, opens};
-ghost use Rattle.reader.specs.Steps.{Skipped, Reaches, opener_is};
+ghost use Rattle.text_rules.specs.Reading.{found};
+ghost use Rattle.reader.specs.Steps.{Skipped, Reaches};
 
-use tape::{Frame, Place};
+use tape::Frame;
 use text_rules::texts::stands;
 
-// A bracket that opens a frame, or something else.
-#[derive(Clone, Copy)]
-pub enum Opener {
-    Opens(Frame),
-    Other,
-}
-
 // Space, tab, LF, 11, 12, CR.
+#[tactic(auto, using(std::proofs::lemmas::Bool::Decides::nat_tests), unfolding(text_rules::specs::Texts::blank))]
 fn is_blank(b: u8) -> bool
     ensures { result ≡ blank b }
 {
+    // asked for first, as most bytes are past the space: with the pattern alone reading takes 2 % more instructions
     if b' ' < b {
         return false;
     }
-    if b == b' ' {
-        return true;
-    }
-    if b < 9 {
-        return false;
-    }
-    b <= 13
+    matches!(b, b' ' | 9..=13)
 }
 
 // The first place at or after `from` that holds no blank.
@@ -37,6 +27,7 @@ pub fn skip_blanks(text: &[u8], from: usize) -> usize
     requires { from ≤ length text.now }
     ensures { Skipped text.now from result }
 {
+    // A `for` here gives 6 % more taken branches in reading: its end is another value than the place where it stops.
     let mut i = from;
     while i < text.len() {
         if !is_blank(text[i]) {
@@ -48,28 +39,24 @@ pub fn skip_blanks(text: &[u8], from: usize) -> usize
 }
 
 // The place behind the byte b, if it stands at `at`.
-pub fn mark_at(text: &[u8], at: usize, b: u8) -> Place
+pub fn mark_at(text: &[u8], at: usize, b: u8) -> Option<usize>
     requires { at ≤ length text.now }
     ensures { Reaches text.now at (strip (b ∷ []) (drop at text.now)) result }
 {
     if stands(text, at, b) {
-        return Place::At(at + 1);
+        Some(at + 1)
+    } else {
+        None
     }
-    Place::Bad
 }
 
 // The place behind the end of a sequence in `frame`, if it stands at `at`.
-pub fn close_at(text: &[u8], at: usize, frame: Frame) -> Place
+pub fn close_at(text: &[u8], at: usize, frame: Frame) -> Option<usize>
     requires { at ≤ length text.now }
     ensures { Reaches text.now at (closes frame (drop at text.now)) result }
 {
     match frame {
-        Frame::Top => {
-            if at == text.len() {
-                return Place::At(at);
-            }
-            Place::Bad
-        }
+        Frame::Top => { if at == text.len() { Some(at) } else { None } }
         Frame::List => mark_at(text, at, b']'),
         Frame::Sexp => mark_at(text, at, b')'),
         Frame::Struct => mark_at(text, at, b'}'),
@@ -77,54 +64,47 @@ pub fn close_at(text: &[u8], at: usize, frame: Frame) -> Place
 }
 
 // The place behind the comma, or at the end mark e, that stands at `at` behind blanks.
-fn comma_at(text: &[u8], at: usize, e: u8) -> Place
+fn comma_at(text: &[u8], at: usize, e: u8) -> Option<usize>
     requires { at ≤ length text.now }
     ensures { Reaches text.now at (comma e (skip (drop at text.now))) result }
 {
     let a = skip_blanks(text, at);
     if stands(text, a, b',') {
-        return Place::At(a + 1);
+        return Some(a + 1);
     }
     if stands(text, a, e) {
-        return Place::At(a);
+        return Some(a);
     }
-    Place::Bad
+    None
 }
 
 // A blank, or the end of a sexp, at `at`.
-fn sexp_gap_at(text: &[u8], at: usize) -> Place
+fn sexp_gap_at(text: &[u8], at: usize) -> Option<usize>
     requires { at ≤ length text.now }
     ensures { Reaches text.now at (gap Sexp (drop at text.now)) result }
 {
     if at == text.len() {
-        return Place::Bad;
+        return None;
     }
-    let b = text[at];
-    if b == b')' {
-        return Place::At(at);
+    match text[at] {
+        b')' => Some(at),
+        b => { if is_blank(b) { Some(at) } else { None } }
     }
-    if is_blank(b) {
-        return Place::At(at);
-    }
-    Place::Bad
 }
 
 // A blank, or the end of the text, at `at`.
-fn top_gap_at(text: &[u8], at: usize) -> Place
+fn top_gap_at(text: &[u8], at: usize) -> Option<usize>
     requires { at ≤ length text.now }
     ensures { Reaches text.now at (gap Top (drop at text.now)) result }
 {
-    if at == text.len() {
-        return Place::At(at);
+    if at == text.len() || is_blank(text[at]) {
+        return Some(at);
     }
-    if is_blank(text[at]) {
-        return Place::At(at);
-    }
-    Place::Bad
+    None
 }
 
 // The place at which a sequence goes on behind a child that ends at `at`, if it may.
-pub fn gap_at(text: &[u8], at: usize, frame: Frame) -> Place
+pub fn gap_at(text: &[u8], at: usize, frame: Frame) -> Option<usize>
     requires { at ≤ length text.now }
     ensures { Reaches text.now at (gap frame (drop at text.now)) result }
 {
@@ -137,27 +117,19 @@ pub fn gap_at(text: &[u8], at: usize, frame: Frame) -> Place
 }
 
 // The frame that a bracket at `at` opens; `{{` opens none.
-pub fn opener_at(text: &[u8], at: usize) -> Opener
+pub fn opener_at(text: &[u8], at: usize) -> Option<Frame>
     requires { at ≤ length text.now }
-    ensures { opener_is (opens (drop at text.now)) result }
+    ensures { found result ≡ opens (drop at text.now) }
 {
     if at == text.len() {
-        return Opener::Other;
+        return None;
     }
-    let b = text[at];
-    if b == b'[' {
-        return Opener::Opens(Frame::List);
+    match text[at] {
+        b'[' => Some(Frame::List),
+        b'(' => Some(Frame::Sexp),
+        b'{' if !stands(text, at + 1, b'{') => Some(Frame::Struct),
+        _ => None,
     }
-    if b == b'(' {
-        return Opener::Opens(Frame::Sexp);
-    }
-    if b != b'{' {
-        return Opener::Other;
-    }
-    if stands(text, at + 1, b'{') {
-        return Opener::Other;
-    }
-    Opener::Opens(Frame::Struct)
 }
 
 // The kind byte of a container.

@@ -14,35 +14,34 @@ ghost use Rattle.tape.specs.Answer.{outcome};
 ghost use Rattle.reader.specs.Outcome.{answer, leaves};
 ghost use Rattle.reader.specs.Steps.{ReadTape};
 
-use heads::Run;
 use tape::Frame;
 use tape::answer::Answer;
 
-// The length of a whole tape and the number of its top-level nodes, or none.
+// The length of a whole tape, and the number of its top-level nodes.
 #[derive(Clone, Copy)]
-pub enum Made {
-    Length(usize, usize),
-    Nothing,
+pub struct Made {
+    pub length: usize,
+    pub count: usize,
 }
 
 // Reads a whole text, by 01's raw rule if `old`, and writes its tape at the buffer's start: the nodes, their length and their number.
-pub fn write_tape(text: &[u8], old: bool, buf: &mut [u8]) -> Made
+pub fn write_tape(text: &[u8], old: bool, buf: &mut [u8]) -> Option<Made>
     ensures { ReadTape (raw_rule old) text.now buf.old buf.new result }
 {
-    let Run::Whole { at: _, pos, count } = values::sequence(text, 0, old, Frame::Top, 64, buf, 0)
-    else {
-        return Made::Nothing;
-    };
-    let p = output::put_le(buf, pos, numbers::int::far(pos), 4);
-    let q = output::put_le(buf, p, numbers::int::far(count), 4);
-    Made::Length(q, count)
+    let run = values::sequence(text, 0, old, Frame::Top, 64, buf, 0)?;
+    let p = output::put_le(buf, run.pos, numbers::int::far(run.pos), 4);
+    let q = output::put_le(buf, p, numbers::int::far(run.count), 4);
+    Some(Made {
+        length: q,
+        count: run.count,
+    })
 }
 
 // How much of a buffer of n bytes a tape may fill.
 pub fn limit_of(n: usize) -> usize
     ensures { result ≡ min n 1048576 }
 {
-    if 1048576 < n { 1048576 } else { n }
+    n.min(1048576)
 }
 
 // Reads a text and lays its tape at the buffer's start: the tape's length, or refusal 8 or 9, which zero the buffer.
@@ -51,13 +50,13 @@ pub fn read_text(text: &[u8], out: &mut [u8]) -> Answer
     ensures buffer { out.new ≡ leaves text.now out.old }
 {
     let limit = limit_of(out.len());
-    let Made::Length(n, _) = write_tape(text, false, &mut out[..limit]) else {
+    let Some(made) = write_tape(text, false, &mut out[..limit]) else {
         output::zero(out);
         return Answer::OutsideGrammar;
     };
-    if limit < n {
+    if limit < made.length {
         output::zero(out);
         return Answer::TapeTooLong;
     }
-    Answer::Count(n)
+    Answer::Count(made.length)
 }

@@ -22,7 +22,7 @@ fn header_at(buf: &mut [u8], pos: usize, kind: u8, n: usize)
     ensures { buf.new ≡ sets buf.old pos (kind ∷ le_bytes 4 n) }
 {
     buf[pos] = kind;
-    output::store_4(buf, pos + 1, int::far(n));
+    output::store::<4>(buf, pos + 1, int::far(n));
 }
 
 // A kind byte and four bytes of a number: an identifier, or the length of what stands behind them.
@@ -46,7 +46,7 @@ fn wide_at(buf: &mut [u8], pos: usize, kind: u8, n: u64)
     ensures { buf.new ≡ sets buf.old pos (kind ∷ le_bytes 8 n) }
 {
     buf[pos] = kind;
-    output::store_8(buf, pos + 1, n);
+    output::store::<8>(buf, pos + 1, n);
 }
 
 // A kind byte and eight bytes of a number.

@@ -12,220 +12,204 @@ ghost use Rattle.reader.specs.Grammar.{taken, words, numeral_node, numbers, nume
 ghost use Rattle.reader.specs.Steps.{Read, string_node, clob_node, blob_node, null_node, untimed_number};
 
 use crate::{heads, nodes};
-use floats::float::FloatRead;
-use numbers::numeral::NumeralRead;
-use numbers::timestamp::TimestampRead;
+use numbers::numeral::Numeral;
 use text_rules::texts::stands;
 use text_rules::words::Kind;
 use tokens::quoted::Step;
-use tokens::values::NullRead;
 
 // A string; `old`: by 01's raw rule. Its text is written first, its length before it then.
-fn string_at(text: &[u8], at: usize, old: bool, buf: &mut [u8], pos: usize) -> Step
+fn string_at(text: &[u8], at: usize, old: bool, buf: &mut [u8], pos: usize) -> Option<Step>
     requires { (at < length text.now) × (pos ≤ limit) × (get_or text.now at 0 ≡ 34) }
     ensures { Read encode text.now (suc at) buf.old buf.new pos (taken string_node (string (raw_rule old) (drop at text.now))) result }
 {
     let s = output::ahead(pos, 5);
-    let Step::Next { at: a, pos: e } = tokens::quoted::characters_at(
-        text,
-        at + 1,
-        b'"',
-        old,
-        buf,
-        s,
-    ) else {
-        return Step::Bad;
-    };
-    nodes::put_header(buf, pos, 8, e - s);
-    Step::Next { at: a, pos: e }
+    let body = tokens::quoted::characters_at(text, at + 1, b'"', old, buf, s)?;
+    nodes::put_header(buf, pos, 8, body.pos - s);
+    Some(body)
 }
 
 // A clob, in the same way.
-fn clob_at(text: &[u8], at: usize, buf: &mut [u8], pos: usize) -> Step
+fn clob_at(text: &[u8], at: usize, buf: &mut [u8], pos: usize) -> Option<Step>
     requires { (at ≤ length text.now) × (pos ≤ limit) }
     ensures { Read encode text.now (suc at) buf.old buf.new pos (taken clob_node (clob (drop at text.now))) result }
 {
     let s = output::ahead(pos, 5);
-    let Step::Next { at: a, pos: e } = tokens::quoted::clob_at(text, at, buf, s) else {
-        return Step::Bad;
-    };
-    nodes::put_header(buf, pos, 9, e - s);
-    Step::Next { at: a, pos: e }
+    let body = tokens::quoted::clob_at(text, at, buf, s)?;
+    nodes::put_header(buf, pos, 9, body.pos - s);
+    Some(body)
 }
 
-// A blob, in the same way.
-fn blob_at(text: &[u8], at: usize, buf: &mut [u8], pos: usize) -> Step
+// A blob, in the same way. Not one with `clob_at`: a function of both would take the kind, the reader and the definition besides.
+fn blob_at(text: &[u8], at: usize, buf: &mut [u8], pos: usize) -> Option<Step>
     requires { (at ≤ length text.now) × (pos ≤ limit) }
     ensures { Read encode text.now (suc at) buf.old buf.new pos (taken blob_node (blob (drop at text.now))) result }
 {
     let s = output::ahead(pos, 5);
-    let Step::Next { at: a, pos: e } = tokens::blobs::blob_at(text, at, buf, s) else {
-        return Step::Bad;
-    };
-    nodes::put_header(buf, pos, 15, e - s);
-    Step::Next { at: a, pos: e }
+    let body = tokens::blobs::blob_at(text, at, buf, s)?;
+    nodes::put_header(buf, pos, 15, body.pos - s);
+    Some(body)
 }
 
 // `{{` and a quote mark is a clob, any other `{{` a blob.
-fn braces_at(text: &[u8], at: usize, buf: &mut [u8], pos: usize) -> Step
+fn braces_at(text: &[u8], at: usize, buf: &mut [u8], pos: usize) -> Option<Step>
     requires { (at ≤ length text.now) × (pos ≤ limit) }
     ensures { Read encode text.now (suc at) buf.old buf.new pos (braces (drop at text.now)) result }
 {
-    if 2 < text.len() - at {
-        if text[at + 2] == b'"' {
-            return clob_at(text, at, buf, pos);
-        }
+    if 2 < text.len() - at && text[at + 2] == b'"' {
+        return clob_at(text, at, buf, pos);
     }
     blob_at(text, at, buf, pos)
 }
 
 // The type behind `null`, and a null of it.
-fn null_at(text: &[u8], at: usize, buf: &mut [u8], pos: usize) -> Step
+fn null_at(text: &[u8], at: usize, buf: &mut [u8], pos: usize) -> Option<Step>
     requires { at ≤ length text.now }
     ensures { Read encode text.now at buf.old buf.new pos (taken null_node (null_behind (drop at text.now))) result }
 {
-    let NullRead::Is(t, e) = tokens::values::null_behind(text, at) else {
-        return Step::Bad;
-    };
+    let (t, e) = tokens::values::null_behind(text, at)?;
     let p = nodes::put2(buf, pos, 0, t);
-    Step::Next { at: e, pos: p }
+    Some(Step { at: e, pos: p })
 }
 
 // A bare word; `m`: a marker may stand here.
-fn word_at(text: &[u8], at: usize, m: bool, buf: &mut [u8], pos: usize) -> Step
+fn word_at(text: &[u8], at: usize, m: bool, buf: &mut [u8], pos: usize) -> Option<Step>
     requires { (at ≤ length text.now) × (pos ≤ limit) }
     ensures { Read encode text.now (suc at) buf.old buf.new pos (words m (drop at text.now)) result }
 {
     let w = text_rules::words::word_at(text, at);
-    let k = w.kind;
     let e = w.end;
-    match k {
+    match w.kind {
         Kind::Null => null_at(text, e, buf, pos),
         Kind::True => {
             let p = nodes::put2(buf, pos, 1, 1);
-            Step::Next { at: e, pos: p }
+            Some(Step { at: e, pos: p })
         }
         Kind::False => {
             let p = nodes::put2(buf, pos, 1, 0);
-            Step::Next { at: e, pos: p }
+            Some(Step { at: e, pos: p })
         }
         Kind::Nan => {
             let p = nodes::put_wide(buf, pos, 3, 0x7FF8_0000_0000_0000);
-            Step::Next { at: e, pos: p }
+            Some(Step { at: e, pos: p })
         }
         Kind::Marker => {
-            if m {
-                let p = output::put(buf, pos, 14);
-                Step::Next { at: e, pos: p }
-            } else {
-                Step::Bad
+            if !m {
+                return None;
             }
+            let p = output::put(buf, pos, 14);
+            Some(Step { at: e, pos: p })
         }
         Kind::Number(n) => {
             let p = nodes::put_header(buf, pos, 7, n as usize);
-            Step::Next { at: e, pos: p }
+            Some(Step { at: e, pos: p })
         }
         Kind::Text => {
             let p = nodes::put_text(buf, pos, &text[at..e]);
-            Step::Next { at: e, pos: p }
+            Some(Step { at: e, pos: p })
         }
-        Kind::Refused => Step::Bad,
+        Kind::Refused => None,
     }
 }
 
 // The node of an int or a decimal that was read.
-fn put_numeral(n: NumeralRead, buf: &mut [u8], pos: usize) -> Step
+fn put_numeral(n: Option<(Numeral, usize)>, buf: &mut [u8], pos: usize) -> Option<Step>
     requires { pos ≤ limit }
     ensures { (text : List ℕ) (lo : ℕ) (o : ReadNumeral) → Reads text lo o (numeral_read n) → Read encode text lo buf.old buf.new pos (taken numeral_node o) result }
 {
     match n {
-        NumeralRead::Int(z, e) => {
+        Some((Numeral::Int(z), e)) => {
             let p = nodes::put_int(buf, pos, z);
-            Step::Next { at: e, pos: p }
+            Some(Step { at: e, pos: p })
         }
-        NumeralRead::Decimal(neg, m, x, e) => {
+        Some((Numeral::Decimal(neg, m, x), e)) => {
             let p = nodes::put_decimal(buf, pos, neg, m, x);
-            Step::Next { at: e, pos: p }
+            Some(Step { at: e, pos: p })
         }
-        NumeralRead::Bad => Step::Bad,
+        None => None,
     }
 }
 
 // A float as printed, or else the int or decimal n, which was read at the same place.
-fn float_or(text: &[u8], at: usize, n: NumeralRead, buf: &mut [u8], pos: usize) -> Step
+fn float_or(
+    text: &[u8],
+    at: usize,
+    n: Option<(Numeral, usize)>,
+    buf: &mut [u8],
+    pos: usize,
+) -> Option<Step>
     requires { (at ≤ length text.now) × (pos ≤ limit) × Reads text.now (suc at) (numeral (drop at text.now)) (numeral_read n) }
     ensures { Read encode text.now (suc at) buf.old buf.new pos (untimed_number (drop at text.now)) result }
 {
-    let FloatRead::Is(x, e) = floats::float::float_at(text, at) else {
+    let Some((x, e)) = floats::float::float_at(text, at) else {
         return put_numeral(n, buf, pos);
     };
     let p = nodes::put_float(buf, pos, x);
-    Step::Next { at: e, pos: p }
+    Some(Step { at: e, pos: p })
 }
 
 // A float as printed, an int or a decimal. An int or a decimal without `e` behind it is no float's beginning.
-fn untimed_at(text: &[u8], at: usize, buf: &mut [u8], pos: usize) -> Step
+fn untimed_at(text: &[u8], at: usize, buf: &mut [u8], pos: usize) -> Option<Step>
     requires { (at ≤ length text.now) × (pos ≤ limit) }
     ensures { Read encode text.now (suc at) buf.old buf.new pos (untimed_number (drop at text.now)) result }
 {
     let n = numbers::numeral::numeral_at(text, at);
     match n {
-        NumeralRead::Int(z, e) => {
+        Some((Numeral::Int(z), e)) => {
             if !stands(text, e, b'e') {
                 let p = nodes::put_int(buf, pos, z);
-                return Step::Next { at: e, pos: p };
+                return Some(Step { at: e, pos: p });
             }
         }
-        NumeralRead::Decimal(neg, m, x, e) => {
+        Some((Numeral::Decimal(neg, m, x), e)) => {
             if !stands(text, e, b'e') {
                 let p = nodes::put_decimal(buf, pos, neg, m, x);
-                return Step::Next { at: e, pos: p };
+                return Some(Step { at: e, pos: p });
             }
         }
-        NumeralRead::Bad => {}
+        None => {}
     }
     // taken apart and made anew: the answer copied whole would wait for its own stores
-    let Step::Next { at: a, pos: p } = float_or(text, at, n, buf, pos) else {
-        return Step::Bad;
-    };
-    Step::Next { at: a, pos: p }
+    let s = float_or(text, at, n, buf, pos)?;
+    Some(Step {
+        at: s.at,
+        pos: s.pos,
+    })
 }
 
 // A float as printed, a timestamp, an int or a decimal. A timestamp is no float, so that it is tried first.
-fn number_at(text: &[u8], at: usize, buf: &mut [u8], pos: usize) -> Step
+fn number_at(text: &[u8], at: usize, buf: &mut [u8], pos: usize) -> Option<Step>
     requires { (at < length text.now) × (pos ≤ limit) }
     ensures { Read encode text.now (suc at) buf.old buf.new pos (numbers (drop at text.now)) result }
 {
-    let TimestampRead::Is(x, e) = numbers::timestamp::timestamp_at(text, at) else {
+    let Some((x, e)) = numbers::timestamp::timestamp_at(text, at) else {
         return untimed_at(text, at, buf, pos);
     };
     let p = nodes::put_timestamp(buf, pos, x);
-    Step::Next { at: e, pos: p }
+    Some(Step { at: e, pos: p })
 }
 
 // A digit or a sign.
+#[tactic(auto, using(std::proofs::lemmas::Bool::Decides::nat_tests), unfolding(crate::specs::Grammar::numeric, text_rules::specs::Digits::is_digit))]
 fn is_numeric(b: u8) -> bool
     ensures { result ≡ numeric b }
 {
-    if b'9' < b {
-        return false;
-    }
-    if b'0' <= b {
-        return true;
-    }
-    if b == b'-' {
-        return true;
-    }
-    b == b'+'
+    matches!(b, b'0'..=b'9' | b'-' | b'+')
 }
 
 // A value that is no container; `old`: by 01's raw rule; `m`: a marker may stand here.
-pub fn scalar_at(text: &[u8], at: usize, old: bool, m: bool, buf: &mut [u8], pos: usize) -> Step
+pub fn scalar_at(
+    text: &[u8],
+    at: usize,
+    old: bool,
+    m: bool,
+    buf: &mut [u8],
+    pos: usize,
+) -> Option<Step>
     requires { (at ≤ length text.now) × (pos ≤ limit) }
     ensures { Read encode text.now (suc at) buf.old buf.new pos (scalar (raw_rule old) m (drop at text.now)) result }
 {
     if at == text.len() {
-        return Step::Bad;
+        return None;
     }
     let b = text[at];
     if b == b'"' {

@@ -4,10 +4,9 @@ ghost use Rattle.output.specs.Wrote.{limit};
 ghost use Rattle.tokens.specs.Quoted.{raw_rule};
 ghost use Rattle.reader.specs.Steps.{ValueAt, RunAt};
 
-use crate::blanks::Opener;
 use crate::heads::Run;
 use crate::{blanks, heads, nodes, scalars};
-use tape::{Frame, Place};
+use tape::Frame;
 use tokens::quoted::Step;
 
 // Reads the value at `at` in `frame`, in which `left` more containers may be open together, by 01's raw rule if `old`, and writes its nodes
@@ -21,35 +20,25 @@ pub fn value(
     left: usize,
     buf: &mut [u8],
     pos: usize,
-) -> Step
+) -> Option<Step>
     requires { (at ≤ length text.now) × (pos ≤ limit) }
     ensures { ValueAt (raw_rule old) text.now at frame left buf.old buf.new pos result }
 {
-    let Run::Whole {
-        at: a,
-        pos: p,
-        count,
-    } = heads::head_at(text, at, old, frame, buf, pos)
-    else {
-        return Step::Bad;
-    };
-    let Opener::Opens(inner) = blanks::opener_at(text, a) else {
-        return scalars::scalar_at(text, a, old, heads::free_of(frame, count), buf, p);
+    let head = heads::head_at(text, at, old, frame, buf, pos)?;
+    let Some(inner) = blanks::opener_at(text, head.at) else {
+        let m = heads::free_of(frame, head.count);
+        return scalars::scalar_at(text, head.at, old, m, buf, head.pos);
     };
     if left == 0 {
-        return Step::Bad;
+        return None;
     }
-    let s = output::ahead(p, 5);
-    let Run::Whole {
-        at: z,
-        pos: e,
-        count: _,
-    } = sequence(text, a + 1, old, inner, left - 1, buf, s)
-    else {
-        return Step::Bad;
-    };
-    nodes::put_header(buf, p, blanks::tag_of(inner), e - s);
-    Step::Next { at: z, pos: e }
+    let s = output::ahead(head.pos, 5);
+    let run = sequence(text, head.at + 1, old, inner, left - 1, buf, s)?;
+    nodes::put_header(buf, head.pos, blanks::tag_of(inner), run.pos - s);
+    Some(Step {
+        at: run.at,
+        pos: run.pos,
+    })
 }
 
 // Reads the children from `from` through the frame's end, by the same rule, and writes their nodes from `start` on.
@@ -62,34 +51,26 @@ pub fn sequence(
     left: usize,
     buf: &mut [u8],
     start: usize,
-) -> Run
+) -> Option<Run>
     requires { (from ≤ length text.now) × (start ≤ limit) }
     ensures { RunAt (raw_rule old) text.now from frame left buf.old buf.new start 0 result }
 {
     let mut at = from;
     let mut pos = start;
     let mut count: usize = 0;
+    // A walk: the step is a child's length and that of the gap behind it, and it ends at the end of the sequence.
     loop {
         let first = blanks::skip_blanks(text, at);
-        if let Place::At(end) = blanks::close_at(text, first, frame) {
-            return Run::Whole {
+        if let Some(end) = blanks::close_at(text, first, frame) {
+            return Some(Run {
                 at: end,
                 pos,
                 count,
-            };
+            });
         }
-        let Step::Next {
-            at: behind,
-            pos: next,
-        } = value(text, first, old, frame, left, buf, pos)
-        else {
-            return Run::Broken;
-        };
-        let Place::At(on) = blanks::gap_at(text, behind, frame) else {
-            return Run::Broken;
-        };
-        at = on;
-        pos = next;
+        let child = value(text, first, old, frame, left, buf, pos)?;
+        at = blanks::gap_at(text, child.at, frame)?;
+        pos = child.pos;
         count += 1;
     }
 }

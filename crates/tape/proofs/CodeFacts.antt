@@ -21,11 +21,11 @@ use Rattle.tape.specs.Bytes.{le_number, part, first}
 use Rattle.tape.specs.Tree.{Scalar, Head, null, bool, int, float, decimal, timestamp, symbol, string, clob, blob}
 use Rattle.tape.specs.Tape.{reading, kind, length_of, text_of, sym_of, syms_of, name_of, notes_of, head_of, byte_of, int_of, float_as, float_of, decimal_of, timestamp_as, timestamp_of, symbol_of, sized_of, scalar_of, absent, body, open_of, value_of, text_fault, sym_fault, syms_fault, name_fault, head_fault, float_fault, scalar_fault}
 use Rattle.tape.specs.Refusal.{annotated, sym_numbered, syms_numbered, name_numbered, head_numbered, scalar_numbered}
-use Rattle.tape.specs.CheckSteps.{coded, code_of, scalar_code, span_of, number_in, name_number_in, ends, end_of, frame_of, front_of, syms_front, notes_front}
+use Rattle.std.specs.Prelude.{Option as OptionC, None}
+use Rattle.tape.specs.CheckSteps.{whole, coded, code_of, scalar_code, span_of, number_in, name_number_in, ends, end_of, frame_of, front_of, syms_front, notes_front}
 use Rattle.tape.specs.declared.Frame.{Frame}
 use Rattle.tape.specs.declared.Frame.TheVariants.{Struct}
 use Rattle.tape.specs.declared.check.Front.{Front}
-use Rattle.tape.specs.declared.check.Front.TheVariants as F
 use Rattle.tape.proofs.Parts.{part_length, part-drop}
 use Rattle.tape.proofs.Reading.{if_all, Sound, something, Long, long, sym_long, Counted, counted, syms-count}
 use Rattle.tape.proofs.CodeReading.{sym_id, sym_none, timestamp-some, value-list, value_sexp, value_struct, notes-some}
@@ -407,11 +407,11 @@ module _ (f : Bool) (l : List ℕ) (h : 10 ≤ kind l) (g : kind l < 13) where
 
 module _ {A B C : Type 0} (f : A → ℕ) (f' : B → ℕ) (f'' : C → ℕ) (m'' n'' : C → Bool) (j : A → B → C) (faults : (a : A) (x : B) → f'' (j a x) ≡ first (f a) (f' x)) where
   then_stop : (at : ℕ) (o : Option (A × ℕ)) (rest : ℕ → Option (B × ℕ)) → Missed f o
-      → F.Bad ≡ front_of f'' m'' n'' at (reading o none (λ a i. reading (rest i) none (λ x k. some (j a x, i + k))))
+      → None ≡ front_of f'' m'' n'' at (reading o none (λ a i. reading (rest i) none (λ x k. some (j a x, i + k))))
   then_stop at o rest (nothing e) = rw e
   then_stop at o rest (wrong a i e nz) = rw e (go (f a) refl nz (rest i))
     where
-      go : (q : ℕ) → f a ≡ q → (q ≡ 0 → ⊥) → (o : Option (B × ℕ)) → F.Bad ≡ front_of f'' m'' n'' at (reading o none (λ x k. some (j a x, i + k)))
+      go : (q : ℕ) → f a ≡ q → (q ≡ 0 → ⊥) → (o : Option (B × ℕ)) → None ≡ front_of f'' m'' n'' at (reading o none (λ x k. some (j a x, i + k)))
       go zero y nz o = absurd (nz refl)
       go (suc q) y nz none = refl
       go (suc q) y nz (some (x, k)) = rw (faults a x, y)
@@ -428,13 +428,13 @@ module _ {A B C : Type 0} (f : A → ℕ) (f' : B → ℕ) (f'' : C → ℕ) (m'
 
 -- ---- symbols, one after another, behind an identifier but 0 if b
 
-pub front-end : (p : ℕ) (b : Bool) (c : ℕ) (l : List ℕ) → c ≤ 0 → F.Whole p true b ≡ syms_front p b (syms_of c l)
+pub front-end : (p : ℕ) (b : Bool) (c : ℕ) (l : List ℕ) → c ≤ 0 → whole p true b ≡ syms_front p b (syms_of c l)
 unfolding syms_of syms_fault syms_numbered
 front-end p b zero l h = let i : p ≡ p + 0 = omega arith in let y = or-false b in cc
 front-end p b (suc c) l h = absurd (not-suc-le-zero h)
 
 module _ (s : List ℕ) (p e : ℕ) (b : Bool) where
-  pub front-stop : (c : ℕ) → 0 < c → 0 ≡ code_of sym_fault (sym_of (part s p e)) → F.Bad ≡ syms_front p b (syms_of c (part s p e))
+  pub front-stop : (c : ℕ) → 0 < c → 0 ≡ code_of sym_fault (sym_of (part s p e)) → None ≡ syms_front p b (syms_of c (part s p e))
   unfolding syms_of syms_fault
   front-stop zero h z = absurd (not-suc-le-zero h)
   front-stop (suc c) h z =
@@ -456,7 +456,7 @@ module _ (s : List ℕ) (p e : ℕ) (b : Bool) where
 -- ---- annotations
 
 module _ (l : List ℕ) (at : ℕ) (m b : Bool) where
-  pub front-none : notes_of l ≡ some ([], 0) → F.Whole at m b ≡ notes_front at m b (notes_of l)
+  pub front-none : notes_of l ≡ some ([], 0) → whole at m b ≡ notes_front at m b (notes_of l)
   unfolding syms_fault syms_numbered
   front-none e = let i : at + 0 ≡ at = omega arith in rw (e, i, or-false m, or-false b)
 
@@ -470,11 +470,11 @@ module _ (l : List ℕ) (at : ℕ) (m b : Bool) where
 
 -- ---- a head
 
-abbrev pub head_front : ℕ → Bool → Bool → Option (Head × ℕ) → Front
+abbrev pub head_front : ℕ → Bool → Bool → Option (Head × ℕ) → OptionC Front
 head_front at m b o = front_of head_fault (λ h. m || annotated h.1) (λ h. b || head_numbered h) at o
 
 module _ (k : Frame) (s : List ℕ) (at e : ℕ) (m b : Bool) where
-  pub front_nameless : Missed name_fault (name_of k (part s at e)) → F.Bad ≡ head_front at m b (head_of k (part s at e))
+  pub front_nameless : Missed name_fault (name_of k (part s at e)) → None ≡ head_front at m b (head_of k (part s at e))
   unfolding head_of head_fault
   front_nameless z =
       then_stop name_fault syms_fault head_fault (λ h. m || annotated h.1) (λ h. b || head_numbered h) (λ a ss. (a, ss)) (λ a ss. refl) at (name_of k (part s at e)) (λ i. notes_of (drop i (part s at e))) z

@@ -23,8 +23,7 @@ use Rattle.tape.specs.Tape.{reading, kind, length_of, text_of, sym_of, syms_of, 
 use Rattle.tape.specs.Steps.{place_of, length_in}
 use Rattle.tape.specs.declared.Frame.{Frame}
 use Rattle.tape.specs.declared.Frame.TheVariants.{List as ListF, Sexp, Struct}
-use Rattle.tape.specs.declared.Place.{Place}
-use Rattle.tape.specs.declared.Place.TheVariants.{Bad as Nowhere, At}
+use Rattle.std.specs.Prelude.{Option as OptionC, Some, None}
 use Rattle.tape.proofs.Reading.{Sound, something}
 use Rattle.tape.proofs.Numbers.{signed_is, le_take}
 use Rattle.tape.proofs.Parts.{drop-take, part_length, part-drop}
@@ -158,53 +157,53 @@ timestamp-part s at e h =
 -- ---- a length, and what it gives
 
 -- the bytes that a length says
-abbrev pub text_at : Place → List ℕ → Option (List ℕ × ℕ)
-text_at Nowhere l = none
-text_at (At n) l = some (take n (drop 5 l), 5 + n)
+abbrev pub text_at : OptionC ℕ → List ℕ → Option (List ℕ × ℕ)
+text_at None l = none
+text_at (Some n) l = some (take n (drop 5 l), 5 + n)
 
 module _ (l : List ℕ) where
-  pub length_short : length l < 5 → length_in l ≡ Nowhere
+  pub length_short : length l < 5 → length_in l ≡ None
   unfolding length_in
   length_short h = simp (lt-leb (5 + length_of l) (length l) (omega arith))
 
-  pub length_over : length l < 5 + length_of l → length_in l ≡ Nowhere
+  pub length_over : length l < 5 + length_of l → length_in l ≡ None
   unfolding length_in
   length_over h = simp (lt-leb _ _ h)
 
-  pub length_some : 5 + length_of l ≤ length l → length_in l ≡ At (length_of l)
+  pub length_some : 5 + length_of l ≤ length l → length_in l ≡ Some (length_of l)
   unfolding length_in
   length_some h = simp (le-leb _ _ h)
 
-  pub text_by : (r : Place) → r ≡ length_in l → text_of l ≡ text_at r l
+  pub text_by : (r : OptionC ℕ) → r ≡ length_in l → text_of l ≡ text_at r l
   unfolding length_in text_of
   text_by r e = rw e (go (leb (5 + length_of l) (length l)))
     where
-      go : (b : Bool) → if b (some (take (length_of l) (drop 5 l), 5 + length_of l)) none ≡ text_at (if b (At (length_of l)) Nowhere) l
+      go : (b : Bool) → if b (some (take (length_of l) (drop 5 l), 5 + length_of l)) none ≡ text_at (if b (Some (length_of l)) None) l
       go true = refl
       go false = refl
 
-  pub length-within : (n : ℕ) → At n ≡ length_in l → 5 + n ≤ length l
+  pub length-within : (n : ℕ) → Some n ≡ length_in l → 5 + n ≤ length l
   unfolding length_in
   length-within n e = go (leb (5 + length_of l) (length l)) refl e
     where
-      go : (b : Bool) → leb (5 + length_of l) (length l) ≡ b → At n ≡ if b (At (length_of l)) Nowhere → 5 + n ≤ length l
+      go : (b : Bool) → leb (5 + length_of l) (length l) ≡ b → Some n ≡ if b (Some (length_of l)) None → 5 + n ≤ length l
       go true t e = let m : n ≡ length_of l = cc in let h : 5 + length_of l ≤ length l = leb-true _ _ t in omega arith
       go false t e = let z : ◌≡◌ {A = ℕ} 0 1 = cc in absurd (omega arith)
 
 -- ---- symbols
 
-abbrev pub sym_at : Place → List ℕ → Option (Sym × ℕ)
-sym_at Nowhere l = none
-sym_at (At n) l = some (Sym.text (take n (drop 5 l)), 5 + n)
+abbrev pub sym_at : OptionC ℕ → List ℕ → Option (Sym × ℕ)
+sym_at None l = none
+sym_at (Some n) l = some (Sym.text (take n (drop 5 l)), 5 + n)
 
 module _ (l : List ℕ) where
-  pub sym-text : (r : Place) → kind l ≡ 6 → r ≡ length_in l → sym_of l ≡ sym_at r l
+  pub sym-text : (r : OptionC ℕ) → kind l ≡ 6 → r ≡ length_in l → sym_of l ≡ sym_at r l
   unfolding sym_of
   sym-text r k e = simp (eq-eqb _ _ k, text_by l r e) (go r)
     where
-      go : (r : Place) → reading (text_at r l) none (λ s n. some (Sym.text s, n)) ≡ sym_at r l
-      go Nowhere = refl
-      go (At n) = refl
+      go : (r : OptionC ℕ) → reading (text_at r l) none (λ s n. some (Sym.text s, n)) ≡ sym_at r l
+      go None = refl
+      go (Some n) = refl
 
   pub sym_id : kind l ≡ 7 → 5 ≤ length l → sym_of l ≡ some (Sym.id (length_of l), 5)
   unfolding sym_of
@@ -217,7 +216,7 @@ module _ (l : List ℕ) where
   -- too few bytes for any symbol
   pub sym_short : length l < 5 → sym_of l ≡ none
   unfolding sym_of
-  sym_short h = simp (text_by l Nowhere (sym (length_short l h)), lt-leb 5 (length l) h) (go (eqb (kind l) 6) (eqb (kind l) 7))
+  sym_short h = simp (text_by l None (sym (length_short l h)), lt-leb 5 (length l) h) (go (eqb (kind l) 6) (eqb (kind l) 7))
     where
       go : (a b : Bool) → if {A = Option (Sym × ℕ)} a none (if b none none) ≡ none
       go true b = refl
@@ -349,7 +348,7 @@ notes_short l k h = notes_few l k (few l h)
 -- a place behind a place
 pub place_map : {A B : Type 0} (p n : ℕ) (f : A → B) (o : Option (A × ℕ)) → place_of p (reading o none (λ a m. some (f a, n + m))) ≡ place_of (p + n) o
 place_map p n f none = refl
-place_map p n f (some (a, m)) = let e : p + (n + m) ≡ p + n + m = omega arith in ap At e
+place_map p n f (some (a, m)) = let e : p + (n + m) ≡ p + n + m = omega arith in ap Some e
 
 pub name_struct : (p : ℕ) (l : List ℕ) → place_of p (sym_of l) ≡ place_of p (name_of Struct l)
 unfolding name_of
@@ -360,27 +359,27 @@ name_struct p l = go (sym_of l)
     go (some (s, n)) = refl
 
 -- symbols, one after another
-pub syms-done : (p c : ℕ) (l : List ℕ) → c ≤ 0 → At p ≡ place_of p (syms_of c l)
+pub syms-done : (p c : ℕ) (l : List ℕ) → c ≤ 0 → Some p ≡ place_of p (syms_of c l)
 unfolding syms_of
-syms-done p zero l h = ap At (omega arith)
+syms-done p zero l h = ap Some (omega arith)
 syms-done p (suc c) l h = absurd (not-suc-le-zero h)
 
 module _ (s : List ℕ) (p e : ℕ) where
-  pub syms_bad : (c : ℕ) → 0 < c → place_of p (sym_of (part s p e)) ≡ Nowhere → place_of p (syms_of c (part s p e)) ≡ Nowhere
+  pub syms_bad : (c : ℕ) → 0 < c → place_of p (sym_of (part s p e)) ≡ None → place_of p (syms_of c (part s p e)) ≡ None
   unfolding syms_of
   syms_bad zero h z = absurd (not-suc-le-zero h)
   syms_bad (suc c) h z = go (sym_of (part s p e)) z
     where
-      go : (o : Option (Sym × ℕ)) → place_of p o ≡ Nowhere → place_of p (reading o none (λ a n. reading (syms_of c (drop n (part s p e))) none (λ ss m. some (a ∷ ss, n + m)))) ≡ Nowhere
+      go : (o : Option (Sym × ℕ)) → place_of p o ≡ None → place_of p (reading o none (λ a n. reading (syms_of c (drop n (part s p e))) none (λ ss m. some (a ∷ ss, n + m)))) ≡ None
       go none z = refl
       go (some (a, n)) z = let y : ◌≡◌ {A = ℕ} 0 1 = cc in absurd (omega arith)
 
-  pub syms_one : (c q : ℕ) → 0 < c → place_of p (sym_of (part s p e)) ≡ At q → place_of p (syms_of c (part s p e)) ≡ place_of q (syms_of (c - 1) (part s q e))
+  pub syms_one : (c q : ℕ) → 0 < c → place_of p (sym_of (part s p e)) ≡ Some q → place_of p (syms_of c (part s p e)) ≡ place_of q (syms_of (c - 1) (part s q e))
   unfolding syms_of
   syms_one zero q h z = absurd (not-suc-le-zero h)
   syms_one (suc c) q h z = let d : c ≡ suc c - 1 = omega arith in go (sym_of (part s p e)) z ∙ ap (λ (i : ℕ). place_of q (syms_of i (part s q e))) d
     where
-      go : (o : Option (Sym × ℕ)) → place_of p o ≡ At q
+      go : (o : Option (Sym × ℕ)) → place_of p o ≡ Some q
           → place_of p (reading o none (λ a n. reading (syms_of c (drop n (part s p e))) none (λ ss m. some (a ∷ ss, n + m)))) ≡ place_of q (syms_of c (part s q e))
       go none z = let y : ◌≡◌ {A = ℕ} 0 1 = cc in absurd (omega arith)
       go (some (a, n)) z =
@@ -391,11 +390,11 @@ module _ (s : List ℕ) (p e : ℕ) where
 
 -- a name, and annotations behind it
 module _ (k : Frame) (s : List ℕ) (p e : ℕ) where
-  pub head_one : (q : ℕ) → place_of p (name_of k (part s p e)) ≡ At q → place_of p (head_of k (part s p e)) ≡ place_of q (notes_of (part s q e))
+  pub head_one : (q : ℕ) → place_of p (name_of k (part s p e)) ≡ Some q → place_of p (head_of k (part s p e)) ≡ place_of q (notes_of (part s q e))
   unfolding head_of
   head_one q z = go (name_of k (part s p e)) z
     where
-      go : (o : Option (Option Sym × ℕ)) → place_of p o ≡ At q
+      go : (o : Option (Option Sym × ℕ)) → place_of p o ≡ Some q
           → place_of {A = Head} p (reading o none (λ a n. reading (notes_of (drop n (part s p e))) none (λ ss m. some ((a, ss), n + m)))) ≡ place_of q (notes_of (part s q e))
       go none z = let y : ◌≡◌ {A = ℕ} 0 1 = cc in absurd (omega arith)
       go (some (a, n)) z =
@@ -404,21 +403,21 @@ module _ (k : Frame) (s : List ℕ) (p e : ℕ) where
           ∙ ap (λ (l : List ℕ). place_of (p + n) (notes_of l)) (part-drop s p e n)
           ∙ ap (λ (i : ℕ). place_of i (notes_of (part s i e))) y
 
-  pub head-none : place_of p (name_of k (part s p e)) ≡ Nowhere → place_of p (head_of k (part s p e)) ≡ Nowhere
+  pub head-none : place_of p (name_of k (part s p e)) ≡ None → place_of p (head_of k (part s p e)) ≡ None
   unfolding head_of
   head-none z = go (name_of k (part s p e)) z
     where
-      go : (o : Option (Option Sym × ℕ)) → place_of p o ≡ Nowhere → place_of {A = Head} p (reading o none (λ a n. reading (notes_of (drop n (part s p e))) none (λ ss m. some ((a, ss), n + m)))) ≡ Nowhere
+      go : (o : Option (Option Sym × ℕ)) → place_of p o ≡ None → place_of {A = Head} p (reading o none (λ a n. reading (notes_of (drop n (part s p e))) none (λ ss m. some ((a, ss), n + m)))) ≡ None
       go none z = refl
       go (some (a, n)) z = let y : ◌≡◌ {A = ℕ} 0 1 = cc in absurd (omega arith)
 
 -- what was read, from where it ends
-pub place_read : {A : Type 0} (d : A) (at v : ℕ) (o : Option (A × ℕ)) → place_of at o ≡ At v → (at ≤ v) × (o ≡ some (reading o d (λ a n. a), v - at))
+pub place_read : {A : Type 0} (d : A) (at v : ℕ) (o : Option (A × ℕ)) → place_of at o ≡ Some v → (at ≤ v) × (o ≡ some (reading o d (λ a n. a), v - at))
 place_read d at v none z = let y : ◌≡◌ {A = ℕ} 0 1 = cc in absurd (omega arith)
 place_read d at v (some (a, n)) z = let y : at + n ≡ v = cc in let x : n ≡ v - at = omega arith in (omega arith, ap (λ (i : ℕ). some (a, i)) x)
 
 -- it ends within the part
-pub place-within : {A : Type 0} (enc : A → List ℕ) (s : List ℕ) (p e q : ℕ) (o : Option (A × ℕ)) → p ≤ e → e ≤ length s → Sound enc (part s p e) o → place_of p o ≡ At q
+pub place-within : {A : Type 0} (enc : A → List ℕ) (s : List ℕ) (p e q : ℕ) (o : Option (A × ℕ)) → p ≤ e → e ≤ length s → Sound enc (part s p e) o → place_of p o ≡ Some q
     → (p ≤ q) × (q ≤ e)
 place-within enc s p e q none h i g z = let y : ◌≡◌ {A = ℕ} 0 1 = cc in absurd (omega arith)
 place-within enc s p e q (some (a, n)) h i (something g t) z =

@@ -1,8 +1,8 @@
 -- The refusal of a whole tape, by the tests of the code. Assumes nothing.
-use Prim.Native.Nat.{ℕ, zero, suc, ◌+◌, ◌-◌, ◌<◌, ◌≤◌}
+use Prim.Native.Nat.{ℕ, ◌+◌, ◌-◌, ◌<◌, ◌≤◌}
 use mathlib.Core.Path.{◌≡◌, refl, sym, ap, subst, ◌∙◌}
 use mathlib.Core.List.{List}
-use mathlib.Core.Bool.{true, false, ◌||◌, or-true}
+use mathlib.Core.Bool.{Bool, true, false, ◌||◌, or-true}
 use native.Mathlib.Omega.{arith}
 use lib.Dec.{ltb, eqb}
 use lib.ListN.{length, take, drop}
@@ -12,10 +12,16 @@ use Rattle.tape.specs.Bytes.{le_number, part, first}
 use Rattle.tape.specs.Tape.{walk, body_of}
 use Rattle.tape.specs.Verdict.{misfit, count_fault, verdict}
 use Rattle.tape.specs.CheckSteps.{Checks}
-use Rattle.tape.specs.Checked.{Refuses, TapeChecks}
+use Rattle.tape.specs.Answer.{fault_number}
+use Rattle.tape.specs.Checked.{BodyEnds, TapeChecks}
+use Rattle.tape.specs.Tree.{size}
+use Rattle.tape.specs.declared.answer.Fault.{Fault}
+use Rattle.tape.specs.declared.answer.Fault.TheVariants as F
+use Rattle.std.specs.Prelude.{Result, Ok, Err}
 use Rattle.tape.specs.declared.Frame.TheVariants.{Top}
 use Rattle.tape.specs.declared.check.Checked.{Checked}
-use Rattle.tape.proofs.Walking.{first-zero}
+use Rattle.tape.proofs.CodeFacts.{first_inner}
+use Rattle.tape.proofs.CodeWalk.{fault_some}
 
 -- ---- the length
 
@@ -32,46 +38,68 @@ module _ (t : List ℕ) where
   unfolding misfit
   misfit_body h = simp (ne_eqb _ _ h, or-true (ltb (length t) 8 || ltb 1_048_576 (length t)))
 
-  fits : 8 ≤ length t → length t ≤ 1_048_576 → le_number 4 (drop (length t - 8) t) + 8 ≡ length t → misfit t ≡ false
+  pub fits : 8 ≤ length t → length t ≤ 1_048_576 → le_number 4 (drop (length t - 8) t) + 8 ≡ length t → misfit t ≡ false
   unfolding misfit
   fits h g e = simp (le-ltb _ _ h, le-ltb _ _ g, eq-eqb _ _ e)
 
-  pub refuse_misfit : misfit t ≡ true → (r : Checked) → Refuses 1 r → TapeChecks t r
+  pub misfits : misfit t ≡ true → BodyEnds t (Err F.Misfit)
+  misfits e = record { fault = rw e refl; end = tt; most = tt }
+
+  pub body_fits : (e : ℕ) → misfit t ≡ false → e + 8 ≡ length t → length t ≤ 1_048_576 → BodyEnds t (Ok e)
+  body_fits e f h g = record { fault = rw f refl; end = h; most = g }
+
+  -- a length that does not fit is told as such
+  wrong : (f : Fault) (b : Bool) → fault_number f ≡ if b 1 0 → (b ≡ true) × (fault_number f ≡ 1)
+  wrong f true e = (refl, e)
+  wrong f false e = absurd (fault_some f e)
+
+  right : (b : Bool) → ◌≡◌ {A = ℕ} 0 (if b 1 0) → b ≡ false
+  right true e = absurd (omega arith)
+  right false e = refl
+
+  pub refuse_misfit : (f : Fault) → BodyEnds t (Err f) → TapeChecks t (Err f)
   unfolding verdict
-  refuse_misfit e r f = let one = f.fault in record { fault = one ∙ rw e; counts = λ z. absurd (omega arith); nothing = λ z. rw e f }
+  refuse_misfit f e = let y = wrong f (misfit t) e.fault in record { fault = rw y.0 y.1; counts = tt }
 
 -- ---- the nodes, then their number
 
-module _ (t : List ℕ) (h : 8 ≤ length t) (g : length t ≤ 1_048_576) (e : le_number 4 (drop (length t - 8) t) + 8 ≡ length t) (w : Checked)
-    (c : Checks (walk 65 Top (part t 0 (length t - 8))) w) where
-  whole : Checks (body_of t) w
+-- the body ends at e
+module _ (t : List ℕ) (e : ℕ) (b : BodyEnds t (Ok e)) where
+  pub least : e + 8 ≡ length t
+  least = b.end
+
+  pub whole : (r : Result Checked Fault) → Checks (walk 65 Top (part t 0 e)) r → Checks (body_of t) r
   unfolding body_of
-  whole = let n : length t - 8 - 0 ≡ length t - 8 = omega arith in subst (λ (i : ℕ). Checks (walk 65 Top (take i t)) w) n c
+  whole r c = let h = least in let n : e - 0 ≡ length t - 8 = omega arith in subst (λ (i : ℕ). Checks (walk 65 Top (take i t)) r) n c
 
   verdict-is : verdict t ≡ first (body_of t).1 (count_fault t)
   unfolding verdict
-  verdict-is = simp (fits t h g e)
+  verdict-is = rw (right t (misfit t) b.fault) refl
 
-  -- what the code has found, of the nodes and of their number
-  faults : first w.fault (if (eqb (le_number 4 (drop (length t - 8 + 4) t)) w.count) 0 2) ≡ verdict t
-  unfolding count_fault
-  faults = go w.fault refl
-    where
-      last : le_number 4 (drop (length t - 8 + 4) t) ≡ le_number 4 (drop (length t - 4) t)
-      last = let n : length t - 8 + 4 ≡ length t - 4 = omega arith in ap (λ (i : ℕ). le_number 4 (drop i t)) n
+  -- the number of nodes, as the trailer has it
+  abbrev claimed : ℕ
+  claimed = le_number 4 (drop (e + 4) t)
 
-      go : (f : ℕ) → w.fault ≡ f → first f (if (eqb (le_number 4 (drop (length t - 8 + 4) t)) w.count) 0 2) ≡ verdict t
-      go zero z =
-          ap (λ (i : ℕ). if (eqb i w.count) 0 2) last
-          ∙ ap (λ (i : ℕ). if (eqb (le_number 4 (drop (length t - 4) t)) i) 0 2) (whole.counts z).count
-          ∙ sym (verdict-is ∙ ap (λ (i : ℕ). first i (count_fault t)) (sym whole.fault ∙ z))
-      go (suc f) z = sym (verdict-is ∙ ap (λ (i : ℕ). first i (count_fault t)) (sym whole.fault ∙ z))
+  last : claimed ≡ le_number 4 (drop (length t - 4) t)
+  last = let h = least in let n : e + 4 ≡ length t - 4 = omega arith in ap (λ (i : ℕ). le_number 4 (drop i t)) n
 
-  module _ (f : ℕ) (is : f ≡ first w.fault (if (eqb (le_number 4 (drop (length t - 8 + 4) t)) w.count) 0 2)) where
-    pub refuse_nodes : (f ≡ 0 → ⊥) → (r : Checked) → Refuses f r → TapeChecks t r
-    refuse_nodes nz r e = record { fault = e.fault ∙ is ∙ faults; counts = λ z. absurd (nz (sym e.fault ∙ z)); nothing = λ z. subst (λ (i : ℕ). Refuses i r) (is ∙ faults) e }
+  pub refuse_inner : (f : Fault) → Checks (walk 65 Top (part t 0 e)) (Err f) → TapeChecks t (Err f)
+  refuse_inner f c =
+      let w = whole (Err f) c in
+      record { fault = sym (verdict-is ∙ ap (λ (i : ℕ). first i (count_fault t)) (sym w.fault) ∙ first_inner (fault_number f) (count_fault t) (fault_some f)); counts = tt }
 
-    pub accept : f ≡ 0 → TapeChecks t w
-    accept z =
-        let y : w.fault ≡ 0 = (first-zero _ _ (sym is ∙ z)).0 in
-        record { fault = y ∙ sym z ∙ is ∙ faults; counts = whole.counts; nothing = λ n. absurd (n y) }
+  module _ (x : Checked) (c : Checks (walk 65 Top (part t 0 e)) (Ok x)) where
+    counted : verdict t ≡ if (eqb claimed x.count) 0 2
+    unfolding count_fault
+    counted =
+        let w = whole (Ok x) c in
+        verdict-is
+        ∙ ap (λ (i : ℕ). first i (count_fault t)) (sym w.fault)
+        ∙ ap (λ (i : ℕ). if (eqb i (size (body_of t).0)) 0 2) (sym last)
+        ∙ ap (λ (i : ℕ). if (eqb claimed i) 0 2) (sym w.counts.count)
+
+    pub refuse_count : (claimed ≡ x.count → ⊥) → TapeChecks t (Err F.BadNode)
+    refuse_count n = record { fault = sym (counted ∙ rw (ne_eqb _ _ n) refl); counts = tt }
+
+    pub accept : claimed ≡ x.count → TapeChecks t (Ok x)
+    accept n = record { fault = sym (counted ∙ rw (eq-eqb _ _ n) refl); counts = (whole (Ok x) c).counts }

@@ -10,7 +10,10 @@ use Rattle.tape.specs.Tape.{head_fault, Walked, join, walk}
 use Rattle.tape.specs.declared.Frame.{Frame}
 use Rattle.tape.specs.Refusal.{annotated, noted, noteds, head_numbered, numbered, numbereds}
 use Rattle.tape.specs.CheckSteps.{Checks}
-use Rattle.tape.specs.declared.check.Checked.{Checked}
+use Rattle.tape.specs.Answer.{fault_number, fault_of}
+use Rattle.tape.specs.declared.answer.Fault.{Fault}
+use Rattle.tape.specs.declared.answer.Fault.TheVariants as F
+use Rattle.std.specs.Prelude.{Result, Ok, Err}
 use Rattle.tape.proofs.CodeFacts.{first_inner}
 
 -- of the nodes w without a problem so far, v are left; those before them were count, one of them annotated or none, one an identifier but 0 or none
@@ -24,8 +27,20 @@ pub passed_none : (w : Walked) → Passed w w 0 false false
 passed_none w = record { fault = refl; sizes = omega arith; notes = refl; numbers = refl }
 
 -- a refusal, at the first node left
-pub refuse : {w v : Walked} {c : ℕ} {a b : Bool} → Passed w v c a b → (r : Checked) (f : ℕ) → v.1 ≡ f → (f ≡ 0 → ⊥) → r.fault ≡ f → Checks w r
-refuse i r f e nz g = record { fault = g ∙ sym (i.fault ∙ e); counts = λ z. absurd (nz (sym g ∙ z)) }
+pub refuse : {w v : Walked} {c : ℕ} {a b : Bool} → Passed w v c a b → (f : Fault) → v.1 ≡ fault_number f → Checks w (Err f)
+refuse i f e = record { fault = sym (i.fault ∙ e); counts = tt }
+
+-- a refusal has a number
+pub fault_some : (f : Fault) → fault_number f ≡ 0 → ⊥
+fault_some F.Misfit e = omega arith
+fault_some F.BadNode e = omega arith
+fault_some F.TooDeep e = omega arith
+fault_some F.FiniteFloat e = omega arith
+
+-- what is not refused has none
+pub none_wrong : {A : Type 0} (r : Result A Fault) → ((f : Fault) → r ≡ Err f → ⊥) → fault_of r ≡ 0
+none_wrong (Ok x) h = refl
+none_wrong (Err f) h = absurd (h f refl)
 
 -- a problem in a node behind a head without one
 pub join-fault : (h : Head) (n : Node) (p : ℕ) (u : Walked) → head_fault h ≡ 0 → (p ≡ 0 → ⊥) → (join h n p u).1 ≡ p
@@ -39,8 +54,8 @@ module _ {w v : Walked} {c : ℕ} {a b : Bool} (i : Passed w v c a b) (h : Head)
   joined : v.1 ≡ first (first (head_fault h) p) u.1
   joined = ap (λ (x : Walked). x.1) step
 
-  pub refuse_node : (r : Checked) → head_fault h ≡ 0 → (p ≡ 0 → ⊥) → r.fault ≡ p → Checks w r
-  refuse_node r z nz g = refuse i r p (joined ∙ join-fault h n p u z nz) nz g
+  pub refuse_node : (f : Fault) → head_fault h ≡ 0 → fault_number f ≡ p → Checks w (Err f)
+  refuse_node f z g = refuse i f (joined ∙ join-fault h n p u z (λ e. fault_some f (g ∙ e)) ∙ sym g)
 
   pub pass : (a' b' : Bool) → head_fault h ≡ 0 → p ≡ 0 → a' ≡ a || annotated h.1 || noted n → b' ≡ b || head_numbered h || numbered n → Passed w u (c + 1) a' b'
   unfolding size noteds numbereds
@@ -55,21 +70,21 @@ module _ {w v : Walked} {c : ℕ} {a b : Bool} (i : Passed w v c a b) (h : Head)
       }
 
 -- no nodes are left
-pub passed-all : {w v : Walked} {c : ℕ} {a b : Bool} → Passed w v c a b → v ≡ (nil, 0) → (r : Checked) → r.fault ≡ 0 → r.count ≡ c → r.noted ≡ a → r.numbered ≡ b → Checks w r
+pub passed-all : {w v : Walked} {c : ℕ} {a b : Bool} → Passed w v c a b → v ≡ (nil, 0) → Checks w (Ok (record { count = c; noted = a; numbered = b }))
 unfolding size noteds numbereds
-passed-all {v = v} {a = a} {b = b} i e r f g h j =
+passed-all {v = v} {a = a} {b = b} i e =
     let t : size v.0 ≡ 0 = ap (λ (x : Walked). size x.0) e in
     let s = i.sizes in
     record {
-      fault = f ∙ sym (i.fault ∙ ap (λ (x : Walked). x.1) e);
-      counts = λ z. record {
-        count = g ∙ omega arith;
-        noted = h ∙ sym (i.notes ∙ ap (λ (x : Walked). a || noteds x.0) e ∙ or-false a);
-        numbered = j ∙ sym (i.numbers ∙ ap (λ (x : Walked). b || numbereds x.0) e ∙ or-false b);
+      fault = sym (i.fault ∙ ap (λ (x : Walked). x.1) e);
+      counts = record {
+        count = omega arith;
+        noted = sym (i.notes ∙ ap (λ (x : Walked). a || noteds x.0) e ∙ or-false a);
+        numbered = sym (i.numbers ∙ ap (λ (x : Walked). b || numbereds x.0) e ∙ or-false b);
       };
     }
 
 -- no body may be opened
-pub refuse_deep : (k : Frame) (l : List ℕ) (r : Checked) → r.fault ≡ 3 → Checks (walk 0 k l) r
+pub refuse_deep : (k : Frame) (l : List ℕ) → Checks (walk 0 k l) (Err F.TooDeep)
 unfolding walk
-refuse_deep k l r f = record { fault = f; counts = λ z. absurd (omega arith) }
+refuse_deep k l = record { fault = refl; counts = tt }

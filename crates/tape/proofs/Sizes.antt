@@ -17,7 +17,7 @@ use Rattle.tape.specs.Tape.{reading, kind, length_of, text_of, sym_of, byte_of, 
 use Rattle.tape.specs.Steps.{place_of, size_taken, size_is, size_at}
 use Rattle.tape.specs.CheckSteps.{frame_of}
 use Rattle.tape.specs.declared.Frame.{Frame}
-use Rattle.tape.specs.declared.Place.TheVariants.{Bad as Nowhere, At}
+use Rattle.std.specs.Prelude.{Some, None}
 use Rattle.tape.proofs.Reading.{if_all}
 use Rattle.tape.proofs.CodeReading.{scalar-null, scalar-bool, scalar_int, scalar-float, scalar_decimal, scalar-timestamp, scalar-symbol, scalar-string, scalar-clob, scalar-blob, scalar-other, value_marker, value-scalar, value-empty}
 use Rattle.tape.proofs.CodeFacts.{value_open}
@@ -157,10 +157,10 @@ module _ (l : List ℕ) (z : 0 < size_at l) where
 
 -- ---- what a rule read from a place on, by where that ends
 
-pub taken_none : {A : Type 0} (at : ℕ) (o : Option (A × ℕ)) → place_of at o ≡ Nowhere → size_taken o ≡ 0
+pub taken_none : {A : Type 0} (at : ℕ) (o : Option (A × ℕ)) → place_of at o ≡ None → size_taken o ≡ 0
 taken_none at none e = refl
 taken_none at (some (a, n)) e = let y : ◌≡◌ {A = ℕ} 0 1 = cc in absurd (omega arith)
 
-pub taken_there : {A : Type 0} (at v : ℕ) (o : Option (A × ℕ)) → place_of at o ≡ At v → v ≡ at + size_taken o
+pub taken_there : {A : Type 0} (at v : ℕ) (o : Option (A × ℕ)) → place_of at o ≡ Some v → v ≡ at + size_taken o
 taken_there at v none e = let y : ◌≡◌ {A = ℕ} 0 1 = cc in absurd (omega arith)
 taken_there at v (some (a, n)) e = let y : at + n ≡ v = cc in sym y

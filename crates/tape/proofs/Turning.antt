@@ -16,7 +16,7 @@ use Rattle.tape.specs.Tape.{reading, kind, length_of, head_of, scalar_of, Value,
 use Rattle.tape.specs.Steps.{place_of, head_at, size_taken, node_is, size_is, problem_is, node_at, size_at, problem_at}
 use Rattle.tape.specs.CheckSteps.{frame_of}
 use Rattle.tape.specs.declared.Frame.{Frame}
-use Rattle.tape.specs.declared.Place.TheVariants.{At}
+use Rattle.std.specs.Prelude.{Some}
 use Rattle.tape.proofs.Parts.{part_length, part-inner}
 use Rattle.tape.proofs.Reading.{SoundV, a_leaf, a_body, value_sound}
 use Rattle.tape.proofs.CodeReading.{value_marker, value-scalar, scalar-other}
@@ -156,7 +156,7 @@ module _ (d : ℕ) (k : Frame) (s : List ℕ) (at e : ℕ) (nz : d ≡ 0 → ⊥
       go none q = absurd (unbad (child_headless k s at e q))
       go (some (a, n)) q = refl
 
-  head-place : place_of at (head_of k (part s at e)) ≡ At place
+  head-place : place_of at (head_of k (part s at e)) ≡ Some place
   head-place = ap (place_of at) head_here
 
   value_here : value_of (free_at k (part s at e)) (part s place e) ≡ absent → ⊥

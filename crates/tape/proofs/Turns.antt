@@ -13,10 +13,11 @@ use Rattle.tape.specs.Tree.{Scalar, Head, Node, scalar, nest, marker, nil}
 use Rattle.tape.specs.Tape.{reading, kind, name_of, notes_of, head_of, scalar_of, Value, absent, leaf, body, value_of, bad, single, free_at, child_of, name_fault, head_fault, scalar_fault, Walked, fault, join, walk}
 use Rattle.tape.specs.Refusal.{annotated, noted, head_numbered, numbered}
 use Rattle.tape.specs.Steps.{place_of, head_at}
-use Rattle.tape.specs.CheckSteps.{coded, scalar_code, span_of, number_in, name_number_in, end_of, frame_of, front_as, notes_front}
+use Rattle.tape.specs.CheckSteps.{whole, coded, scalar_code, span_of, number_in, name_number_in, end_of, frame_of, front_as, notes_front}
 use Rattle.tape.specs.declared.Frame.{Frame}
-use Rattle.tape.specs.declared.Place.TheVariants.{At}
-use Rattle.tape.specs.declared.check.Front.TheVariants as F
+use Rattle.std.specs.Prelude.{Some, None}
+use Rattle.std.proofs.lemmas.Option.{same_Some}
+use Rattle.tape.specs.declared.check.Front.{Front}
 use Rattle.tape.proofs.Parts.{part_length, part-drop, part-inner}
 use Rattle.tape.proofs.Reading.{Long, long, scalar_long, value-all, SoundV, a_leaf, a_body, value_sound}
 use Rattle.tape.proofs.Walking.{walk_bad, walk-headed, walk_leaf, walk_tree}
@@ -52,7 +53,7 @@ module _ (d : ℕ) (k : Frame) (s : List ℕ) (at e : ℕ) (nz : d ≡ 0 → ⊥
       ∙ ap (λ (l : List ℕ). join (head_at k (part s at e)) n (fault n) (walk d k l)) (part-drop s at e (r - at) ∙ ap (λ (j : ℕ). part s j e) y)
 
   -- behind a head that ends at p
-  pub tree_turn : (p : ℕ) → at ≤ p → p ≤ e → place_of at (head_of k (part s at e)) ≡ At p → (f : Frame) (n : ℕ) → value_of (free_at k (part s at e)) (part s p e) ≡ body f n
+  pub tree_turn : (p : ℕ) → at ≤ p → p ≤ e → place_of at (head_of k (part s at e)) ≡ Some p → (f : Frame) (n : ℕ) → value_of (free_at k (part s at e)) (part s p e) ≡ body f n
       → TreeTurn d k s at e f (p + 5) (p + 5 + n)
   tree_turn p b w z f n v = go (subst (SoundV (part s p e)) v (value_sound (free_at k (part s at e)) (part s p e)))
     where
@@ -79,7 +80,7 @@ module _ (d : ℕ) (k : Frame) (s : List ℕ) (at e : ℕ) (nz : d ≡ 0 → ⊥
 
 -- the head has no problem and ends at p; m and n: whether there are annotations, and whether there is an identifier but 0, in it or, by a and b, before it
 pub record HeadSeen (k : Frame) (s : List ℕ) (at e : ℕ) (a b : Bool) (p : ℕ) (m n : Bool) : Type 0 where
-  pub place : place_of at (head_of k (part s at e)) ≡ At p
+  pub place : place_of at (head_of k (part s at e)) ≡ Some p
   pub sound : head_fault (head_at k (part s at e)) ≡ 0
   pub notes : m ≡ a || annotated (head_at k (part s at e)).1
   pub numbers : n ≡ b || head_numbered (head_at k (part s at e))
@@ -101,7 +102,11 @@ pub record Refused (d : ℕ) (k : Frame) (s : List ℕ) (at e g : ℕ) : Type 0 
   pub fault : (walk d k (part s at e)).1 ≡ g
   pub some : g ≡ 0 → ⊥
 
-head-turn : (k : Frame) (s : List ℕ) (at e : ℕ) (a b : Bool) (p : ℕ) (m n : Bool) → at ≤ e → e ≤ length s → F.Whole p m n ≡ head_front at a b (head_of k (part s at e))
+-- annotations that are the same in their parts
+pub whole_parts : {p q : ℕ} {m n b d : Bool} → whole p m b ≡ whole q n d → (p ≡ q) × (m ≡ n) × (b ≡ d)
+whole_parts e = let f = same_Some _ _ e in (ap (λ (x : Front). x.end) f, ap (λ (x : Front). x.noted) f, ap (λ (x : Front). x.numbered) f)
+
+head-turn : (k : Frame) (s : List ℕ) (at e : ℕ) (a b : Bool) (p : ℕ) (m n : Bool) → at ≤ e → e ≤ length s → whole p m n ≡ head_front at a b (head_of k (part s at e))
     → HeadSeen k s at e a b p m n
 head-turn k s at e a b p m n h i z =
     let g = go (head_of k (part s at e)) z in
@@ -112,14 +117,14 @@ head-turn k s at e a b p m n h i z =
     its o = reading o (none, []) (λ g j. g)
 
     Told : Option (Head × ℕ) → Type 0
-    Told o = (place_of at o ≡ At p) × (head_fault (its o) ≡ 0) × (m ≡ a || annotated (its o).1) × (n ≡ b || head_numbered (its o))
+    Told o = (place_of at o ≡ Some p) × (head_fault (its o) ≡ 0) × (m ≡ a || annotated (its o).1) × (n ≡ b || head_numbered (its o))
 
-    go : (o : Option (Head × ℕ)) → F.Whole p m n ≡ head_front at a b o → Told o
+    go : (o : Option (Head × ℕ)) → whole p m n ≡ head_front at a b o → Told o
     go none z = let y : ◌≡◌ {A = ℕ} 0 1 = cc in absurd (omega arith)
     go (some (g, j)) z = by (head_fault g) refl z
       where
-        by : (f : ℕ) → head_fault g ≡ f → F.Whole p m n ≡ front_as f (at + j) (a || annotated g.1) (b || head_numbered g) → Told (some (g, j))
-        by zero x z = let y : at + j ≡ p = cc in (ap At y, x, cc, cc)
+        by : (f : ℕ) → head_fault g ≡ f → whole p m n ≡ front_as f (at + j) (a || annotated g.1) (b || head_numbered g) → Told (some (g, j))
+        by zero x z = let y = whole_parts z in (ap Some (sym y.0), x, y.1, y.2)
         by (suc f) x z = let y : ◌≡◌ {A = ℕ} 0 1 = cc in absurd (omega arith)
 
 -- no annotation stands in a value without a body
@@ -135,14 +140,14 @@ value_unnoted f l = value-all (λ (v : Value). leaf_noted v ≡ false) f l refl 
 -- ---- the turns
 
 module _ (d : ℕ) (k : Frame) (s : List ℕ) (at e : ℕ) (nz : d ≡ 0 → ⊥) (h : at < e) (i : e ≤ length s) where
-  headless_turn : (a b : Bool) → F.Bad ≡ head_front at a b (head_of k (part s at e)) → Refused d k s at e 2
+  headless_turn : (a b : Bool) → None ≡ head_front at a b (head_of k (part s at e)) → Refused d k s at e 2
   headless_turn a b z = record { fault = go (head_of k (part s at e)) refl z; some = λ z. omega arith }
     where
-      go : (o : Option (Head × ℕ)) → head_of k (part s at e) ≡ o → F.Bad ≡ head_front at a b o → (walk d k (part s at e)).1 ≡ 2
+      go : (o : Option (Head × ℕ)) → head_of k (part s at e) ≡ o → None ≡ head_front at a b o → (walk d k (part s at e)).1 ≡ 2
       go none q z = ap (λ (w : Walked). w.1) (bad_turn d k s at e nz h i (child_headless k s at e q))
       go (some (g, n)) q z = by (head_fault g) refl z
         where
-          by : (f : ℕ) → head_fault g ≡ f → F.Bad ≡ front_as f (at + n) (a || annotated g.1) (b || head_numbered g) → (walk d k (part s at e)).1 ≡ 2
+          by : (f : ℕ) → head_fault g ≡ f → None ≡ front_as f (at + n) (a || annotated g.1) (b || head_numbered g) → (walk d k (part s at e)).1 ≡ 2
           by zero x z = let y : ◌≡◌ {A = ℕ} 0 1 = cc in absurd (omega arith)
           by (suc f) x z = walk-headed k d (part s at e) nz (some_left d k s at e nz h i) g n q (head_two g (λ y. omega arith))
 
@@ -283,8 +288,8 @@ module _ (d : ℕ) (k : Frame) (s : List ℕ) (at e : ℕ) (nz : d ≡ 0 → ⊥
           end_refused (head-turn k s at e a b e a (b || name_number_in k (part s at e)) (omega arith) i (front-none (part s e e) e a (b || name_number_in k (part s at e)) (notes-empty (part s e e) (omega arith)) ∙ front-head k s at e a b e r)) refl
 
   module _ (a b : Bool) (q : ℕ) (r : Ended name_fault at q (name_of k (part s at e))) where
-    pub notes-refused : F.Bad ≡ notes_front q a (b || name_number_in k (part s at e)) (notes_of (part s q e)) → Refused d k s at e 2
+    pub notes-refused : None ≡ notes_front q a (b || name_number_in k (part s at e)) (notes_of (part s q e)) → Refused d k s at e 2
     notes-refused z = headless_turn a b (z ∙ front-head k s at e a b q r)
 
-    pub notes-turn : (p : ℕ) (m n : Bool) → F.Whole p m n ≡ notes_front q a (b || name_number_in k (part s at e)) (notes_of (part s q e)) → HeadSeen k s at e a b p m n
+    pub notes-turn : (p : ℕ) (m n : Bool) → whole p m n ≡ notes_front q a (b || name_number_in k (part s at e)) (notes_of (part s q e)) → HeadSeen k s at e a b p m n
     notes-turn p m n z = head-turn k s at e a b p m n (omega arith) i (z ∙ front-head k s at e a b q r)

@@ -1,7 +1,9 @@
 -- The answers of the public functions, and the documents' number for each. Assumes nothing: these are definitions.
-use Rattle.std.specs.Prelude.{ℕ}
+use Rattle.std.specs.Prelude.{ℕ, Result, Ok, Err}
 use Rattle.tape.specs.declared.answer.Answer.{Answer}
 use Rattle.tape.specs.declared.answer.Answer.TheVariants as A
+use Rattle.tape.specs.declared.answer.Fault.{Fault}
+use Rattle.tape.specs.declared.answer.Fault.TheVariants as F
 
 -- the count of finished bytes, the end mark of line reading, or one refusal from the table
 pub data Outcome : Type 0 where
@@ -30,3 +32,15 @@ abbrev pub number_of : Outcome → ℕ
 number_of (counted n) = 0
 number_of ended = 0
 number_of (refused n) = n
+
+-- the number of a tape's own refusal
+abbrev pub fault_number : Fault → ℕ
+fault_number F.Misfit = 1
+fault_number F.BadNode = 2
+fault_number F.TooDeep = 3
+fault_number F.FiniteFloat = 4
+
+-- the same of what may be refused; 0 where it is not
+abbrev pub fault_of : {A : Type 0} → Result A Fault → ℕ
+fault_of (Ok x) = 0
+fault_of (Err f) = fault_number f

@@ -1,5 +1,5 @@
 -- What the contracts of the parts of validation say of their answers. Assumes nothing: these are definitions.
-use Rattle.std.specs.Prelude.{ℕ, zero, suc, ◌+◌, ◌≡◌, List, Bool, true, false, ◌||◌, length, eqb, leb}
+use Rattle.std.specs.Prelude.{ℕ, zero, suc, ◌+◌, ◌≡◌, List, Bool, true, false, ◌||◌, length, eqb, leb, Option as OptionC, Some, None, Result, IfOk}
 use Rattle.std.proofs.Math.Option.{Option}
 use Rattle.output.specs.Logic.{if}
 use Rattle.text_rules.specs.Text.{Sym}
@@ -10,8 +10,9 @@ use Rattle.tape.specs.Checked.{Counts}
 use Rattle.tape.specs.declared.Frame.{Frame}
 use Rattle.tape.specs.declared.Frame.TheVariants.{List as ListF, Sexp, Struct}
 use Rattle.tape.specs.declared.check.Front.{Front}
-use Rattle.tape.specs.declared.check.Front.TheVariants as F
 use Rattle.tape.specs.declared.check.Checked.{Checked}
+use Rattle.tape.specs.Answer.{fault_of}
+use Rattle.tape.specs.declared.answer.Fault.{Fault}
 
 -- a node without a body as one number, by its problem f: its n bytes; 1 where it is refused by 4, 0 where it is refused by 2. A node has two
 -- bytes at least, and its problem is 2 or 4, so the numbers do not meet
@@ -51,24 +52,28 @@ end_of f at e o = reading o e (λ a n. ends (f a) (at + n) e)
 unfoldable pub frame_of : ℕ → Frame
 frame_of k = if (eqb k 10) ListF (if (eqb k 11) Sexp Struct)
 
--- of annotations, with their problem f: refused, or they end at p; m: there are annotations, b: there is an identifier but 0
-abbrev pub front_as : ℕ → ℕ → Bool → Bool → Front
-front_as zero p m b = F.Whole p m b
-front_as (suc f) p m b = F.Bad
+-- annotations that end at p; m: there are annotations, b: there is an identifier but 0
+abbrev pub whole : ℕ → Bool → Bool → OptionC Front
+whole p m b = Some (record { end = p; noted = m; numbered = b })
+
+-- the same with their problem f: refused where there is one
+abbrev pub front_as : ℕ → ℕ → Bool → Bool → OptionC Front
+front_as zero p m b = whole p m b
+front_as (suc f) p m b = None
 
 -- of what a rule read from a place on, with its problem by f
-abbrev pub front_of : {A : Type 0} → (A → ℕ) → (A → Bool) → (A → Bool) → ℕ → Option (A × ℕ) → Front
-front_of f m b at o = reading o F.Bad (λ a n. front_as (f a) (at + n) (m a) (b a))
+abbrev pub front_of : {A : Type 0} → (A → ℕ) → (A → Bool) → (A → Bool) → ℕ → Option (A × ℕ) → OptionC Front
+front_of f m b at o = reading o None (λ a n. front_as (f a) (at + n) (m a) (b a))
 
 -- of symbols that are annotations, behind an identifier but 0 if b
-abbrev pub syms_front : ℕ → Bool → Option (List Sym × ℕ) → Front
+abbrev pub syms_front : ℕ → Bool → Option (List Sym × ℕ) → OptionC Front
 syms_front at b o = front_of syms_fault (λ ss. true) (λ ss. b || syms_numbered ss) at o
 
 -- of annotations, of which there may be none, behind others if m
-abbrev pub notes_front : ℕ → Bool → Bool → Option (List Sym × ℕ) → Front
+abbrev pub notes_front : ℕ → Bool → Bool → Option (List Sym × ℕ) → OptionC Front
 notes_front at m b o = front_of syms_fault (λ ss. m || annotated ss) (λ ss. b || syms_numbered ss) at o
 
--- the walk of a body; what it says beside a problem is read by nobody
-pub record Checks (w : Walked) (r : Checked) : Type 0 where
-  pub fault : r.fault ≡ w.1
-  pub counts : r.fault ≡ 0 → Counts w.0 r
+-- the walk of a body
+pub record Checks (w : Walked) (r : Result Checked Fault) : Type 0 where
+  pub fault : fault_of r ≡ w.1
+  pub counts : IfOk r (λ c. Counts w.0 c)

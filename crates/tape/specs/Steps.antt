@@ -1,5 +1,5 @@
 -- What the contracts of the tape's functions say of their answers. Assumes nothing: these are definitions.
-use Rattle.std.specs.Prelude.{ℕ, ◌+◌, List, [], true, length, take, drop, leb}
+use Rattle.std.specs.Prelude.{ℕ, ◌+◌, List, [], true, length, take, drop, leb, Option as OptionC, Some, None}
 use Rattle.std.proofs.Math.Option.{Option, none, some}
 use Rattle.output.specs.Logic.{if}
 use Rattle.text_rules.specs.Text.{Sym}
@@ -10,24 +10,20 @@ use Rattle.tape.specs.declared.Scalar.{Scalar as ScalarC}
 use Rattle.tape.specs.declared.Scalar.TheVariants as C
 use Rattle.tape.specs.declared.Symbol.{Symbol as SymbolC}
 use Rattle.tape.specs.declared.Symbol.TheVariants as Y
-use Rattle.tape.specs.declared.Scanned.{Scanned}
-use Rattle.tape.specs.declared.Scanned.TheVariants.{Bad as NoScalar, Is}
-use Rattle.tape.specs.declared.Place.{Place}
-use Rattle.tape.specs.declared.Place.TheVariants.{Bad as Nowhere, At}
 
 -- where it ends, for what starts at a place
-abbrev pub place_of : {A : Type 0} → ℕ → Option (A × ℕ) → Place
-place_of at o = reading o Nowhere (λ a n. At (at + n))
+abbrev pub place_of : {A : Type 0} → ℕ → Option (A × ℕ) → OptionC ℕ
+place_of at o = reading o None (λ a n. Some (at + n))
 
 -- the length behind the kind byte, if that many bytes follow it
-unfoldable pub length_in : List ℕ → Place
-length_in l = if (leb (5 + length_of l) (length l)) (At (length_of l)) Nowhere
+unfoldable pub length_in : List ℕ → OptionC ℕ
+length_in l = if (leb (5 + length_of l) (length l)) (Some (length_of l)) None
 
 -- the symbol that the code's answer means, whose node starts with the bytes l, and the number of its bytes
-abbrev pub meant_sym : SymbolC → List ℕ → Option (Sym × ℕ)
-meant_sym Y.Bad l = none
-meant_sym (Y.Text n) l = some (Sym.text (take n (drop 5 l)), 5 + n)
-meant_sym (Y.Id i) l = some (Sym.id i, 5)
+abbrev pub meant_sym : OptionC SymbolC → List ℕ → Option (Sym × ℕ)
+meant_sym None l = none
+meant_sym (Some (Y.Text n)) l = some (Sym.text (take n (drop 5 l)), 5 + n)
+meant_sym (Some (Y.Id i)) l = some (Sym.id i, 5)
 
 -- the scalar that the code's answer means, whose node starts with the bytes l
 abbrev pub meant_scalar : ScalarC → List ℕ → Scalar
@@ -57,9 +53,9 @@ size_of (C.«String» n) = 5 + n
 size_of (C.Clob n) = 5 + n
 size_of (C.Blob n) = 5 + n
 
-abbrev pub scanned : Scanned → List ℕ → Option (Scalar × ℕ)
-scanned NoScalar l = none
-scanned (Is s) l = some (meant_scalar s l, size_of s)
+abbrev pub scanned : OptionC ScalarC → List ℕ → Option (Scalar × ℕ)
+scanned None l = none
+scanned (Some s) l = some (meant_scalar s l, size_of s)
 
 -- the head of the child at the start of a list, if it has one that is as it must be
 abbrev pub head_at : Frame → List ℕ → Head

@@ -1,6 +1,6 @@
 // The answers of the public functions.
-ghost use Rattle.std.specs.Prelude.{◌≡◌, ◌≤◌};
-ghost use Rattle.tape.specs.Answer.{outcome, refused, number_of};
+ghost use Rattle.std.specs.Prelude.{◌≡◌};
+ghost use Rattle.tape.specs.Answer.{fault_number, outcome, refused, number_of};
 
 // The count of finished bytes, the end mark of line reading, or a refusal of the table: 1 to 10 of document 01, 13 and 14 of document 02.
 #[derive(Clone, Copy)]
@@ -33,21 +33,40 @@ pub enum Answer {
     OutputTooLong,
 }
 
-// The refusal of a tape's own number.
-pub fn refusal_of(fault: u8) -> Answer
-    requires { (1 ≤ fault) × (fault ≤ 4) }
-    ensures { outcome result ≡ refused fault }
-{
-    if fault == 1 {
-        return Answer::Misfit;
+// What a tape is refused by, whoever reads it: the first four of the table.
+#[derive(Clone, Copy)]
+pub enum Fault {
+    Misfit,
+    BadNode,
+    TooDeep,
+    FiniteFloat,
+}
+
+impl Fault {
+    // Its number in the table.
+    pub fn number(self) -> u8
+        ensures { result ≡ fault_number self }
+    {
+        match self {
+            Fault::Misfit => 1,
+            Fault::BadNode => 2,
+            Fault::TooDeep => 3,
+            Fault::FiniteFloat => 4,
+        }
     }
-    if fault == 2 {
-        return Answer::BadNode;
+}
+
+impl From<Fault> for Answer {
+    ghost from_gives = { λ fault answer. outcome answer ≡ refused (fault_number fault) };
+
+    fn from(fault: Fault) -> Answer {
+        match fault {
+            Fault::Misfit => Answer::Misfit,
+            Fault::BadNode => Answer::BadNode,
+            Fault::TooDeep => Answer::TooDeep,
+            Fault::FiniteFloat => Answer::FiniteFloat,
+        }
     }
-    if fault == 3 {
-        return Answer::TooDeep;
-    }
-    Answer::FiniteFloat
 }
 
 // The number of a refusal; 0 for a count and for the end mark.

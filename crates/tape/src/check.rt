@@ -1,44 +1,33 @@
 // Validation: the first problem of a tape, and what the writers ask of its nodes, in one walk.
-ghost use Rattle.std.specs.Prelude.{◌≡◌, ◌||◌, ◌+◌, ◌<◌, ◌≤◌, eqb, length, take, drop};
+ghost use Rattle.std.specs.Prelude.{◌≡◌, ◌+◌, ◌<◌, ◌≤◌, eqb, length, take, drop};
 ghost use Rattle.output.specs.Logic.{if};
 ghost use Rattle.text_rules.specs.Utf8.{valid};
-ghost use Rattle.tape.specs.Bytes.{part, first};
+ghost use Rattle.tape.specs.Bytes.{part};
 ghost use Rattle.tape.specs.Tree.{null, bool};
 ghost use Rattle.tape.specs.Tape.{kind, text_of, sym_of, syms_of, name_of, notes_of, byte_of, int_of, float_as, float_of, decimal_of, timestamp_of, scalar_of, text_fault, sym_fault, name_fault, free_at, walk};
 ghost use Rattle.tape.specs.CheckSteps.{code_of, scalar_code, span_of, number_in, name_number_in, end_of, frame_of, syms_front, notes_front, Checks};
-ghost use Rattle.tape.specs.Checked.{Refuses, TapeChecks};
+ghost use Rattle.tape.specs.Answer.{fault_number};
+ghost use Rattle.tape.specs.Checked.{BodyEnds, TapeChecks};
 
 use crate::Frame;
-use floats::bits::Magnitude;
+use crate::answer::Fault;
 
-// Annotations: refused, always by 2; or where they end, and, of them and of the nodes before them, whether there are annotations and whether
+// Annotations that are not refused: where they end, and, of them and of the nodes before them, whether there are annotations and whether
 // there is an identifier but 0.
 #[derive(Clone, Copy)]
-pub enum Front {
-    Bad,
-    Whole(usize, bool, bool),
-}
-
-// What is told of the nodes of a body: the first problem or 0; without one, how many stand side by side in it, whether there are annotations,
-// and whether there is an identifier but 0.
-#[derive(Clone, Copy)]
-pub struct Checked {
-    pub fault: u8,
-    pub count: usize,
+pub struct Front {
+    pub end: usize,
     pub noted: bool,
     pub numbered: bool,
 }
 
-pub fn first_of(p: u8, r: u8) -> u8
-    ensures { result ≡ first p r }
-{
-    if p == 0 { r } else { p }
-}
-
-fn either(a: bool, b: bool) -> bool
-    ensures { result ≡ a || b }
-{
-    if a { true } else { b }
+// What is told of the nodes of a body without a problem: how many stand side by side in it, whether there are annotations, and whether there is an
+// identifier but 0.
+#[derive(Clone, Copy)]
+pub struct Checked {
+    pub count: usize,
+    pub noted: bool,
+    pub numbered: bool,
 }
 
 // ---- contents: how many bytes a node without a body takes; 0 where it is refused by 2, 1 where it is refused by 4
@@ -93,8 +82,8 @@ fn bits_size(b: u64) -> usize
     ensures { result ≡ scalar_code (float_as b) }
 {
     match floats::bits::magnitude_of(b) {
-        Magnitude::Is(_) => 9,
-        Magnitude::No => {
+        Some(_) => 9,
+        None => {
             if b == 0x7FF8_0000_0000_0000 {
                 return 9;
             }
@@ -279,10 +268,14 @@ fn scalar_size(tape: &[u8], at: usize, end: usize) -> usize
 }
 
 // By what a scalar is refused, by its size.
-pub fn size_fault(n: usize) -> u8
-    ensures { result ≡ if (eqb n 0) 2 4 }
+pub fn size_fault(n: usize) -> Fault
+    ensures { fault_number result ≡ if (eqb n 0) 2 4 }
 {
-    if n == 0 { 2 } else { 4 }
+    if n == 0 {
+        Fault::BadNode
+    } else {
+        Fault::FiniteFloat
+    }
 }
 
 // The frame of a container, by its kind byte 10, 11 or 12.
@@ -300,48 +293,48 @@ pub fn frame_of(k: u8) -> Frame
 
 // ---- heads
 
-// n symbols from a place on. `already`: there was an identifier but 0 before.
-fn syms_seen(tape: &[u8], at: usize, end: usize, n: u8, already: bool) -> Front
+// n symbols from a place on, if none is refused, which is always by 2. `already`: there was an identifier but 0 before.
+fn syms_seen(tape: &[u8], at: usize, end: usize, n: u8, already: bool) -> Option<Front>
     requires at_le_end { at ≤ end }
     requires end_in_bounds { end + 8 ≤ length tape.now }
     ensures { result ≡ syms_front at already (syms_of n (part tape.now at end)) }
 {
     let mut p = at;
-    let mut left = n;
     let mut numbered = already;
-    while 0 < left {
+    for _ in 0..n {
         let size = sym_size(tape, p, end);
         if size == 0 {
-            return Front::Bad;
+            return None;
         }
-        numbered = either(numbered, is_number(tape, p, end));
-        p = p + size;
-        left -= 1;
+        numbered |= is_number(tape, p, end);
+        p += size;
     }
-    Front::Whole(p, true, numbered)
+    Some(Front {
+        end: p,
+        noted: true,
+        numbered,
+    })
 }
 
 // The annotations at a place, behind a name. `noted`, `numbered`: what was met before.
-fn notes_seen(tape: &[u8], at: usize, end: usize, noted: bool, numbered: bool) -> Front
+fn notes_seen(tape: &[u8], at: usize, end: usize, noted: bool, numbered: bool) -> Option<Front>
     requires at_le_end { at ≤ end }
     requires end_in_bounds { end + 8 ≤ length tape.now }
     ensures { result ≡ notes_front at noted numbered (notes_of (part tape.now at end)) }
 {
-    if at == end {
-        return Front::Whole(at, noted, numbered);
-    }
-    if tape[at] != 13 {
-        return Front::Whole(at, noted, numbered);
+    if at == end || tape[at] != 13 {
+        return Some(Front {
+            end: at,
+            noted,
+            numbered,
+        });
     }
     if end - at < 2 {
-        return Front::Bad;
+        return None;
     }
     let n = tape[at + 1];
-    if n < 1 {
-        return Front::Bad;
-    }
-    if 16 < n {
-        return Front::Bad;
+    if n < 1 || 16 < n {
+        return None;
     }
     syms_seen(tape, at + 2, end, n, numbered)
 }
@@ -360,9 +353,7 @@ pub fn behind_name(tape: &[u8], at: usize, end: usize, frame: Frame) -> usize
             }
             at + n
         }
-        Frame::Top => at,
-        Frame::List => at,
-        Frame::Sexp => at,
+        Frame::Top | Frame::List | Frame::Sexp => at,
     }
 }
 
@@ -374,9 +365,7 @@ pub fn name_number(tape: &[u8], at: usize, end: usize, frame: Frame) -> bool
 {
     match frame {
         Frame::Struct => is_number(tape, at, end),
-        Frame::Top => false,
-        Frame::List => false,
-        Frame::Sexp => false,
+        Frame::Top | Frame::List | Frame::Sexp => false,
     }
 }
 
@@ -388,138 +377,123 @@ pub fn is_free(tape: &[u8], at: usize, end: usize, frame: Frame) -> bool
 {
     match frame {
         Frame::Top => tape[at] != 13,
-        Frame::List => false,
-        Frame::Sexp => false,
-        Frame::Struct => false,
+        Frame::List | Frame::Sexp | Frame::Struct => false,
     }
 }
 
 // ---- bodies
 
-// A problem, and nothing told of nodes.
-pub fn refused(fault: u8) -> Checked
-    ensures { Refuses fault result }
-{
-    Checked {
-        fault,
-        count: 0,
-        noted: false,
-        numbered: false,
-    }
-}
-
-// The first problem among the nodes of a body, or 0 and what stands in it. A body is opened while `depth` more may be.
+// What stands in a body, or the first problem among its nodes. A body is opened while `depth` more may be.
 // Eight bytes stand behind every body, as the trailer does, so that a word may be loaded at any place of it.
-fn check_nodes(tape: &[u8], from: usize, end: usize, frame: Frame, depth: usize) -> Checked
+fn check_nodes(
+    tape: &[u8],
+    from: usize,
+    end: usize,
+    frame: Frame,
+    depth: usize,
+) -> Result<Checked, Fault>
     requires from_le_end { from ≤ end }
     requires end_in_bounds { end + 8 ≤ length tape.now }
     ensures { Checks (walk depth frame (part tape.now from end)) result }
 {
     if depth == 0 {
-        return refused(3);
+        return Err(Fault::TooDeep);
     }
     let mut at = from;
     let mut count: usize = 0;
     let mut noted = false;
     let mut numbered = false;
+    // A walk: the step is the node's size.
     while at < end {
         let q = behind_name(tape, at, end, frame);
         if q == end {
-            return refused(2);
+            return Err(Fault::BadNode);
         }
-        numbered = either(numbered, name_number(tape, at, end, frame));
+        numbered |= name_number(tape, at, end, frame);
         let mut p = q;
         if tape[q] == 13 {
-            let Front::Whole(r, m, b) = notes_seen(tape, q, end, noted, numbered) else {
-                return refused(2);
+            let Some(front) = notes_seen(tape, q, end, noted, numbered) else {
+                return Err(Fault::BadNode);
             };
-            if r == end {
-                return refused(2);
+            if front.end == end {
+                return Err(Fault::BadNode);
             }
-            p = r;
-            noted = m;
-            numbered = b;
+            p = front.end;
+            noted = front.noted;
+            numbered = front.numbered;
         }
         let k = tape[p];
         if k < 10 {
             let n = scalar_size(tape, p, end);
             if n < 2 {
-                return refused(size_fault(n));
+                return Err(size_fault(n));
             }
-            numbered = either(numbered, is_number(tape, p, end));
+            numbered |= is_number(tape, p, end);
             count += 1;
             at = p + n;
         } else {
             if k < 13 {
                 let n = span(tape, p, end);
                 if n == 0 {
-                    return refused(2);
+                    return Err(Fault::BadNode);
                 }
-                let r = check_nodes(tape, p + 5, p + n, frame_of(k), depth - 1);
-                if r.fault != 0 {
-                    return refused(r.fault);
-                }
-                noted = either(noted, r.noted);
-                numbered = either(numbered, r.numbered);
+                let inner = check_nodes(tape, p + 5, p + n, frame_of(k), depth - 1)?;
+                noted |= inner.noted;
+                numbered |= inner.numbered;
                 count += 1;
                 at = p + n;
             } else {
                 if k == 15 {
                     let n = span(tape, p, end);
                     if n == 0 {
-                        return refused(2);
+                        return Err(Fault::BadNode);
                     }
                     count += 1;
                     at = p + n;
                 } else {
                     if k != 14 {
-                        return refused(2);
+                        return Err(Fault::BadNode);
                     }
                     if is_free(tape, at, end, frame) {
                         count += 1;
                         at = p + 1;
                     } else {
-                        return refused(2);
+                        return Err(Fault::BadNode);
                     }
                 }
             }
         }
     }
-    Checked {
-        fault: 0,
+    Ok(Checked {
         count,
         noted,
         numbered,
-    }
+    })
 }
 
-// Whether the trailer counts the nodes right.
-pub fn count_fault(claimed: usize, count: usize) -> u8
-    ensures { result ≡ if (eqb claimed count) 0 2 }
-{
-    if claimed == count { 0 } else { 2 }
-}
-
-// The refusal of a tape that both writers share, or 0 and what stands in it.
-pub fn check_tape(tape: &[u8]) -> Checked
-    ensures { TapeChecks tape.now result }
+// Where the nodes of a tape end, if its length is as it must be.
+pub fn body_end(tape: &[u8]) -> Result<usize, Fault>
+    ensures { BodyEnds tape.now result }
 {
     let n = tape.len();
-    if n < 8 {
-        return refused(1);
-    }
-    if 1048576 < n {
-        return refused(1);
+    if n < 8 || 1048576 < n {
+        return Err(Fault::Misfit);
     }
     let end = n - 8;
     if crate::u32_at(tape, end) as usize + 8 != n {
-        return refused(1);
+        return Err(Fault::Misfit);
     }
-    let r = check_nodes(tape, 0, end, Frame::Top, 65);
-    let claimed = crate::u32_at(tape, end + 4) as usize;
-    let f = first_of(r.fault, count_fault(claimed, r.count));
-    if f != 0 {
-        return refused(f);
+    Ok(end)
+}
+
+// What stands in a tape, or the refusal that both writers share: the length, then the nodes, then whether the trailer counts them right.
+pub fn check_tape(tape: &[u8]) -> Result<Checked, Fault>
+    ensures { TapeChecks tape.now result }
+{
+    let end = body_end(tape)?;
+    let c = check_nodes(tape, 0, end, Frame::Top, 65)?;
+    if crate::u32_at(tape, end + 4) as usize != c.count {
+        return Err(Fault::BadNode);
     }
-    r
+    Ok(c)
 }

@@ -21,7 +21,7 @@ pub enum Frame {
     Struct,
 }
 
-// A scalar value. An enum holds no slice, so of a text it has the length; the bytes stand 5 bytes behind the node's kind byte.
+// A scalar value. Of a text it has the length; the bytes stand 5 bytes behind the node's kind byte.
 #[derive(Clone, Copy)]
 pub enum Scalar {
     Null(u8),
@@ -37,26 +37,11 @@ pub enum Scalar {
     Blob(usize),
 }
 
-// A symbol's node at a place: none; text, with its length; an identifier.
+// A symbol's node: text, with its length; an identifier.
 #[derive(Clone, Copy)]
 pub enum Symbol {
-    Bad,
     Text(usize),
     Id(u32),
-}
-
-// A scalar at a place, or none.
-#[derive(Clone, Copy)]
-pub enum Scanned {
-    Bad,
-    Is(Scalar),
-}
-
-// A place, if what stands before it is as it must be.
-#[derive(Clone, Copy)]
-pub enum Place {
-    Bad,
-    At(usize),
 }
 
 // ---- numbers
@@ -128,51 +113,43 @@ fn signed16(b: u64) -> i16
 // ---- scalars
 
 // The length behind the kind byte at a place, if that many bytes follow it.
-fn length_at(tape: &[u8], at: usize, end: usize) -> Place
+fn length_at(tape: &[u8], at: usize, end: usize) -> Option<usize>
     requires at_le_end { at ≤ end }
     requires end_in_bounds { end ≤ length tape.now }
     ensures { result ≡ length_in (part tape.now at end) }
 {
     if end - at < 5 {
-        return Place::Bad;
+        return None;
     }
     let n = u32_at(tape, at + 1) as usize;
-    if n <= end - at - 5 {
-        Place::At(n)
-    } else {
-        Place::Bad
-    }
+    if n <= end - at - 5 { Some(n) } else { None }
 }
 
-fn null_at(tape: &[u8], at: usize, end: usize) -> Scanned
+fn null_at(tape: &[u8], at: usize, end: usize) -> Option<Scalar>
     requires at_le_end { at ≤ end }
     requires end_in_bounds { end ≤ length tape.now }
     ensures { scanned result (part tape.now at end) ≡ byte_of 12 null (part tape.now at end) }
 {
     if end - at < 2 {
-        return Scanned::Bad;
+        return None;
     }
     let t = tape[at + 1];
-    if t <= 12 {
-        Scanned::Is(Scalar::Null(t))
-    } else {
-        Scanned::Bad
-    }
+    if t <= 12 { Some(Scalar::Null(t)) } else { None }
 }
 
-fn bool_at(tape: &[u8], at: usize, end: usize) -> Scanned
+fn bool_at(tape: &[u8], at: usize, end: usize) -> Option<Scalar>
     requires at_le_end { at ≤ end }
     requires end_in_bounds { end ≤ length tape.now }
     ensures { scanned result (part tape.now at end) ≡ byte_of 1 (λ b. bool (eqb b 1)) (part tape.now at end) }
 {
     if end - at < 2 {
-        return Scanned::Bad;
+        return None;
     }
     let t = tape[at + 1];
     if t <= 1 {
-        Scanned::Is(Scalar::Bool(t == 1))
+        Some(Scalar::Bool(t == 1))
     } else {
-        Scanned::Bad
+        None
     }
 }
 
@@ -184,37 +161,37 @@ pub fn int_of(tape: &[u8], at: usize) -> i64
     signed64(u64_at(tape, at + 1))
 }
 
-fn int_at(tape: &[u8], at: usize, end: usize) -> Scanned
+fn int_at(tape: &[u8], at: usize, end: usize) -> Option<Scalar>
     requires at_le_end { at ≤ end }
     requires end_in_bounds { end ≤ length tape.now }
     ensures { scanned result (part tape.now at end) ≡ int_of (part tape.now at end) }
 {
     if end - at < 9 {
-        return Scanned::Bad;
+        return None;
     }
-    Scanned::Is(Scalar::Int(int_of(tape, at)))
+    Some(Scalar::Int(int_of(tape, at)))
 }
 
 // The float of 64 bits: the one NaN, no other NaN, or the value.
-pub fn float_of(b: u64) -> Scanned
+pub fn float_of(b: u64) -> Option<Scalar>
     ensures { (l : List ℕ) → scanned result l ≡ float_as b }
 {
     if b == 0x7FF8_0000_0000_0000 {
-        return Scanned::Is(Scalar::Float(0.0 / 0.0));
+        return Some(Scalar::Float(0.0 / 0.0));
     }
     if 0x7FF0_0000_0000_0000 < b % 0x8000_0000_0000_0000 {
-        return Scanned::Bad;
+        return None;
     }
-    Scanned::Is(Scalar::Float(f64::from_bits(b)))
+    Some(Scalar::Float(f64::from_bits(b)))
 }
 
-fn float_at(tape: &[u8], at: usize, end: usize) -> Scanned
+fn float_at(tape: &[u8], at: usize, end: usize) -> Option<Scalar>
     requires at_le_end { at ≤ end }
     requires end_in_bounds { end ≤ length tape.now }
     ensures { scanned result (part tape.now at end) ≡ float_of (part tape.now at end) }
 {
     if end - at < 9 {
-        return Scanned::Bad;
+        return None;
     }
     float_of(u64_at(tape, at + 1))
 }
@@ -234,21 +211,21 @@ pub fn exponent_of(tape: &[u8], at: usize) -> i32
     signed32(u32_at(tape, at + 10))
 }
 
-fn decimal_at(tape: &[u8], at: usize, end: usize) -> Scanned
+fn decimal_at(tape: &[u8], at: usize, end: usize) -> Option<Scalar>
     requires at_le_end { at ≤ end }
     requires end_in_bounds { end ≤ length tape.now }
     ensures { scanned result (part tape.now at end) ≡ decimal_of (part tape.now at end) }
 {
     if end - at < 14 {
-        return Scanned::Bad;
+        return None;
     }
     let s = tape[at + 1];
     if 1 < s {
-        return Scanned::Bad;
+        return None;
     }
     let m = magnitude_of(tape, at);
     let e = exponent_of(tape, at);
-    Scanned::Is(Scalar::Decimal(s == 1, m, e))
+    Some(Scalar::Decimal(s == 1, m, e))
 }
 
 // The fields of the timestamp whose node stands at a place.
@@ -273,126 +250,69 @@ pub fn timestamp_of(tape: &[u8], at: usize) -> Timestamp
     }
 }
 
-fn timestamp_at(tape: &[u8], at: usize, end: usize) -> Scanned
+fn timestamp_at(tape: &[u8], at: usize, end: usize) -> Option<Scalar>
     requires at_le_end { at ≤ end }
     requires end_in_bounds { end ≤ length tape.now }
     ensures { scanned result (part tape.now at end) ≡ timestamp_of (part tape.now at end) }
 {
     if end - at < 16 {
-        return Scanned::Bad;
+        return None;
     }
-    Scanned::Is(Scalar::Timestamp(timestamp_of(tape, at)))
+    Some(Scalar::Timestamp(timestamp_of(tape, at)))
 }
 
-pub fn sym_at(tape: &[u8], at: usize, end: usize) -> Symbol
+pub fn sym_at(tape: &[u8], at: usize, end: usize) -> Option<Symbol>
     requires at_le_end { at ≤ end }
     requires end_in_bounds { end ≤ length tape.now }
     ensures { meant_sym result (part tape.now at end) ≡ sym_of (part tape.now at end) }
 {
     if at == end {
-        return Symbol::Bad;
+        return None;
     }
-    let k = tape[at];
-    if k == 6 {
-        let Place::At(n) = length_at(tape, at, end) else {
-            return Symbol::Bad;
-        };
-        return Symbol::Text(n);
+    match tape[at] {
+        6 => Some(Symbol::Text(length_at(tape, at, end)?)),
+        7 => {
+            if end - at < 5 {
+                return None;
+            }
+            Some(Symbol::Id(u32_at(tape, at + 1) as u32))
+        }
+        _ => None,
     }
-    if k != 7 {
-        return Symbol::Bad;
-    }
-    if end - at < 5 {
-        return Symbol::Bad;
-    }
-    Symbol::Id(u32_at(tape, at + 1) as u32)
 }
 
-fn symbol_at(tape: &[u8], at: usize, end: usize) -> Scanned
+fn symbol_at(tape: &[u8], at: usize, end: usize) -> Option<Scalar>
     requires at_le_end { at ≤ end }
     requires end_in_bounds { end ≤ length tape.now }
     ensures { scanned result (part tape.now at end) ≡ symbol_of (part tape.now at end) }
 {
-    match sym_at(tape, at, end) {
-        Symbol::Bad => Scanned::Bad,
-        Symbol::Text(n) => Scanned::Is(Scalar::Symbol(n)),
-        Symbol::Id(i) => Scanned::Is(Scalar::Id(i)),
+    match sym_at(tape, at, end)? {
+        Symbol::Text(n) => Some(Scalar::Symbol(n)),
+        Symbol::Id(i) => Some(Scalar::Id(i)),
     }
 }
 
-fn string_at(tape: &[u8], at: usize, end: usize) -> Scanned
-    requires at_le_end { at ≤ end }
-    requires end_in_bounds { end ≤ length tape.now }
-    ensures { scanned result (part tape.now at end) ≡ sized_of string (part tape.now at end) }
-{
-    let Place::At(n) = length_at(tape, at, end) else {
-        return Scanned::Bad;
-    };
-    Scanned::Is(Scalar::String(n))
-}
-
-fn clob_at(tape: &[u8], at: usize, end: usize) -> Scanned
-    requires at_le_end { at ≤ end }
-    requires end_in_bounds { end ≤ length tape.now }
-    ensures { scanned result (part tape.now at end) ≡ sized_of clob (part tape.now at end) }
-{
-    let Place::At(n) = length_at(tape, at, end) else {
-        return Scanned::Bad;
-    };
-    Scanned::Is(Scalar::Clob(n))
-}
-
-fn blob_at(tape: &[u8], at: usize, end: usize) -> Scanned
-    requires at_le_end { at ≤ end }
-    requires end_in_bounds { end ≤ length tape.now }
-    ensures { scanned result (part tape.now at end) ≡ sized_of blob (part tape.now at end) }
-{
-    let Place::At(n) = length_at(tape, at, end) else {
-        return Scanned::Bad;
-    };
-    Scanned::Is(Scalar::Blob(n))
-}
-
-pub fn scalar_at(tape: &[u8], at: usize, end: usize) -> Scanned
+pub fn scalar_at(tape: &[u8], at: usize, end: usize) -> Option<Scalar>
     requires at_le_end { at ≤ end }
     requires end_in_bounds { end ≤ length tape.now }
     ensures { scanned result (part tape.now at end) ≡ scalar_of (part tape.now at end) }
 {
     if at == end {
-        return Scanned::Bad;
+        return None;
     }
-    let k = tape[at];
-    if k == 0 {
-        return null_at(tape, at, end);
+    match tape[at] {
+        0 => null_at(tape, at, end),
+        1 => bool_at(tape, at, end),
+        2 => int_at(tape, at, end),
+        3 => float_at(tape, at, end),
+        4 => decimal_at(tape, at, end),
+        5 => timestamp_at(tape, at, end),
+        6 | 7 => symbol_at(tape, at, end),
+        8 => Some(Scalar::String(length_at(tape, at, end)?)),
+        9 => Some(Scalar::Clob(length_at(tape, at, end)?)),
+        15 => Some(Scalar::Blob(length_at(tape, at, end)?)),
+        _ => None,
     }
-    if k == 1 {
-        return bool_at(tape, at, end);
-    }
-    if k == 2 {
-        return int_at(tape, at, end);
-    }
-    if k == 3 {
-        return float_at(tape, at, end);
-    }
-    if k == 4 {
-        return decimal_at(tape, at, end);
-    }
-    if k == 5 {
-        return timestamp_at(tape, at, end);
-    }
-    if k <= 7 {
-        return symbol_at(tape, at, end);
-    }
-    if k == 8 {
-        return string_at(tape, at, end);
-    }
-    if k == 9 {
-        return clob_at(tape, at, end);
-    }
-    if k == 15 {
-        return blob_at(tape, at, end);
-    }
-    Scanned::Bad
 }
 
 // How many bytes a scalar takes.
@@ -401,95 +321,71 @@ pub fn size_of(s: Scalar) -> usize
     ensures { result ≡ size_of s }
 {
     match s {
-        Scalar::Null(_) => 2,
-        Scalar::Bool(_) => 2,
-        Scalar::Int(_) => 9,
-        Scalar::Float(_) => 9,
+        Scalar::Null(_) | Scalar::Bool(_) => 2,
+        Scalar::Int(_) | Scalar::Float(_) => 9,
         Scalar::Decimal(_, _, _) => 14,
         Scalar::Timestamp(_) => 16,
-        Scalar::Symbol(n) => 5 + n,
         Scalar::Id(_) => 5,
-        Scalar::String(n) => 5 + n,
-        Scalar::Clob(n) => 5 + n,
-        Scalar::Blob(n) => 5 + n,
+        Scalar::Symbol(n) | Scalar::String(n) | Scalar::Clob(n) | Scalar::Blob(n) => 5 + n,
     }
 }
 
 // ---- what stands before a value
 
-fn sym_end(tape: &[u8], at: usize, end: usize) -> Place
+fn sym_end(tape: &[u8], at: usize, end: usize) -> Option<usize>
     requires at_le_end { at ≤ end }
     requires end_in_bounds { end ≤ length tape.now }
     ensures { result ≡ place_of at (sym_of (part tape.now at end)) }
 {
     if end - at < 5 {
-        return Place::Bad;
+        return None;
     }
-    let k = tape[at];
-    if k == 7 {
-        return Place::At(at + 5);
+    match tape[at] {
+        6 => Some(at + 5 + length_at(tape, at, end)?),
+        7 => Some(at + 5),
+        _ => None,
     }
-    if k != 6 {
-        return Place::Bad;
-    }
-    let Place::At(n) = length_at(tape, at, end) else {
-        return Place::Bad;
-    };
-    Place::At(at + 5 + n)
 }
 
 // Behind n symbols.
-fn syms_end(tape: &[u8], at: usize, end: usize, n: u8) -> Place
+fn syms_end(tape: &[u8], at: usize, end: usize, n: u8) -> Option<usize>
     requires at_le_end { at ≤ end }
     requires end_in_bounds { end ≤ length tape.now }
     ensures { result ≡ place_of at (syms_of n (part tape.now at end)) }
 {
     let mut p = at;
-    let mut left = n;
-    while 0 < left {
-        let Place::At(q) = sym_end(tape, p, end) else {
-            return Place::Bad;
-        };
-        p = q;
-        left -= 1;
+    for _ in 0..n {
+        p = sym_end(tape, p, end)?;
     }
-    Place::At(p)
+    Some(p)
 }
 
-pub fn notes_end(tape: &[u8], at: usize, end: usize) -> Place
+pub fn notes_end(tape: &[u8], at: usize, end: usize) -> Option<usize>
     requires at_le_end { at ≤ end }
     requires end_in_bounds { end ≤ length tape.now }
     ensures { result ≡ place_of at (notes_of (part tape.now at end)) }
 {
-    if at == end {
-        return Place::At(at);
-    }
-    if tape[at] != 13 {
-        return Place::At(at);
+    if at == end || tape[at] != 13 {
+        return Some(at);
     }
     if end - at < 2 {
-        return Place::Bad;
+        return None;
     }
     let n = tape[at + 1];
-    if n < 1 {
-        return Place::Bad;
-    }
-    if 16 < n {
-        return Place::Bad;
+    if n < 1 || 16 < n {
+        return None;
     }
     syms_end(tape, at + 2, end, n)
 }
 
-pub fn name_end(tape: &[u8], at: usize, end: usize, frame: Frame) -> Place
+pub fn name_end(tape: &[u8], at: usize, end: usize, frame: Frame) -> Option<usize>
     requires at_le_end { at ≤ end }
     requires end_in_bounds { end ≤ length tape.now }
     ensures { result ≡ place_of at (name_of frame (part tape.now at end)) }
 {
     match frame {
         Frame::Struct => sym_end(tape, at, end),
-        Frame::Top => Place::At(at),
-        Frame::List => Place::At(at),
-        Frame::Sexp => Place::At(at),
+        Frame::Top | Frame::List | Frame::Sexp => Some(at),
     }
 }
 
@@ -501,10 +397,10 @@ pub fn value_place(tape: &[u8], at: usize, end: usize, frame: Frame) -> usize
     requires end_in_bounds { end ≤ length tape.now }
     ensures { result ≡ at + size_taken (head_of frame (part tape.now at end)) }
 {
-    let Place::At(notes) = name_end(tape, at, end, frame) else {
+    let Some(notes) = name_end(tape, at, end, frame) else {
         return at;
     };
-    let Place::At(value) = notes_end(tape, notes, end) else {
+    let Some(value) = notes_end(tape, notes, end) else {
         return at;
     };
     value
@@ -517,24 +413,13 @@ pub fn value_size(tape: &[u8], at: usize, end: usize) -> usize
     requires nonzero { 0 < size_at (part tape.now at end) }
     ensures { result ≡ size_at (part tape.now at end) }
 {
-    let k = tape[at];
-    if k < 2 {
-        return 2;
+    match tape[at] {
+        0 | 1 => 2,
+        2 | 3 => 9,
+        4 => 14,
+        5 => 16,
+        7 => 5,
+        14 => 1,
+        _ => 5 + u32_at(tape, at + 1) as usize,
     }
-    if k < 4 {
-        return 9;
-    }
-    if k == 4 {
-        return 14;
-    }
-    if k == 5 {
-        return 16;
-    }
-    if k == 7 {
-        return 5;
-    }
-    if k == 14 {
-        return 1;
-    }
-    5 + u32_at(tape, at + 1) as usize
 }

@@ -7,7 +7,7 @@ use native.Mathlib.Decide.{dec_lt}
 use native.Mathlib.Numerals.{add-one}
 use native.Mathlib.Omega.{arith}
 use lib.Dec.{leb}
-use lib.ListN.{length, take, drop, get_or, set, length-drop, take-append-drop, length-take, length-map, get_or-eq_default}
+use lib.ListN.{length, take, drop, get_or, set, length-drop, length-take, length-map, get_or-eq_default}
 use lib.Seq.{sets, sets-eq, length-take-le, take-take, take-add, drop-drop, drop-cons, drop_at, drop-set-lt, take-append_seam, get_or-take, get_or-drop}
 use borrow.Author.Tests.{leb-true}
 use Rattle.output.specs.Logic.{byte}
@@ -93,9 +93,6 @@ base64-append (a ∷ []) t h = absurd (omega arith)
 base64-append (a ∷ b ∷ []) t h = absurd (omega arith)
 base64-append (a ∷ b ∷ c ∷ s) t h = ap (λ (l : List ℕ). characters24 (bits24 a b c) ++ l) (base64-append s t (omega arith))
 
-pub base64-whole : (n : ℕ) (s : List ℕ) → n ≤ length s → n % 3 ≡ 0 → base64 s ≡ base64 (take n s) ++ base64 (drop n s)
-base64-whole n s h e = ap base64 (sym (take-append-drop n s)) ∙ base64-append (take n s) (drop n s) (rw (length-take-le n s h) e)
-
 pub sextets-append : (s t : List ℕ) → length s % 3 ≡ 0 → sextets (s ++ t) ≡ sextets s ++ sextets t
 unfolding sextets
 sextets-append [] t h = refl
@@ -145,9 +142,6 @@ part_bytes s i k b j = go (dec_lt j k)
     go : Dec (j < k) → get_or (take k (drop i s)) j 0 < 256
     go (yes h) = rw (get_or-take k (drop i s) j 0 h, get_or-drop i s j 0) (b (i + j))
     go (no h) = let e = length-take k (drop i s) in rw (get_or-eq_default (take k (drop i s)) 0 {n = j} (omega arith)) (omega arith)
-
-pub part-1 : (s : List ℕ) (i : ℕ) → i + 1 ≤ length s → take 1 (drop i s) ≡ get_or s i 0 ∷ []
-part-1 s i h = ap (take 1) (byte_at s i (omega arith))
 
 pub part-3 : (s : List ℕ) (i : ℕ) → i + 3 ≤ length s → take 3 (drop i s) ≡ get_or s i 0 ∷ get_or s (i + 1) 0 ∷ get_or s (i + 2) 0 ∷ []
 part-3 s i h =

@@ -1,6 +1,6 @@
 -- What the code of digits cites: counts by powers of ten, and digits in blocks. Assumes nothing.
 use mathlib.Core.Path.{◌≡◌, refl, sym, ap, ◌∙◌}
-use mathlib.Core.List.{List, [], ◌∷◌, ◌++◌}
+use mathlib.Core.List.{List, ◌++◌}
 use Prim.Native.Nat.{ℕ, zero, suc, ◌+◌, ◌-◌, ◌*◌, ◌/◌, ◌%◌, ◌^◌, ◌≤◌, ◌<◌}
 use native.Mathlib.Nat.{le_of_lt, pow-suc, pow-le-pow_right, div-eq_of_lt, div-le_self, le-div_iff_mul-le, div-lt_iff_lt-mul}
 use native.Mathlib.Decide.{dec_le}
@@ -8,11 +8,11 @@ use native.Mathlib.Omega.{arith}
 use lib.Dec.{lit<}
 use lib.Arith.{mod-mul}
 use lib.Pow.{pow-add}
-use lib.ListN.{length, set, replicate}
-use lib.Seq.{sets, set_comm}
+use lib.ListN.{length, replicate}
+use lib.Seq.{sets}
 use Rattle.output.specs.Logic.{byte}
-use Rattle.output.proofs.Laws.{sets-append, set-sets-behind}
-use Rattle.text_rules.specs.Digits.{digit, pad, count, digits, zero_padded}
+use Rattle.output.proofs.Laws.{sets-append}
+use Rattle.text_rules.specs.Digits.{pad, count, digits, zero_padded}
 use Rattle.text_rules.specs.DigitSteps.{Led}
 use Rattle.text_rules.proofs.DigitLaws.{pow_pos10, length-pad, pad-split, pad-zero, count_most, count-some, count_enough, length_digits}
 
@@ -113,27 +113,6 @@ led_more {a} {b} {c} {p} {r} k n s l h led e =
           ∙ ap (λ (w : ℕ). sets a p (pad w n)) (sym cnt);
       end = omega (arith, led.end);
     }
-
--- the last of w digits is stored first
-fill_last : (l : List ℕ) (p k m : ℕ) → sets l p (pad (suc k) m) ≡ sets (set l (p + k) (digit (m % 10))) p (pad k (m / 10))
-unfolding pad
-fill_last l p k m =
-    sym (sets-append l p (pad k (m / 10)) (digit (m % 10) ∷ []))
-    ∙ ap (λ (i : ℕ). set (sets l p (pad k (m / 10))) (p + i) (digit (m % 10))) (length-pad k (m / 10))
-    ∙ set-sets-behind (pad k (m / 10)) l p (p + k) (digit (m % 10)) (omega (arith, length-pad k (m / 10)))
-
--- the last two
-pub fill_two : (l : List ℕ) (p k m : ℕ) → sets l p (pad (suc (suc k)) m) ≡ sets (sets l (p + k) (pad 2 (m % 100))) p (pad k (m / 100))
-unfolding pad
-fill_two l p k m =
-    let d : m % 100 / 10 % 10 ≡ m / 10 % 10 = omega arith in
-    let e : m % 100 % 10 ≡ m % 10 = omega arith in
-    let h : m / 10 / 10 ≡ m / 100 = omega arith in
-    let q : p + suc k ≡ suc (p + k) = omega arith in
-    fill_last l p (suc k) m
-    ∙ fill_last (set l (p + suc k) (digit (m % 10))) p k (m / 10)
-    ∙ ap (λ (x : List ℕ). sets x p (pad k (m / 10 / 10))) (set_comm l (p + suc k) (p + k) (digit (m % 10)) (digit (m / 10 % 10)) (λ (z : p + suc k ≡ p + k). omega arith))
-    ∙ rw (d, e, h, q)
 
 -- zero padding, over the width: plain decimal behind the zeros that are missing
 pub zero-padded : (w n : ℕ) → n < 2 ^ 64 → n < 10 ^ w → 1 ≤ w → zero_padded w n ≡ pad w n

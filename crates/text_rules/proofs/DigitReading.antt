@@ -7,12 +7,11 @@ use native.Mathlib.Omega.{arith}
 use lib.ListN.{length, drop, get_or}
 use Rattle.text_rules.specs.Digits.{is_digit, number, run, behind_digits}
 use Rattle.text_rules.specs.DigitSteps.{RunJoined}
-use Rattle.text_rules.specs.declared.digits.Joined.{Joined}
-use Rattle.text_rules.specs.declared.digits.Joined.TheVariants.{Digits as DigitsV, Over}
+use Rattle.std.specs.Prelude.{Option, Some, None}
 use Rattle.text_rules.proofs.Places.{byte_at, end-at}
 use Rattle.text_rules.proofs.DigitLaws.{NoDigit, run_none, past_none, number_more}
 
-pub ran_stop : (t : List ℕ) (i a : ℕ) → NoDigit (drop i t) → i ≤ length t → a < 2 ^ 64 → RunJoined t i a (DigitsV a i)
+pub ran_stop : (t : List ℕ) (i a : ℕ) → NoDigit (drop i t) → i ≤ length t → a < 2 ^ 64 → RunJoined t i a (Some (a, i))
 unfolding number
 ran_stop t i a h l b = rw (run_none (drop i t) h) (refl, past_none (drop i t) h, omega arith, l, b)
 
@@ -30,11 +29,11 @@ past_more : (t : List ℕ) (i : ℕ) → i < length t → is_digit (get_or t i 0
 unfolding behind_digits
 past_more t i l h = rw (byte_at t i l, h)
 
-pub ran_more : (t : List ℕ) (i a : ℕ) (r : Joined) → i < length t → is_digit (get_or t i 0) ≡ true → RunJoined t (i + 1) (a * 10 + (get_or t i 0 - 48)) r → RunJoined t i a r
+pub ran_more : (t : List ℕ) (i a : ℕ) (r : Option (ℕ × ℕ)) → i < length t → is_digit (get_or t i 0) ≡ true → RunJoined t (i + 1) (a * 10 + (get_or t i 0 - 48)) r → RunJoined t i a r
 unfolding number
-ran_more t i a (DigitsV n end) l h v = rw (run_more t i l h, past_more t i l h) (v.0, v.1, omega (arith, v.2), v.3, v.4)
-ran_more t i a Over l h v = rw (run_more t i l h) v
+ran_more t i a (Some (n, end)) l h v = rw (run_more t i l h, past_more t i l h) (v.0, v.1, omega (arith, v.2), v.3, v.4)
+ran_more t i a None l h v = rw (run_more t i l h) v
 
-pub ran_over : (t : List ℕ) (i a : ℕ) → i < length t → is_digit (get_or t i 0) ≡ true → 2 ^ 64 ≤ a * 10 + (get_or t i 0 - 48) → RunJoined t i a Over
+pub ran_over : (t : List ℕ) (i a : ℕ) → i < length t → is_digit (get_or t i 0) ≡ true → 2 ^ 64 ≤ a * 10 + (get_or t i 0 - 48) → RunJoined t i a None
 unfolding number
 ran_over t i a l h v = rw (run_more t i l h) (omega (arith, number_more (a * 10 + (get_or t i 0 - 48)) (run (drop (i + 1) t))))

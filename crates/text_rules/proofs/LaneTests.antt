@@ -1,14 +1,12 @@
 -- What the tests of a word's bytes say: each is one test over the 256 bytes, and then every byte of a text passes it. Assumes nothing.
-use mathlib.Core.Path.{◌≡◌, refl, sym, ap, subst, ◌∙◌}
+use mathlib.Core.Path.{◌≡◌, refl, sym, ap, ◌∙◌}
 use mathlib.Core.Bool.{Bool, true, false, ◌&&◌, ◌||◌, not}
 use mathlib.Core.List.{List, [], ◌∷◌, ◌++◌}
 use mathlib.Core.Option.{none}
-use Prim.Native.Nat.{ℕ, zero, suc, ◌+◌, ◌-◌, ◌*◌, ◌/◌, ◌%◌, ◌^◌, ◌≤◌, ◌<◌}
+use Prim.Native.Nat.{ℕ, zero, suc, ◌+◌, ◌*◌, ◌/◌, ◌%◌, ◌^◌, ◌≤◌, ◌<◌}
 use native.Mathlib.Nat.{mod-one, pow-suc}
-use native.Mathlib.Decide.{dec_le}
 use native.Mathlib.Omega.{arith}
 use lib.Arith.{mod-mul}
-use lib.Bits.{bit_and, and_mask}
 use lib.Dec.{eqb, ltb}
 use lib.ListN.{length, take, drop}
 use lib.Seq.{take-take}
@@ -16,7 +14,7 @@ use borrow.Author.Tests.{ltb-true, not-true, ne_eqb}
 use Rattle.output.specs.Logic.{if, on, byte, ascii}
 use Rattle.output.specs.Wrote.{le_bytes}
 use Rattle.output.proofs.Laws.{length-le}
-use Rattle.output.proofs.Words.{value, take-le, pow-bytes}
+use Rattle.output.proofs.Words.{value, take-le}
 use Rattle.lanes.specs.Lanes.{every, unmarked_by, letter_mark, no_letter, no_part, no_raw}
 use Rattle.lanes.proofs.LaneLaws.{two_digits, every-same}
 use Rattle.text_rules.specs.Texts.{empty, starts, strip, same}
@@ -237,34 +235,3 @@ keyword_start x (suc n) h =
   where
     odd : ◌≡◌ {A = ℕ} 1 0 → ⊥
     odd e = omega arith
-
--- the n lowest bytes as a number
-pub masked : (x m n : ℕ) → m ≡ 2 ^ (8 * n) - 1 → bit_and x m ≡ x % 256 ^ n
-masked x m n e = ap (bit_and x) e ∙ and_mask x (8 * n) ∙ ap (λ (k : ℕ). x % k) (pow-bytes n)
-
--- the lengths of keywords
-by_length : (P : ℕ → Type 0) (n : ℕ) → 3 ≤ n → n ≤ 5 → P 3 → P 4 → P 5 → P n
-by_length P n l h p3 p4 p5 = go (dec_le n 3) (dec_le n 4)
-  where
-    go : Dec (n ≤ 3) → Dec (n ≤ 4) → P n
-    go (yes a) d = let e : 3 ≡ n = omega arith in subst P e p3
-    go (no a) (yes b) = let e : 4 ≡ n = omega arith in subst P e p4
-    go (no a) (no b) = let e : 5 ≡ n = omega arith in subst P e p5
-
--- what n bytes are whose number is that of a keyword, or of none
-module _ (x n : ℕ) (l : 3 ≤ n) (h : n ≤ 5) where
-  pub keyword_true : x % 256 ^ n ≡ 0x65757274 → eqb n 4 ≡ is_keyword (le_bytes n x)
-  keyword_true = by_length (λ k. x % 256 ^ k ≡ 0x65757274 → eqb k 4 ≡ is_keyword (le_bytes k x)) n l h (λ e. absurd (omega arith)) (λ e. sym (keyword-4 x ∙ rw e)) (λ e. sym (keyword-5 x ∙ rw e))
-
-  pub keyword_null : x % 256 ^ n ≡ 0x6C6C756E → eqb n 4 ≡ is_keyword (le_bytes n x)
-  keyword_null = by_length (λ k. x % 256 ^ k ≡ 0x6C6C756E → eqb k 4 ≡ is_keyword (le_bytes k x)) n l h (λ e. absurd (omega arith)) (λ e. sym (keyword-4 x ∙ rw e)) (λ e. sym (keyword-5 x ∙ rw e))
-
-  pub keyword_nan : x % 256 ^ n ≡ 0x6E616E → eqb n 3 ≡ is_keyword (le_bytes n x)
-  keyword_nan = by_length (λ k. x % 256 ^ k ≡ 0x6E616E → eqb k 3 ≡ is_keyword (le_bytes k x)) n l h (λ e. sym (keyword-3 x ∙ rw e)) (λ e. sym (keyword-4 x ∙ rw e)) (λ e. sym (keyword-5 x ∙ rw e))
-
-  pub keyword_false : x % 256 ^ n ≡ 0x65736C6166 → eqb n 5 ≡ is_keyword (le_bytes n x)
-  keyword_false = by_length (λ k. x % 256 ^ k ≡ 0x65736C6166 → eqb k 5 ≡ is_keyword (le_bytes k x)) n l h (λ e. absurd (omega arith)) (λ e. absurd (omega arith)) (λ e. sym (keyword-5 x ∙ rw e))
-
-  pub keyword_other : (x % 256 ^ n ≡ 0x65757274 → ⊥) → (x % 256 ^ n ≡ 0x6C6C756E → ⊥) → (x % 256 ^ n ≡ 0x6E616E → ⊥) → (x % 256 ^ n ≡ 0x65736C6166 → ⊥) → is_keyword (le_bytes n x) ≡ false
-  keyword_other = by_length (λ k. (x % 256 ^ k ≡ 0x65757274 → ⊥) → (x % 256 ^ k ≡ 0x6C6C756E → ⊥) → (x % 256 ^ k ≡ 0x6E616E → ⊥) → (x % 256 ^ k ≡ 0x65736C6166 → ⊥) → is_keyword (le_bytes k x) ≡ false) n l h
-      (λ t u a f. keyword-3 x ∙ ne_eqb _ _ a) (λ t u a f. keyword-4 x ∙ rw (ne_eqb _ _ t, ne_eqb _ _ u)) (λ t u a f. keyword-5 x ∙ ne_eqb _ _ f)

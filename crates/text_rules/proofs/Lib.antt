@@ -1,4 +1,5 @@
 pub mod Places
+pub mod Slices
 pub mod ReadingLaws
 pub mod DigitLaws
 pub mod DigitCode

@@ -14,7 +14,7 @@ use Rattle.text_rules.specs.Texts.{empty, starts, strip, same}
 use Rattle.text_rules.specs.Words.{is_start, is_part, word, behind_word, all_digits, version, resembles_symbol_id, resembles_version_marker, is_identifier, is_keyword, symbol_id, kind_of}
 use Rattle.text_rules.specs.WordSteps.{Spanned, Passed, WordStands, bounded}
 use Rattle.text_rules.specs.declared.words.Kind.TheVariants.{Null, True, False, Nan, Marker, Number, Text, Refused}
-use Rattle.text_rules.proofs.Places.{byte_at, end-at}
+use Rattle.text_rules.proofs.Places.{byte_at, end-at, next}
 use Rattle.text_rules.proofs.DigitLaws.{never, number_more}
 
 -- ---- a byte of an identifier, by its range
@@ -23,37 +23,12 @@ or_last : (b : Bool) → b ≡ b || false
 or_last true = refl
 or_last false = refl
 
-or_falses : (b : Bool) → b ≡ b || false || false || false
-or_falses true = refl
-or_falses false = refl
-
 module _ (b : ℕ) where
   pub part_small : 97 ≤ b → leb b 122 ≡ is_part b
   unfolding is_part is_start is_digit
   part_small h =
       or_last (leb b 122)
       ∙ simp (ne_eqb b 36 (λ q. omega arith), ne_eqb b 95 (λ q. omega arith), le-leb 65 b (omega arith), lt-leb b 90 (omega arith), le-leb 97 b h, le-leb 48 b (omega arith), lt-leb b 57 (omega arith))
-
-  pub part_low : b < 48 → eqb b 36 ≡ is_part b
-  unfolding is_part is_start is_digit
-  part_low h =
-      or_falses (eqb b 36)
-      ∙ or_last (eqb b 36 || false || false || false)
-      ∙ simp (ne_eqb b 95 (λ q. omega arith), lt-leb 65 b (omega arith), lt-leb 97 b (omega arith), lt-leb 48 b h)
-
-  pub part-digit : 48 ≤ b → b < 65 → leb b 57 ≡ is_part b
-  unfolding is_part is_start is_digit
-  part-digit h l = simp (ne_eqb b 36 (λ q. omega arith), ne_eqb b 95 (λ q. omega arith), lt-leb 65 b (omega arith), lt-leb 97 b (omega arith), le-leb 48 b h)
-
-  pub part_capital : 65 ≤ b → b ≤ 90 → true ≡ is_part b
-  unfolding is_part is_start is_digit
-  part_capital h l = simp (ne_eqb b 36 (λ q. omega arith), ne_eqb b 95 (λ q. omega arith), le-leb 65 b h, le-leb b 90 l)
-
-  pub part-line : 90 < b → b < 97 → eqb b 95 ≡ is_part b
-  unfolding is_part is_start is_digit
-  part-line h l =
-      or_falses (eqb b 95)
-      ∙ simp (ne_eqb b 36 (λ q. omega arith), le-leb 65 b (omega arith), lt-leb b 90 h, lt-leb 97 b l, le-leb 48 b (omega arith), lt-leb b 57 (omega arith))
 
 -- ---- the word that starts at a place
 
@@ -79,6 +54,8 @@ spanned_more t i r h e s = record {
   where
     longer : r - i ≡ suc (r - (i + 1))
     longer = omega (arith, s.ahead)
+
+-- ---- a word that stands at a place
 
 -- ---- a word that stands at a place
 
@@ -120,11 +97,6 @@ same_long (x ∷ w) (c ∷ t) h = go (eqb c x) (same_long w t (λ e. h (ap suc e
     go : (b : Bool) → on (strip w t) empty false ≡ false → on (if b (strip w t) none) empty false ≡ false
     go true e = e
     go false e = refl
-
-pub same_stands : (w t : List ℕ) (r : Bool) → length t ≡ length w → WordStands t 0 w r → r ≡ same w t
-unfolding same
-same_stands w t true h s = sym (rw s.is (ap empty (end-at t (0 + length w) (omega arith))))
-same_stands w t false h s = sym (rw s.is)
 
 pub same-other : (c : ℕ) (k t : List ℕ) → 0 < length t → (get_or t 0 0 ≡ c → ⊥) → same (c ∷ k) t ≡ false
 unfolding same strip
@@ -230,24 +202,16 @@ id_short w h = rw (ap whole (byte_at w 1 (omega arith) ∙ ap (λ (l : List ℕ)
 
 -- ---- what a word is
 
-pub or_first : (b : Bool) → b ≡ (b || false) || false || false
-or_first true = refl
-or_first false = refl
-
-pub or_second : (b : Bool) → b ≡ (false || b) || false || false
-or_second true = refl
-or_second false = refl
-
-pub or_third : (b : Bool) → b ≡ (false || false) || b || false
-or_third true = refl
-or_third false = refl
-
 or_none : (a b c d : Bool) → a || b || c || d ≡ false → (a ≡ false) × (b ≡ false) × (c ≡ false) × (d ≡ false)
 or_none true b c d h = never h
 or_none false true c d h = never h
 or_none false false true d h = never h
 or_none false false false true h = never h
 or_none false false false false h = (refl, refl, refl, refl)
+
+pub or_third : (b : Bool) → b ≡ (false || false) || b || false
+or_third true = refl
+or_third false = refl
 
 -- the four keywords, by the tests that stand before each
 module _ (w : List ℕ) where
@@ -280,22 +244,6 @@ module _ (w : List ℕ) where
   pub no_keyword : 0 < length w → (get_or w 0 0 ≡ byte "t" → ⊥) → (get_or w 0 0 ≡ byte "f" → ⊥) → (get_or w 0 0 ≡ byte "n" → ⊥) → is_keyword w ≡ false
   unfolding is_keyword
   no_keyword h t f n = rw (same-other 116 (ascii "rue") w h t, same-other 102 (ascii "alse") w h f, same-other 110 (ascii "an") w h n, same-other 110 (ascii "ull") w h n)
-
-  pub keyword_t : 0 < length w → get_or w 0 0 ≡ byte "t" → same (ascii "true") w ≡ is_keyword w
-  unfolding is_keyword
-  keyword_t h e =
-      or_first (same (ascii "true") w)
-      ∙ rw (same-other 102 (ascii "alse") w h (λ q. omega arith), same-other 110 (ascii "an") w h (λ q. omega arith), same-other 110 (ascii "ull") w h (λ q. omega arith))
-
-  pub keyword_f : 0 < length w → get_or w 0 0 ≡ byte "f" → same (ascii "false") w ≡ is_keyword w
-  unfolding is_keyword
-  keyword_f h e =
-      or_second (same (ascii "false") w)
-      ∙ rw (same-other 116 (ascii "rue") w h (λ q. omega arith), same-other 110 (ascii "an") w h (λ q. omega arith), same-other 110 (ascii "ull") w h (λ q. omega arith))
-
-  pub keyword_n : 0 < length w → get_or w 0 0 ≡ byte "n" → (b : Bool) → same (ascii "nan") w ≡ b → b || same (ascii "null") w ≡ is_keyword w
-  unfolding is_keyword
-  keyword_n h e b i = rw (same-other 116 (ascii "rue") w h (λ q. omega arith), same-other 102 (ascii "alse") w h (λ q. omega arith), i)
 
   first : 0 < length w → w ≡ get_or w 0 0 ∷ drop 1 w
   first h = byte_at w 0 h
@@ -344,22 +292,10 @@ pub id_none : (w : List ℕ) → starts (byte "$") w ≡ false → resembles_sym
 unfolding resembles_symbol_id
 id_none w h = rw h
 
-pub id_dollar : (w : List ℕ) → starts (byte "$") w ≡ true → resembles_symbol_id w ≡ all_digits (drop 1 w)
-unfolding resembles_symbol_id
-id_dollar w h = rw h
-
 pub marker_none : (w : List ℕ) → starts (byte "$") w ≡ false → resembles_version_marker w ≡ false
 unfolding resembles_version_marker starts strip
 marker_none [] h = refl
 marker_none (c ∷ w) h = rw h
-
-pub marker_other : (w : List ℕ) → WordStands w 0 (ascii "$ion_") false → resembles_version_marker w ≡ false
-unfolding resembles_version_marker
-marker_other w s = rw s.is
-
-pub marker_here : (w : List ℕ) → WordStands w 0 (ascii "$ion_") true → resembles_version_marker w ≡ version (drop 5 w)
-unfolding resembles_version_marker
-marker_here w s = rw s.is
 
 -- a word that is neither keyword, number nor version
 pub kind-plain : (w : List ℕ) → 0 < length w → (get_or w 0 0 ≡ byte "$" → ⊥) → is_keyword w ≡ false → (b : Bool) → is_identifier w ≡ b → kind_of w ≡ if b Text Refused
@@ -386,19 +322,10 @@ module _ (t : List ℕ) (i : ℕ) where
   unfolding version run
   version-other h e = rw (byte_at t i h, e)
 
-  module _ (h : i < length t) (d : is_digit (get_or t i 0) ≡ true) {e : ℕ} (p : Passed t (i + 1) e) where
-    version-behind : version (drop i t) ≡ starts (byte "_") (drop e t) && all_digits (drop 1 (drop e t))
-    unfolding version run behind_digits
-    version-behind = rw (byte_at t i h, d, ← p.is)
-
-    pub version_short : e ≡ length t → version (drop i t) ≡ false
-    version_short z = version-behind ∙ unfold starts in rw (end-at t e z)
-
-    pub version_mark : e < length t → (get_or t e 0 ≡ byte "_" → ⊥) → version (drop i t) ≡ false
-    version_mark l n = version-behind ∙ unfold starts in rw (byte_at t e l, ne_eqb _ _ n)
-
-    pub version_here : e < length t → get_or t e 0 ≡ byte "_" → version (drop i t) ≡ all_digits (drop (e + 1) t)
-    version_here l n = version-behind ∙ unfold starts in rw (byte_at t e l, eq-eqb _ _ n)
+  -- what stands behind the first digits
+  pub version_behind : i < length t → is_digit (get_or t i 0) ≡ true → {e : ℕ} → Passed t (i + 1) e → version (drop i t) ≡ starts (byte "_") (drop e t) && all_digits (drop (e + 1) t)
+  unfolding version run behind_digits
+  version_behind h d {e} p = rw (byte_at t i h, d, ← p.is, ← next t e)
 
 -- ---- identifiers
 
@@ -489,15 +416,3 @@ module _ (t w : List ℕ) (at i : ℕ) (g : strip (drop i w) (drop (at + i) t) �
   strip_more h l n =
       let a : at + (i + 1) ≡ (at + i) + 1 = omega arith in
       ap (λ (k : ℕ). strip (drop (i + 1) w) (drop k t)) a ∙ sym (strip_byte w t i (at + i) h l n) ∙ g
-
--- ---- the empty word
-
-pub starts_none : (c : ℕ) (w : List ℕ) → length w ≡ 0 → starts c w ≡ false
-unfolding starts
-starts_none c [] h = refl
-starts_none c (x ∷ w) h = absurd (omega arith)
-
-pub keyword_none : (w : List ℕ) → length w ≡ 0 → is_keyword w ≡ false
-unfolding is_keyword same strip
-keyword_none [] h = refl
-keyword_none (x ∷ w) h = absurd (omega arith)

@@ -1,10 +1,8 @@
 -- What the inner functions on digits say of their answers. Assumes nothing: these are definitions.
-use Rattle.std.specs.Prelude.{ℕ, ◌+◌, ◌^◌, ◌≤◌, ◌<◌, ◌≡◌, List, ◌++◌, length, drop}
+use Rattle.std.specs.Prelude.{ℕ, ◌+◌, ◌^◌, ◌≤◌, ◌<◌, ◌≡◌, List, ◌++◌, length, drop, Option, Some, None}
 use Rattle.std.proofs.lemmas.List.Edits.{sets}
 use Rattle.lanes.specs.DigitLanes.{word_of}
 use Rattle.text_rules.specs.Digits.{count, digits, number, run, behind_digits}
-use Rattle.text_rules.specs.declared.digits.Joined.{Joined}
-use Rattle.text_rules.specs.declared.digits.Joined.TheVariants.{Digits, Over}
 
 -- the digits of n, with room for all of them, written from p up to r
 pub record Led (a b : List ℕ) (p r n : ℕ) : Type 0 where
@@ -20,8 +18,8 @@ pub record Ahead (a b : List ℕ) (p r n : ℕ) : Type 0 where
 pub record Zeros (d r : ℕ) : Type 0 where
   pub of : (x : ℕ) → x < 100000000 → d ≡ word_of x → r + count 19 x ≡ 8
 
--- the digits at `from`, joined behind those whose number is a: up to a place, or too many for 64 bits
-abbrev pub RunJoined : List ℕ → ℕ → ℕ → Joined → Type 0
-RunJoined text from a (Digits n end) =
-    (number a (run (drop from text)) ≡ n) × (behind_digits (drop from text) ≡ drop end text) × (from + length (run (drop from text)) ≡ end) × (end ≤ length text) × (n < 2 ^ 64)
-RunJoined text from a Over = 2 ^ 64 ≤ number a (run (drop from text))
+-- the digits at `from`, joined behind those whose number is a: their number and the place behind them, or too many for 64 bits
+abbrev pub RunJoined : List ℕ → ℕ → ℕ → Option (ℕ × ℕ) → Type 0
+RunJoined text from a (Some r) =
+    (number a (run (drop from text)) ≡ r.0) × (behind_digits (drop from text) ≡ drop r.1 text) × (from + length (run (drop from text)) ≡ r.1) × (r.1 ≤ length text) × (r.0 < 2 ^ 64)
+RunJoined text from a None = 2 ^ 64 ≤ number a (run (drop from text))

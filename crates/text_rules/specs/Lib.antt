@@ -7,6 +7,5 @@ pub mod Utf8
 pub mod Escapes
 pub mod Base64
 pub mod Text
-pub mod TextSteps
 pub mod BlobSteps
 pub mod WordSteps

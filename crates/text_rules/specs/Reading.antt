@@ -1,7 +1,14 @@
 -- What the contracts of token readers say. Assumes nothing: these are definitions.
 use Rattle.std.specs.Prelude.{ℕ, ◌≤◌, ◌<◌, ◌≡◌, Bool, true, List, length, drop}
+use Rattle.std.specs.Prelude.{Some, None}
+use Rattle.std.specs.Prelude as std
 use Rattle.std.proofs.Math.Option.{Option, none, some}
 use Rattle.text_rules.specs.Texts.{starts}
+
+-- what a function answers, as the definitions give it
+abbrev pub found : {A : Type 0} → std.Option A → Option A
+found (Some x) = some x
+found None = none
 
 -- the rest of a text from a place on, beside what was read up to there
 abbrev pub from : {A : Type 0} → List ℕ → Option (A × ℕ) → Option (A × List ℕ)

@@ -28,20 +28,13 @@ fn print_sextets(buf: &mut [u8], from: usize, to: usize)
     requires { (from ≤ to) × (to ≤ length buf.old) }
     ensures { buf.new ≡ sets buf.old from (printed (take (to - from) (drop from buf.old))) }
 {
-    let mut i = from;
-    while i < to {
+    for i in from..to {
         buf[i] = character(buf[i]);
-        i += 1;
     }
 }
 
-fn wide(x: u8) -> u64
-    ensures { (result ≡ x) × (result < 256) }
-{
-    x as u64
-}
-
 // The numbers of six bits in n bytes of s from a place on, whole groups of three bytes, for which there is room: two groups at once, by words.
+// Both loops are walks: the step is six bytes, of a word of eight, and then three.
 fn put_sextets(buf: &mut [u8], pos: usize, s: &[u8], from: usize, n: usize) -> usize
     requires n_in_bounds { (from + n ≤ length s.now) × (n % 3 ≡ 0) }
     requires n_in_bounds_2 { pos + n / 3 * 4 ≤ length buf.old }
@@ -52,13 +45,13 @@ fn put_sextets(buf: &mut [u8], pos: usize, s: &[u8], from: usize, n: usize) -> u
     let mut p = pos;
     let mut i = from;
     while i + 7 < end {
-        output::store_8(buf, p, lanes::sextets::spread(output::word_at(s, i)));
+        output::store::<8>(buf, p, lanes::sextets::spread(output::word_at(s, i)));
         p += 8;
         i += 6;
     }
     while i < end {
-        let x = wide(s[i]) + 256 * wide(s[i + 1]) + 65536 * wide(s[i + 2]);
-        output::store_4(buf, p, lanes::sextets::spread(x));
+        let x = u64::from(s[i]) + 256 * u64::from(s[i + 1]) + 65536 * u64::from(s[i + 2]);
+        output::store::<4>(buf, p, lanes::sextets::spread(x));
         p += 4;
         i += 3;
     }
@@ -68,38 +61,33 @@ fn put_sextets(buf: &mut [u8], pos: usize, s: &[u8], from: usize, n: usize) -> u
 // Base64 of n bytes of s from a place on, two at most.
 fn put_last(buf: &mut [u8], pos: usize, s: &[u8], from: usize, n: usize) -> usize
     requires n_in_bounds { (from + n ≤ length s.now) × (n ≤ 2) }
-    requires pos_le_limit { pos ≤ limit }
     ensures { Wrote buf.old buf.new pos result (base64 (take n (drop from s.now))) }
 {
-    if n == 0 {
-        return pos;
+    let none = output::bounded(pos);
+    match &s[from..from + n] {
+        [a] => {
+            let p = output::put_two(buf, pos, character(a / 4), character(a % 4 * 16));
+            output::put_two(buf, p, b'=', b'=')
+        }
+        [a, b] => {
+            let p = output::put_two(buf, pos, character(a / 4), character(a % 4 * 16 + b / 16));
+            output::put_two(buf, p, character(b % 16 * 4), b'=')
+        }
+        _ => none,
     }
-    let a = s[from];
-    if n == 1 {
-        let p = output::put_two(buf, pos, character(a / 4), character(a % 4 * 16));
-        return output::put_two(buf, p, b'=', b'=');
-    }
-    let b = s[from + 1];
-    let p = output::put_two(buf, pos, character(a / 4), character(a % 4 * 16 + b / 16));
-    output::put_two(buf, p, character(b % 16 * 4), b'=')
 }
 
 // Base64 of n bytes of s from a place on, whole groups, where there may be too little room.
 fn put_groups(buf: &mut [u8], pos: usize, s: &[u8], from: usize, n: usize) -> usize
     requires n_in_bounds { (from + n ≤ length s.now) × (n % 3 ≡ 0) }
-    requires pos_le_limit { pos ≤ limit }
     ensures { Wrote buf.old buf.new pos result (base64 (take n (drop from s.now))) }
 {
-    let end = from + n;
-    let mut p = pos;
-    let mut i = from;
-    while i < end {
-        let a = s[i];
-        let b = s[i + 1];
-        let c = s[i + 2];
+    let mut p = output::bounded(pos);
+    for k in 0..n / 3 {
+        let i = from + 3 * k;
+        let (a, b, c) = (s[i], s[i + 1], s[i + 2]);
         let q = output::put_two(buf, p, character(a / 4), character(a % 4 * 16 + b / 16));
         p = output::put_two(buf, q, character(b % 16 * 4 + c / 64), character(c % 64));
-        i += 3;
     }
     p
 }
@@ -118,7 +106,6 @@ fn put_whole(buf: &mut [u8], pos: usize, s: &[u8], from: usize, n: usize) -> usi
 // Base64 of n bytes of s from a place on.
 fn put_base64(buf: &mut [u8], pos: usize, s: &[u8], from: usize, n: usize) -> usize
     requires n_in_bounds { from + n ≤ length s.now }
-    requires pos_le_limit { pos ≤ limit }
     ensures { Wrote buf.old buf.new pos result (base64 (take n (drop from s.now))) }
 {
     // where there is no room left, the bytes are counted alone
@@ -127,22 +114,21 @@ fn put_base64(buf: &mut [u8], pos: usize, s: &[u8], from: usize, n: usize) -> us
     }
     let last = n % 3;
     let whole = n - last;
-    if whole / 3 * 4 <= buf.len() - pos {
-        let p = put_whole(buf, pos, s, from, whole);
-        return put_last(buf, p, s, from + whole, last);
-    }
-    let p = put_groups(buf, pos, s, from, whole);
+    let p = if whole / 3 * 4 <= buf.len() - pos {
+        put_whole(buf, pos, s, from, whole)
+    } else {
+        put_groups(buf, pos, s, from, whole)
+    };
     put_last(buf, p, s, from + whole, last)
 }
 
 // The same a block at a time, so that the numbers are near when their characters are put in place of them. `put_base64` is called at two places, so
-// that it is not built into the walk.
+// that it is not built into the walk, whose step is a block.
 fn format_base64(buf: &mut [u8], pos: usize, s: &[u8], from: usize, n: usize) -> usize
     requires n_in_bounds { from + n ≤ length s.now }
-    requires pos_le_limit { pos ≤ limit }
     ensures { Wrote buf.old buf.new pos result (base64 (take n (drop from s.now))) }
 {
-    let mut p = pos;
+    let mut p = output::bounded(pos);
     let mut i = 0;
     while 3072 < n - i {
         p = put_base64(buf, p, s, from + i, 3072);
@@ -154,7 +140,6 @@ fn format_base64(buf: &mut [u8], pos: usize, s: &[u8], from: usize, n: usize) ->
 // A blob that is the n bytes of s from a place on.
 pub fn format_blob_at(buf: &mut [u8], pos: usize, s: &[u8], from: usize, n: usize) -> usize
     requires n_in_bounds { from + n ≤ length s.now }
-    requires pos_le_limit { pos ≤ limit }
     ensures { Wrote buf.old buf.new pos result (blob_text (take n (drop from s.now))) }
 {
     let p = output::put_two(buf, pos, b'{', b'{');

@@ -7,7 +7,7 @@ ghost use Rattle.text_rules.specs.DigitSteps.{Led, Ahead, RunJoined, Zeros};
 // Passed on to the crates above: the last digits of a word are its last bytes.
 pub use output::store_last;
 
-// Ten to the power k: the compiler makes a table of the arms.
+// Ten to the power k: the compiler makes a table of the arms, where `pow` is a loop of products.
 pub fn pow10(k: usize) -> u64
     requires { k < 20 }
     ensures { (result ≡ 10 ^ k) × (0 < result) }
@@ -40,22 +40,9 @@ pub fn pow10(k: usize) -> u64
 pub fn digit_count(n: u64) -> usize
     ensures { (result ≡ count 19 n) × (1 ≤ result) × (result ≤ 20) }
 {
-    let b = 64 - u64::leading_zeros(n | 1) as usize;
-    let t = b * 1233 / 4096;
-    if n < pow10(t) {
-        if t == 0 {
-            return 1;
-        }
-        return t;
-    }
-    t + 1
-}
-
-fn wide(x: u64) -> u32
-    requires { x < 4294967296 }
-    ensures { result ≡ x }
-{
-    x as u32
+    let bits = 64 - u64::leading_zeros(n | 1) as usize;
+    let t = bits * 1233 / 4096;
+    if n < pow10(t) { t.max(1) } else { t + 1 }
 }
 
 // The digit of a number below ten.
@@ -63,7 +50,7 @@ fn digit_of(x: u32) -> u8
     requires { x < 10 }
     ensures { result ≡ digit x }
 {
-    48 + x as u8
+    b'0' + x as u8
 }
 
 // ---- eight digits in one word, a byte each, the first lowest (`lanes::digit_words`)
@@ -96,23 +83,13 @@ pub fn four_pairs(a: u64, b: u64, c: u64, d: u64) -> u64
 
 // ---- where there is room
 
-// Exactly one and two digits.
-fn one(buf: &mut [u8], p: usize, x: u32)
-    requires { (x < 10) × (p + 1 ≤ length buf.old) }
-    ensures { buf.new ≡ sets buf.old p (pad 1 x) }
-{
-    let d = digit_of(x);
-    buf[p] = d;
-}
-
+// Exactly two digits.
 fn two(buf: &mut [u8], p: usize, x: u32)
     requires { (x < 100) × (p + 2 ≤ length buf.old) }
     ensures { buf.new ≡ sets buf.old p (pad 2 x) }
 {
-    let d = digit_of(x / 10);
-    let e = digit_of(x % 10);
-    buf[p] = d;
-    buf[p + 1] = e;
+    buf[p] = digit_of(x / 10);
+    buf[p + 1] = digit_of(x % 10);
 }
 
 // Exactly eight digits.
@@ -120,7 +97,7 @@ fn eight(buf: &mut [u8], p: usize, x: u64)
     requires { (x < 100000000) × (p + 8 ≤ length buf.old) }
     ensures { buf.new ≡ sets buf.old p (pad 8 x) }
 {
-    output::store_8(buf, p, eight_digits(x));
+    output::store::<8>(buf, p, eight_digits(x));
 }
 
 // One to eight digits, no byte more, and the position behind them.
@@ -142,7 +119,7 @@ fn lead_store(buf: &mut [u8], p: usize, x: u64) -> usize
 {
     let d = lanes::digit_words::word8(x);
     let k = zeros8(d);
-    output::store_8(buf, p, (d + ZEROS) >> (8 * k));
+    output::store::<8>(buf, p, (d + ZEROS) >> (8 * k));
     p + (8 - k)
 }
 
@@ -153,10 +130,10 @@ fn put_blocks(buf: &mut [u8], pos: usize, n: u64) -> usize
 {
     if n < 100 {
         if n < 10 {
-            one(buf, pos, wide(n));
+            buf[pos] = digit_of(n as u32);
             return pos + 1;
         }
-        two(buf, pos, wide(n));
+        two(buf, pos, n as u32);
         return pos + 2;
     }
     if n < 100000000 {
@@ -183,39 +160,21 @@ fn fill_short(buf: &mut [u8], pos: usize, n: u64, w: usize)
     output::store_last(buf, pos, eight_digits(n % 100000000), w);
 }
 
-// The w lowest digits of n, the last two first.
-fn fill_long(buf: &mut [u8], pos: usize, n: u64, w: usize)
-    requires { pos + w ≤ length buf.old }
-    ensures { buf.new ≡ sets buf.old pos (pad w n) }
-{
-    let mut m = n;
-    let mut k = w;
-    while 1 < k {
-        k -= 2;
-        two(buf, pos + k, wide(m % 100));
-        m = m / 100;
-    }
-    if k == 0 {
-        return;
-    }
-    one(buf, pos, wide(m % 10));
-}
-
 // The w lowest digits of n.
 fn fill_padded(buf: &mut [u8], pos: usize, n: u64, w: usize)
-    requires { pos + w ≤ length buf.old }
+    requires { (w ≤ 20) × (pos + w ≤ length buf.old) }
     ensures { buf.new ≡ sets buf.old pos (pad w n) }
 {
     if w <= 8 {
         fill_short(buf, pos, n, w);
-        return;
-    }
-    if w <= 16 {
+    } else if w <= 16 {
         fill_short(buf, pos, n / 100000000, w - 8);
         eight(buf, pos + (w - 8), n % 100000000);
-        return;
+    } else {
+        fill_short(buf, pos, n / 10000000000000000, w - 16);
+        eight(buf, pos + (w - 16), n / 100000000 % 100000000);
+        eight(buf, pos + (w - 8), n % 100000000);
     }
-    fill_long(buf, pos, n, w);
 }
 
 // ---- for every buffer
@@ -224,24 +183,22 @@ fn fill_padded(buf: &mut [u8], pos: usize, n: u64, w: usize)
 fn digit_before(n: u64, k: usize) -> u8
     ensures { result ≡ digit (n / 10 ^ k % 10) }
 {
-    if 20 <= k {
-        return 48;
+    if k < 20 {
+        digit_of((n / pow10(k) % 10) as u32)
+    } else {
+        b'0'
     }
-    digit_of(wide(n / pow10(k) % 10))
 }
 
 // The w lowest digits of n as far as there is room.
 fn pad_clipped(buf: &mut [u8], pos: usize, n: u64, w: usize) -> usize
-    requires { pos ≤ limit }
     ensures { Wrote buf.old buf.new pos result (pad w n) }
 {
     if buf.len() <= pos {
         return output::ahead(pos, w);
     }
     let mut p = pos;
-    let mut k = w;
-    while 0 < k {
-        k -= 1;
+    for k in (0..w).rev() {
         p = output::put(buf, p, digit_before(n, k));
     }
     p
@@ -249,97 +206,72 @@ fn pad_clipped(buf: &mut [u8], pos: usize, n: u64, w: usize) -> usize
 
 // The two lowest digits of n.
 pub fn put_pair(buf: &mut [u8], pos: usize, n: u64) -> usize
-    requires { pos ≤ limit }
     ensures { Wrote buf.old buf.new pos result (pad 2 n) }
 {
-    if pos + 2 <= buf.len() {
-        two(buf, pos, wide(n % 100));
-        return pos + 2;
+    if pos < buf.len().saturating_sub(1) {
+        two(buf, pos, (n % 100) as u32);
+        pos + 2
+    } else {
+        pad_clipped(buf, pos, n, 2)
     }
-    pad_clipped(buf, pos, n, 2)
 }
 
 // The w lowest digits of n, with leading zeros.
 pub fn put_padded(buf: &mut [u8], pos: usize, n: u64, w: usize) -> usize
-    requires { pos ≤ limit }
     ensures { Wrote buf.old buf.new pos result (pad w n) }
 {
-    if w <= 20 {
-        if pos + w <= buf.len() {
-            fill_padded(buf, pos, n, w);
-            return pos + w;
-        }
+    if w <= 20 && pos <= buf.len() && w <= buf.len() - pos {
+        fill_padded(buf, pos, n, w);
+        pos + w
+    } else {
+        pad_clipped(buf, pos, n, w)
     }
-    pad_clipped(buf, pos, n, w)
 }
 
 // Plain decimal.
 pub fn put_digits(buf: &mut [u8], pos: usize, n: u64) -> usize
-    requires { pos ≤ limit }
     ensures { Wrote buf.old buf.new pos result (digits n) }
 {
-    if pos + 19 < buf.len() {
-        return put_blocks(buf, pos, n);
+    if pos < buf.len().saturating_sub(19) {
+        put_blocks(buf, pos, n)
+    } else {
+        pad_clipped(buf, pos, n, digit_count(n))
     }
-    let w = digit_count(n);
-    pad_clipped(buf, pos, n, w)
 }
 
 // Plain decimal, left-padded with zeros to at least w digits: the Rust's function, proved over the width. No writer calls it: a timestamp's
 // fields, which the Rust writes by it, are written by words (`four_pairs`, `put_padded`), and the law `zero-padded` says that they are the same.
 pub fn write_zero_padded(buf: &mut [u8], pos: usize, n: u64, w: usize) -> usize
-    requires { pos ≤ limit }
     ensures { Wrote buf.old buf.new pos result (zero_padded w n) }
 {
     if w <= digit_count(n) {
-        return put_digits(buf, pos, n);
+        put_digits(buf, pos, n)
+    } else {
+        put_padded(buf, pos, n, w)
     }
-    put_padded(buf, pos, n, w)
 }
 
 // ---- reading
 
+#[tactic(auto, unfolding(crate::specs::Digits::is_digit))]
 pub fn is_digit(b: u8) -> bool
     ensures { result ≡ is_digit b }
 {
-    if b < 48 {
-        return false;
-    }
-    b <= 57
+    b.is_ascii_digit()
 }
 
-// Digits joined to a number, and the place behind them; or a number that does not fit.
-#[derive(Clone, Copy)]
-pub enum Joined {
-    Digits(u64, usize),
-    Over,
-}
-
-// The digits from a place on, joined behind those whose number is acc.
-pub fn digits_at(text: &[u8], from: usize, acc: u64) -> Joined
+// The digits from a place on, joined behind those whose number is acc, and the place behind them; none where the number does not fit.
+pub fn digits_at(text: &[u8], from: usize, acc: u64) -> Option<(u64, usize)>
     requires { from ≤ length text.now }
     ensures { RunJoined text.now from acc result }
 {
     let mut n = acc;
-    let mut i = from;
-    while i < text.len() {
+    for i in from..text.len() {
         let b = text[i];
-        if b < 48 {
-            return Joined::Digits(n, i);
+        if !is_digit(b) {
+            return Some((n, i));
         }
-        if 57 < b {
-            return Joined::Digits(n, i);
-        }
-        if 1844674407370955161 < n {
-            return Joined::Over;
-        }
-        let t = n * 10;
-        let d = (b - 48) as u64;
-        if 18446744073709551615 - d < t {
-            return Joined::Over;
-        }
-        n = t + d;
-        i += 1;
+        n = n.checked_mul(10)?.checked_add((b - 48) as u64)?;
     }
-    Joined::Digits(n, i)
+    Some((n, text.len()))
 }

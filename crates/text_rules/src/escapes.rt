@@ -1,5 +1,5 @@
 // Escapes, written: the table of escape kinds, and the body of quoted text and strings.
-ghost use Rattle.std.specs.Prelude.{◌≡◌, true, ◌||◌, [], ◌∷◌, eqb, length, drop, ◌+◌, ◌*◌, ◌<◌, ◌≤◌};
+ghost use Rattle.std.specs.Prelude.{◌≡◌, true, false, ◌||◌, [], ◌∷◌, eqb, length, drop, ◌+◌, ◌*◌, ◌<◌, ◌≤◌};
 ghost use Rattle.output.specs.Logic.{byte};
 ghost use Rattle.output.specs.Wrote.{Wrote, limit};
 ghost use Rattle.text_rules.specs.Escapes.{letter_of, has_letter, EscapeTable, hex_digit, hex_escape, has_hex, text_escape, text_body};
@@ -36,6 +36,7 @@ pub fn escapes() -> [u8; 256]
 }
 
 // The letter behind a backslash; the backslash and the quote marks stand for themselves.
+#[tactic(auto, unfolding(crate::specs::Escapes::letter_of))]
 fn letter_of(b: u8) -> u8
     ensures { result ≡ letter_of b }
 {
@@ -54,7 +55,6 @@ fn letter_of(b: u8) -> u8
 
 // A backslash and the letter of b.
 pub fn put_letter(buf: &mut [u8], pos: usize, b: u8) -> usize
-    requires { pos ≤ limit }
     ensures { Wrote buf.old buf.new pos result (byte "\\" ∷ letter_of b ∷ []) }
 {
     let p = output::put(buf, pos, b'\\');
@@ -62,26 +62,25 @@ pub fn put_letter(buf: &mut [u8], pos: usize, b: u8) -> usize
 }
 
 // A lower-case hex digit.
+#[tactic(auto, unfolding(crate::specs::Escapes::hex_digit))]
 fn hex_digit(d: u8) -> u64
     requires { d < 16 }
     ensures { (result ≡ hex_digit d) × (result < 256) }
 {
-    if d < 10 {
-        return (b'0' + d) as u64;
-    }
-    (b'a' + (d - 10)) as u64
+    let c = if d < 10 { b'0' + d } else { b'a' + (d - 10) };
+    u64::from(c)
 }
 
 // `\x` and two hex digits, as the bytes of a word.
 pub fn put_hex(buf: &mut [u8], pos: usize, b: u8) -> usize
-    requires { pos ≤ limit }
     ensures { Wrote buf.old buf.new pos result (hex_escape b) }
 {
     let w = 0x785C + 65536 * hex_digit(b / 16) + 16777216 * hex_digit(b % 16);
     output::put_le(buf, pos, w, 4)
 }
 
-// Whether a byte of text is escaped by hex digits. These few tests, and those of the next, take less time than a table that is built anew for each text.
+// Whether a byte of text is escaped by hex digits. These few tests, and those of the next, take less time than a table that is built anew for each text,
+// and as chains less than as `matches!` (escapes: 1.05 to 1.27 of the time).
 fn takes_hex(b: u8) -> bool
     ensures { result ≡ has_hex b }
 {
@@ -117,34 +116,33 @@ fn takes_letter(b: u8) -> bool
 }
 
 // One byte of text.
+#[tactic(auto, unfolding(crate::specs::Escapes::text_escape))]
 fn put_text_byte(buf: &mut [u8], pos: usize, b: u8) -> usize
-    requires { pos ≤ limit }
     ensures { Wrote buf.old buf.new pos result (text_escape b) }
 {
     if takes_letter(b) {
-        return put_letter(buf, pos, b);
+        put_letter(buf, pos, b)
+    } else if takes_hex(b) {
+        put_hex(buf, pos, b)
+    } else {
+        output::put(buf, pos, b)
     }
-    if takes_hex(b) {
-        return put_hex(buf, pos, b);
-    }
-    output::put(buf, pos, b)
 }
 
-// The bytes of s one by one, as far as there is room.
+// The bytes of s one by one, as far as there is room. Not one with the converter's `put_converted_bytes`: that calls another function and meets another
+// definition.
 fn put_text_clipped(buf: &mut [u8], pos: usize, s: &[u8]) -> usize
-    requires { pos ≤ limit }
     ensures { Wrote buf.old buf.new pos result (text_body s.now) }
 {
-    let mut p = pos;
-    let mut i = 0;
-    while i < s.len() {
-        p = put_text_byte(buf, p, s[i]);
-        i += 1;
+    let mut p = output::bounded(pos);
+    for b in s {
+        p = put_text_byte(buf, p, *b);
     }
     p
 }
 
 // One byte of text, where there is room for it.
+#[tactic(auto, unfolding(crate::specs::Escapes::text_escape))]
 fn store_text_byte(buf: &mut [u8], pos: usize, b: u8) -> usize
     requires { pos + length (text_escape b) ≤ length buf.old }
     ensures { Wrote buf.old buf.new pos result (text_escape b) }
@@ -167,50 +165,27 @@ fn store_text(buf: &mut [u8], pos: usize, s: &[u8]) -> usize
     ensures { Wrote buf.old buf.new pos result (text_body s.now) }
 {
     let mut p = pos;
-    let mut i = 0;
-    while i < s.len() {
-        p = store_text_byte(buf, p, s[i]);
-        i += 1;
+    for b in s {
+        p = store_text_byte(buf, p, *b);
     }
     p
 }
 
-// 0 only for a byte that hex digits do not escape.
-fn hex_suspect(b: u8) -> u8
-    ensures { result ≡ 0 → length (text_escape b) ≤ 2 }
-{
-    if 0x20 <= b {
-        return 0;
-    }
-    if 13 < b {
-        return 1;
-    }
-    if 6 < b {
-        return 0;
-    }
-    if 0 < b {
-        return 1;
-    }
-    0
-}
-
-// 0 only where no byte is escaped by hex digits, so that none takes more than two bytes. There is no way out of the loop, so that the compiler makes it a
+// No only where no byte is escaped by hex digits, so that none takes more than two bytes. There is no way out of the loop, so that the compiler makes it a
 // vector loop.
-fn any_hex(s: &[u8]) -> u8
-    ensures { result ≡ 0 → length (text_body s.now) ≤ 2 * length s.now }
+fn any_hex(s: &[u8]) -> bool
+    ensures { result ≡ false → length (text_body s.now) ≤ 2 * length s.now }
 {
-    let mut n = 0;
-    let mut i = 0;
-    while i < s.len() {
-        n = n | hex_suspect(s[i]);
-        i += 1;
+    let mut any = false;
+    for b in s {
+        any |= takes_hex(*b);
     }
-    n
+    any
 }
 
 // The bytes of s one by one. Most rooms have four bytes for each; a room as long as the text, which the lengths are for, has two where letters escape.
+// `store_text` is called at two places, so that it is not built in.
 fn put_text_escaped(buf: &mut [u8], pos: usize, s: &[u8]) -> usize
-    requires { pos ≤ limit }
     ensures { Wrote buf.old buf.new pos result (text_body s.now) }
 {
     if pos <= buf.len() {
@@ -219,7 +194,7 @@ fn put_text_escaped(buf: &mut [u8], pos: usize, s: &[u8]) -> usize
             return store_text(buf, pos, s);
         }
         if s.len() <= room / 2 {
-            if any_hex(s) == 0 {
+            if !any_hex(s) {
                 return store_text(buf, pos, s);
             }
         }
@@ -227,54 +202,39 @@ fn put_text_escaped(buf: &mut [u8], pos: usize, s: &[u8]) -> usize
     put_text_clipped(buf, pos, s)
 }
 
-// 0 only for a byte that is raw in text: hex 20 at least, no quote mark and no backslash.
-fn suspect(b: u8) -> u8
-    ensures { result ≡ 0 → text_escape b ≡ b ∷ [] }
+// A byte that is not raw in text: below hex 20, a quote mark or a backslash.
+#[tactic(auto, unfolding(crate::specs::Escapes::has_letter, crate::specs::Escapes::has_hex, crate::specs::Escapes::text_escape))]
+fn is_escaped(b: u8) -> bool
+    ensures { result ≡ false → text_escape b ≡ b ∷ [] }
 {
-    if b < 0x20 {
-        return 1;
-    }
-    if b == b'"' {
-        return 1;
-    }
-    if b == b'\'' {
-        return 1;
-    }
-    if b == b'\\' {
-        return 1;
-    }
-    0
-}
-
-// 0 only where none of the first m bytes needs an escape. There is no way out of the loop, so that the compiler makes it a vector loop.
-fn any_suspect(s: &[u8], m: usize) -> u8
-    requires { m ≤ length s.now }
-    ensures { result ≡ 0 → text_body (drop m s.now) ≡ drop m s.now → text_body s.now ≡ s.now }
-{
-    let mut n = 0;
-    let mut i = 0;
-    while i < m {
-        n = n | suspect(s[i]);
-        i += 1;
-    }
-    n
+    matches!(b, 0..=0x1F | b'"' | b'\'' | b'\\')
 }
 
 // No byte needs an escape, one after the other.
 fn raw_bytes(s: &[u8]) -> bool
     ensures { result ≡ true → text_body s.now ≡ s.now }
 {
-    let mut i = 0;
-    while i < s.len() {
-        if suspect(s[i]) != 0 {
+    for b in s {
+        if is_escaped(*b) {
             return false;
         }
-        i += 1;
     }
     true
 }
 
-// No byte needs an escape: many at a time, then words of eight, and the last eight again. Only a yes is promised.
+// Some byte may need an escape. There is no way out of the loop, so that the compiler makes it a vector loop.
+fn any_escaped(s: &[u8]) -> bool
+    ensures { result ≡ false → text_body s.now ≡ s.now }
+{
+    let mut any = false;
+    for b in s {
+        any |= is_escaped(*b);
+    }
+    any
+}
+
+// No byte needs an escape: many at a time, then words of eight, and the last eight again. Only a yes is promised. The loop is a walk: the step is a
+// word's eight bytes.
 fn is_raw(s: &[u8]) -> bool
     ensures { result ≡ true → text_body s.now ≡ s.now }
 {
@@ -283,7 +243,7 @@ fn is_raw(s: &[u8]) -> bool
         return raw_bytes(s);
     }
     let mut i = n / 32 * 32;
-    if any_suspect(s, i) != 0 {
+    if any_escaped(&s[..i]) {
         return false;
     }
     while i + 8 < n {
@@ -298,11 +258,11 @@ fn is_raw(s: &[u8]) -> bool
 // The body of quoted text and strings: NUL, 7 to 13, the backslash and both quote marks escaped by a letter, the other control characters below hex 20
 // by hex digits, other characters raw.
 pub fn format_escaped_text_body(buf: &mut [u8], pos: usize, s: &[u8]) -> usize
-    requires { pos ≤ limit }
     ensures { Wrote buf.old buf.new pos result (text_body s.now) }
 {
     if is_raw(s) {
-        return output::put_bytes(buf, pos, s);
+        output::put_bytes(buf, pos, s)
+    } else {
+        put_text_escaped(buf, pos, s)
     }
-    put_text_escaped(buf, pos, s)
 }

@@ -5,18 +5,6 @@ ghost use Rattle.output.specs.Wrote.{le_bytes};
 ghost use Rattle.text_rules.specs.Words.{is_keyword};
 ghost use Rattle.text_rules.specs.Text.{symbol_text};
 
-// All bits of the n lowest bytes, of which a keyword has three, four or five.
-fn low_bits(n: usize) -> u64
-    requires { (3 ≤ n) × (n ≤ 5) }
-    ensures { result ≡ 2 ^ (8 * n) - 1 }
-{
-    match n {
-        3 => 0xFFFFFF,
-        4 => 0xFFFFFFFF,
-        _ => 0xFFFFFFFFFF,
-    }
-}
-
 // The bits 6, 14 and 20: what the five lowest bits of `f`, `n` and `t` are.
 const KEYWORD_STARTS: u64 = 0x104040;
 
@@ -32,26 +20,18 @@ pub fn is_keyword_word(x: u64, n: usize) -> bool
     requires { (1 ≤ n) × (n ≤ 8) }
     ensures { result ≡ is_keyword (le_bytes n x) }
 {
-    if n < 3 {
+    if starts_no_keyword(x) {
         return false;
     }
-    if 5 < n {
-        return false;
+    match n {
+        3 => x % 0x1000000 == 0x6E616E,
+        4 => {
+            let y = x % 0x100000000;
+            y == 0x65757274 || y == 0x6C6C756E
+        }
+        5 => x % 0x10000000000 == 0x65736C6166,
+        _ => false,
     }
-    let y = x & low_bits(n);
-    if y == 0x65757274 {
-        return n == 4;
-    }
-    if y == 0x6C6C756E {
-        return n == 4;
-    }
-    if y == 0x6E616E {
-        return n == 3;
-    }
-    if y == 0x65736C6166 {
-        return n == 5;
-    }
-    false
 }
 
 // The n lowest bytes are letters and `_`, and no keyword: as a symbol they stand bare, unless every symbol text is quoted.
@@ -59,11 +39,5 @@ pub fn is_plain(x: u64, n: usize) -> bool
     requires { (1 ≤ n) × (n ≤ 8) }
     ensures { result ≡ true → symbol_text false (le_bytes n x) ≡ le_bytes n x }
 {
-    if !lanes::is_letter_word(x, n) {
-        return false;
-    }
-    if starts_no_keyword(x) {
-        return true;
-    }
-    !is_keyword_word(x, n)
+    lanes::is_letter_word(x, n) && !is_keyword_word(x, n)
 }

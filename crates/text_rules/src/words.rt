@@ -7,7 +7,11 @@ ghost use Rattle.text_rules.specs.Words.{is_start, is_part, all_digits, is_keywo
 ghost use Rattle.text_rules.specs.declared.words.Kind.TheVariants.{Text};
 ghost use Rattle.text_rules.specs.WordSteps.{Spanned, Passed, WordStands, WordAt, bounded};
 
-// What a word of identifier bytes is where it stands bare.
+use crate::digits::is_digit;
+use crate::texts::stands;
+
+// What a word of identifier bytes is where it stands bare. `Refused` is a kind as the others: the readers above tell all eight by one `match`, and the
+// definition `kind_of` and the theorems over it speak of them.
 #[derive(Clone, Copy)]
 pub enum Kind {
     Null,
@@ -28,28 +32,16 @@ pub struct Word {
 }
 
 // `$`, `_` or a letter.
+#[tactic(auto, unfolding(crate::specs::Words::is_start))]
 pub fn is_start(b: u8) -> bool
     ensures { result ≡ is_start b }
 {
-    if b == b'$' {
-        return true;
-    }
-    if b == b'_' {
-        return true;
-    }
-    if b < b'A' {
-        return false;
-    }
-    if b <= b'Z' {
-        return true;
-    }
-    if b < b'a' {
-        return false;
-    }
-    b <= b'z'
+    matches!(b, b'$' | b'_' | b'A'..=b'Z' | b'a'..=b'z')
 }
 
-// These or digits. Small letters, which names mostly are, are told by two tests.
+// These or digits. Small letters, which names mostly are, are told by two tests: with one `matches!` of all, reading and long names take a sixth
+// more instructions.
+#[tactic(auto, unfolding(crate::specs::Words::is_start, crate::specs::Words::is_part, crate::specs::Digits::is_digit))]
 pub fn is_part(b: u8) -> bool
     ensures { result ≡ is_part b }
 {
@@ -62,10 +54,7 @@ pub fn is_part(b: u8) -> bool
     if b < b'A' {
         return b <= b'9';
     }
-    if b <= b'Z' {
-        return true;
-    }
-    b == b'_'
+    b <= b'Z' || b == b'_'
 }
 
 // The first place at or after `from` that holds no byte of an identifier.
@@ -73,14 +62,12 @@ pub fn word_end(text: &[u8], from: usize) -> usize
     requires { from ≤ length text.now }
     ensures { Spanned text.now from result }
 {
-    let mut i = from;
-    while i < text.len() {
+    for i in from..text.len() {
         if !is_part(text[i]) {
             return i;
         }
-        i += 1;
     }
-    i
+    text.len()
 }
 
 // The word stands at a place of the text.
@@ -91,12 +78,10 @@ pub fn word_stands(text: &[u8], at: usize, word: &[u8]) -> bool
     if text.len() - at < word.len() {
         return false;
     }
-    let mut i: usize = 0;
-    while i < word.len() {
+    for i in 0..word.len() {
         if text[at + i] != word[i] {
             return false;
         }
-        i += 1;
     }
     true
 }
@@ -105,10 +90,7 @@ pub fn word_stands(text: &[u8], at: usize, word: &[u8]) -> bool
 pub fn same_word(text: &[u8], word: &[u8]) -> bool
     ensures { result ≡ same word.now text.now }
 {
-    if text.len() != word.len() {
-        return false;
-    }
-    word_stands(text, 0, word)
+    text == word
 }
 
 // The first place at or after `from` that holds no digit.
@@ -116,60 +98,35 @@ fn digits_end(text: &[u8], from: usize) -> usize
     requires { from ≤ length text.now }
     ensures { Passed text.now from result }
 {
-    let mut i = from;
-    while i < text.len() {
-        if !crate::digits::is_digit(text[i]) {
+    for i in from..text.len() {
+        if !is_digit(text[i]) {
             return i;
         }
-        i += 1;
     }
-    i
+    text.len()
 }
 
 // One digit at least from a place on, and nothing else.
 pub fn all_digits(s: &[u8], from: usize) -> bool
     ensures { result ≡ all_digits (drop from s.now) }
 {
-    if s.len() <= from {
-        return false;
-    }
-    digits_end(s, from) == s.len()
+    from < s.len() && digits_end(s, from) == s.len()
 }
 
 // true, false, nan or null. Names rarely start with these letters.
+#[tactic(auto, unfolding(crate::specs::Words::is_keyword))]
 pub fn token_is_keyword(w: &[u8]) -> bool
     ensures { result ≡ is_keyword w.now }
 {
-    if w.len() == 0 {
-        return false;
-    }
-    let b = w[0];
-    if b == b't' {
-        return same_word(w, b"true");
-    }
-    if b == b'f' {
-        return same_word(w, b"false");
-    }
-    if b != b'n' {
-        return false;
-    }
-    if same_word(w, b"nan") {
-        return true;
-    }
-    same_word(w, b"null")
+    same_word(w, b"true") || same_word(w, b"false") || same_word(w, b"nan") || same_word(w, b"null")
 }
 
 // `$` and digits.
+#[tactic(auto, unfolding(crate::specs::Words::resembles_symbol_id))]
 pub fn token_resembles_symbol_id(w: &[u8]) -> bool
     ensures { result ≡ resembles_symbol_id w.now }
 {
-    if w.len() == 0 {
-        return false;
-    }
-    if w[0] != b'$' {
-        return false;
-    }
-    all_digits(w, 1)
+    stands(w, 0, b'$') && all_digits(w, 1)
 }
 
 // Digits, `_` and digits from a place on.
@@ -177,59 +134,26 @@ fn is_version(w: &[u8], from: usize) -> bool
     requires { from ≤ length w.now }
     ensures { result ≡ version (drop from w.now) }
 {
-    if from == w.len() {
-        return false;
-    }
-    if !crate::digits::is_digit(w[from]) {
+    if from == w.len() || !is_digit(w[from]) {
         return false;
     }
     let e = digits_end(w, from + 1);
-    if e == w.len() {
-        return false;
-    }
-    if w[e] != b'_' {
-        return false;
-    }
-    all_digits(w, e + 1)
+    stands(w, e, b'_') && all_digits(w, e + 1)
 }
 
 // `$ion_` digits `_` digits.
+#[tactic(auto, unfolding(crate::specs::Words::resembles_version_marker))]
 pub fn token_resembles_version_marker(w: &[u8]) -> bool
     ensures { result ≡ resembles_version_marker w.now }
 {
-    if w.len() == 0 {
-        return false;
-    }
-    if w[0] != b'$' {
-        return false;
-    }
-    if !word_stands(w, 0, b"$ion_") {
-        return false;
-    }
-    is_version(w, 5)
+    word_stands(w, 0, b"$ion_") && is_version(w, 5)
 }
 
 // `$`, `_` or a letter, then these or digits.
 pub fn token_is_identifier(w: &[u8]) -> bool
     ensures { result ≡ is_identifier w.now }
 {
-    if w.len() == 0 {
-        return false;
-    }
-    if !is_start(w[0]) {
-        return false;
-    }
-    word_end(w, 1) == w.len()
-}
-
-// What a byte adds to a number: bytes below the digits add nothing, as the definition's difference has it.
-fn digit_value(b: u8) -> u64
-    ensures { (result ≡ b - byte "0") × (result < 256) }
-{
-    if b < b'0' {
-        return 0;
-    }
-    (b - b'0') as u64
+    !w.is_empty() && is_start(w[0]) && word_end(w, 1) == w.len()
 }
 
 // The number that the bytes from a place on are, if it is below 2 to the 32nd.
@@ -238,13 +162,11 @@ fn bounded_number(w: &[u8], from: usize) -> Kind
     ensures { result ≡ bounded (number 0 (drop from w.now)) }
 {
     let mut n: u64 = 0;
-    let mut i = from;
-    while i < w.len() {
-        n = n * 10 + digit_value(w[i]);
+    for i in from..w.len() {
+        n = n * 10 + u64::from(w[i].saturating_sub(b'0'));
         if 4294967295 < n {
             return Kind::Refused;
         }
-        i += 1;
     }
     Kind::Number(n as u32)
 }
@@ -254,10 +176,7 @@ fn symbol_id(w: &[u8]) -> Kind
     requires { 1 < length w.now }
     ensures { result ≡ symbol_id (drop 1 w.now) }
 {
-    if w.len() == 2 {
-        return bounded_number(w, 1);
-    }
-    if w[1] == b'0' {
+    if w.len() != 2 && w[1] == b'0' {
         return Kind::Refused;
     }
     bounded_number(w, 1)
@@ -270,35 +189,28 @@ fn dollar_kind(w: &[u8], identifier: bool) -> Kind
 {
     if token_resembles_version_marker(w) {
         if same_word(w, b"$ion_1_0") {
-            return Kind::Marker;
+            Kind::Marker
+        } else {
+            Kind::Refused
         }
-        return Kind::Refused;
+    } else if all_digits(w, 1) {
+        symbol_id(w)
+    } else if identifier {
+        Kind::Text
+    } else {
+        Kind::Refused
     }
-    if all_digits(w, 1) {
-        return symbol_id(w);
-    }
-    if identifier {
-        return Kind::Text;
-    }
-    Kind::Refused
 }
 
-// A keyword. Most words start otherwise, and are told without a call.
+// A keyword. Most words start with another byte, and are told without a call.
 fn is_keyword(w: &[u8]) -> bool
     requires { 0 < length w.now }
     ensures { result ≡ is_keyword w.now }
 {
-    let b = w[0];
-    if b == b't' {
-        return token_is_keyword(w);
+    match w[0] {
+        b't' | b'f' | b'n' => token_is_keyword(w),
+        _ => false,
     }
-    if b == b'f' {
-        return token_is_keyword(w);
-    }
-    if b == b'n' {
-        return token_is_keyword(w);
-    }
-    false
 }
 
 // What a word is of which it is known whether it is an identifier.
@@ -307,15 +219,14 @@ fn known_kind(w: &[u8], identifier: bool) -> Kind
     ensures { result ≡ kind_of w.now }
 {
     if w[0] == b'$' {
-        return dollar_kind(w, identifier);
+        dollar_kind(w, identifier)
+    } else if is_keyword(w) {
+        keyword_kind(w)
+    } else if identifier {
+        Kind::Text
+    } else {
+        Kind::Refused
     }
-    if is_keyword(w) {
-        return keyword_kind(w);
-    }
-    if identifier {
-        return Kind::Text;
-    }
-    Kind::Refused
 }
 
 // Which keyword a word is.
@@ -324,15 +235,14 @@ fn keyword_kind(w: &[u8]) -> Kind
     ensures { result ≡ kind_of w.now }
 {
     if same_word(w, b"null") {
-        return Kind::Null;
+        Kind::Null
+    } else if same_word(w, b"true") {
+        Kind::True
+    } else if same_word(w, b"false") {
+        Kind::False
+    } else {
+        Kind::Nan
     }
-    if same_word(w, b"true") {
-        return Kind::True;
-    }
-    if same_word(w, b"false") {
-        return Kind::False;
-    }
-    Kind::Nan
 }
 
 // The word of identifier bytes at a place. Its bytes are all of an identifier's, so the first one tells whether it is one.
@@ -341,13 +251,11 @@ pub fn word_at(text: &[u8], at: usize) -> Word
     ensures { WordAt text.now at result }
 {
     let end = word_end(text, at);
-    if end == at {
-        return Word {
-            kind: Kind::Refused,
-            end,
-        };
-    }
-    let kind = known_kind(&text[at..end], is_start(text[at]));
+    let kind = if end == at {
+        Kind::Refused
+    } else {
+        known_kind(&text[at..end], is_start(text[at]))
+    };
     Word { kind, end }
 }
 
@@ -356,17 +264,11 @@ pub fn name_end(text: &[u8], at: usize) -> usize
     requires { at ≤ length text.now }
     ensures { at < result → WordAt text.now at (record { kind = Text; end = result }) }
 {
-    if at == text.len() {
-        return at;
-    }
-    if text[at] < b'A' {
+    if at == text.len() || text[at] < b'A' {
         return at;
     }
     let end = word_end(text, at);
-    if end == at {
-        return at;
-    }
-    if is_keyword(&text[at..end]) {
+    if end == at || is_keyword(&text[at..end]) {
         return at;
     }
     end

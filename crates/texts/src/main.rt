@@ -2,14 +2,11 @@
 // its end has `!` there. What it must print was asked of the Rust (tests/texts.py).
 #![tactic(auto)]
 
-ghost use Rattle.std.specs.Prelude.{◌<◌};
-
-use floats::float::FloatRead;
-use numbers::numeral::NumeralRead;
-use numbers::timestamp::{Timestamp, TimestampRead};
+use numbers::numeral::Numeral;
+use numbers::timestamp::Timestamp;
 use std::io;
 use tokens::quoted::Step;
-use tokens::values::{BoolRead, NullRead, SymbolRead};
+use tokens::values::SymbolRead;
 
 // ---- lines of output
 
@@ -28,6 +25,24 @@ fn back(rt: &impl Print, buf: &[u8], n: usize, end: usize, text: &[u8]) -> io::R
     }
 }
 
+// A text, as it is written into a buffer, and a tab; then it is read back.
+fn both_ways<W: Fn(&mut [u8]) -> usize, R: Fn(&[u8]) -> io::Result<()>>(
+    rt: &impl Print,
+    write: W,
+    reread: R,
+) -> io::Result<()>
+    requires write { W.IsAlwaysCallable write }
+    requires reread { R.IsAlwaysCallable reread }
+{
+    let mut buf = [0u8; 1024];
+    let n = write(&mut buf);
+    put(rt, &buf, n, b'\t')?;
+    match buf.get(..n) {
+        Some(text) => reread(text),
+        None => Ok(()),
+    }
+}
+
 fn bad(rt: &impl Print) -> io::Result<()> {
     println!(rt; "!")
 }
@@ -38,37 +53,33 @@ fn reread_number(rt: &impl Print, text: &[u8]) -> io::Result<()> {
     let mut buf = [0u8; 64];
     let r = numbers::numeral::numeral_at(text, 0);
     match r {
-        NumeralRead::Int(z, end) => {
+        Some((Numeral::Int(z), end)) => {
             let n = numbers::int::format_integer(&mut buf, 0, z);
             back(rt, &buf, n, end, text)?;
         }
-        NumeralRead::Decimal(negative, m, e, end) => {
+        Some((Numeral::Decimal(negative, m, e), end)) => {
             let n = numbers::decimal::format_text(&mut buf, 0, negative, m, e);
             back(rt, &buf, n, end, text)?;
         }
-        NumeralRead::Bad => bad(rt)?,
+        None => bad(rt)?,
     }
     Ok(())
 }
 
 fn int(rt: &impl Print, z: i64) -> io::Result<()> {
-    let mut buf = [0u8; 64];
-    let n = numbers::int::format_integer(&mut buf, 0, z);
-    put(rt, &buf, n, b'\t')?;
-    if n <= 64 {
-        reread_number(rt, &buf[0..n])?;
-    }
-    Ok(())
+    both_ways(
+        rt,
+        |buf| numbers::int::format_integer(buf, 0, z),
+        |text| reread_number(rt, text),
+    )
 }
 
 fn decimal(rt: &impl Print, negative: bool, m: u64, e: i32) -> io::Result<()> {
-    let mut buf = [0u8; 64];
-    let n = numbers::decimal::format_text(&mut buf, 0, negative, m, e);
-    put(rt, &buf, n, b'\t')?;
-    if n <= 64 {
-        reread_number(rt, &buf[0..n])?;
-    }
-    Ok(())
+    both_ways(
+        rt,
+        |buf| numbers::decimal::format_text(buf, 0, negative, m, e),
+        |text| reread_number(rt, text),
+    )
 }
 
 fn ints(rt: &impl Print) -> io::Result<()> {
@@ -92,20 +103,9 @@ fn ints(rt: &impl Print) -> io::Result<()> {
     Ok(())
 }
 
-// The exponents from -30 to 30, by their numbers from 0.
-fn exponent(i: u32) -> i32
-    requires { i < 61 }
-{
-    if i < 30 {
-        return !((29 - i) as i32);
-    }
-    (i - 30) as i32
-}
-
-// A magnitude with each of them, of both signs.
+// A magnitude with each exponent from -30 to 30, of both signs.
 fn sums(rt: &impl Print, m: u64) -> io::Result<()> {
-    for i in 0..61u32 {
-        let e = exponent(i);
+    for e in -30..=30i32 {
         decimal(rt, false, m, e)?;
         decimal(rt, true, m, e)?;
     }
@@ -159,23 +159,21 @@ fn reread_timestamp(rt: &impl Print, text: &[u8]) -> io::Result<()> {
     let mut buf = [0u8; 64];
     let r = numbers::timestamp::timestamp_at(text, 0);
     match r {
-        TimestampRead::Is(t, end) => {
+        Some((t, end)) => {
             let n = numbers::timestamp::format(&mut buf, 0, t);
             back(rt, &buf, n, end, text)?;
         }
-        TimestampRead::Bad => bad(rt)?,
+        None => bad(rt)?,
     }
     Ok(())
 }
 
 fn timestamp(rt: &impl Print, t: Timestamp) -> io::Result<()> {
-    let mut buf = [0u8; 64];
-    let n = numbers::timestamp::format(&mut buf, 0, t);
-    put(rt, &buf, n, b'\t')?;
-    if n <= 64 {
-        reread_timestamp(rt, &buf[0..n])?;
-    }
-    Ok(())
+    both_ways(
+        rt,
+        |buf| numbers::timestamp::format(buf, 0, t),
+        |text| reread_timestamp(rt, text),
+    )
 }
 
 // A date, to a precision of a day at most.
@@ -279,11 +277,11 @@ fn null(rt: &impl Print, t: u8) -> io::Result<()> {
         let r = tokens::values::null_at(&buf[0..n], 0);
         let mut again = [0u8; 32];
         match r {
-            NullRead::Is(u, end) => {
+            Some((u, end)) => {
                 let m = text_rules::text_formatter::format_null(&mut again, 0, u);
                 back(rt, &again, m, end, &buf[0..n])?;
             }
-            NullRead::Bad => bad(rt)?,
+            None => bad(rt)?,
         }
     }
     Ok(())
@@ -297,11 +295,11 @@ fn boolean(rt: &impl Print, b: bool) -> io::Result<()> {
         let r = tokens::values::bool_at(&buf[0..n], 0);
         let mut again = [0u8; 32];
         match r {
-            BoolRead::Is(c, end) => {
+            Some((c, end)) => {
                 let m = text_rules::text_formatter::format_bool(&mut again, 0, c);
                 back(rt, &again, m, end, &buf[0..n])?;
             }
-            BoolRead::Bad => bad(rt)?,
+            None => bad(rt)?,
         }
     }
     Ok(())
@@ -315,11 +313,11 @@ fn float(rt: &impl Print, x: f64) -> io::Result<()> {
         let r = floats::float::float_at(&buf[0..n], 0);
         let mut again = [0u8; 32];
         match r {
-            FloatRead::Is(y, end) => {
+            Some((y, end)) => {
                 let m = floats::float::format_float(&mut again, 0, y);
                 back(rt, &again, m, end, &buf[0..n])?;
             }
-            FloatRead::Bad => bad(rt)?,
+            None => bad(rt)?,
         }
     }
     Ok(())
@@ -353,7 +351,7 @@ fn reread_symbol(rt: &impl Print, text: &[u8]) -> io::Result<()> {
     let mut again = [0u8; 1024];
     let r = tokens::values::symbol_at(text, 0, false, &mut content, 0);
     match r {
-        SymbolRead::Text { at, pos } => {
+        Some(SymbolRead::Text { at, pos }) => {
             if pos <= 256 {
                 let m = text_rules::text_formatter::format_symbol_token(
                     &mut again,
@@ -363,63 +361,58 @@ fn reread_symbol(rt: &impl Print, text: &[u8]) -> io::Result<()> {
                 back(rt, &again, m, at, text)?;
             }
         }
-        SymbolRead::Id { n, at } => {
+        Some(SymbolRead::Id { n, at }) => {
             let m = text_rules::text_formatter::format_symbol_id(&mut again, 0, n);
             back(rt, &again, m, at, text)?;
         }
-        SymbolRead::Bad => bad(rt)?,
+        None => bad(rt)?,
     }
     Ok(())
 }
 
 fn symbol(rt: &impl Print, s: &[u8]) -> io::Result<()> {
-    let mut buf = [0u8; 1024];
-    let n = text_rules::text_formatter::format_symbol_token(&mut buf, 0, s);
-    put(rt, &buf, n, b'\t')?;
-    if n <= 1024 {
-        reread_symbol(rt, &buf[0..n])?;
-    }
-    Ok(())
+    both_ways(
+        rt,
+        |buf| text_rules::text_formatter::format_symbol_token(buf, 0, s),
+        |text| reread_symbol(rt, text),
+    )
 }
 
 fn identifier(rt: &impl Print, i: u32) -> io::Result<()> {
-    let mut buf = [0u8; 1024];
-    let n = text_rules::text_formatter::format_symbol_id(&mut buf, 0, i);
-    put(rt, &buf, n, b'\t')?;
-    if n <= 1024 {
-        reread_symbol(rt, &buf[0..n])?;
-    }
-    Ok(())
+    both_ways(
+        rt,
+        |buf| text_rules::text_formatter::format_symbol_id(buf, 0, i),
+        |text| reread_symbol(rt, text),
+    )
 }
 
 // The string that a text starts with, behind its mark, written again.
 fn reread_string(rt: &impl Print, text: &[u8]) -> io::Result<()> {
     let mut content = [0u8; 256];
     let mut again = [0u8; 1024];
-    if text.len() == 0 {
+    if text.is_empty() {
         return Ok(());
     }
     let r = tokens::quoted::characters_at(text, 1, b'"', false, &mut content, 0);
     match r {
-        Step::Next { at, pos } => {
+        Some(Step { at, pos }) => {
             if pos <= 256 {
                 let m = text_rules::text_formatter::format_string(&mut again, 0, &content[0..pos]);
                 back(rt, &again, m, at, text)?;
             }
         }
-        Step::Bad => bad(rt)?,
+        None => bad(rt)?,
     }
     Ok(())
 }
 
+// What symbols, strings and clobs share is `both_ways`; each writes and reads by functions of its own.
 fn string(rt: &impl Print, s: &[u8]) -> io::Result<()> {
-    let mut buf = [0u8; 1024];
-    let n = text_rules::text_formatter::format_string(&mut buf, 0, s);
-    put(rt, &buf, n, b'\t')?;
-    if n <= 1024 {
-        reread_string(rt, &buf[0..n])?;
-    }
-    Ok(())
+    both_ways(
+        rt,
+        |buf| text_rules::text_formatter::format_string(buf, 0, s),
+        |text| reread_string(rt, text),
+    )
 }
 
 fn reread_clob(rt: &impl Print, text: &[u8]) -> io::Result<()> {
@@ -427,25 +420,23 @@ fn reread_clob(rt: &impl Print, text: &[u8]) -> io::Result<()> {
     let mut again = [0u8; 1024];
     let r = tokens::quoted::clob_at(text, 0, &mut content, 0);
     match r {
-        Step::Next { at, pos } => {
+        Some(Step { at, pos }) => {
             if pos <= 256 {
                 let m = text_rules::clobs::format_clob(&mut again, 0, &content[0..pos]);
                 back(rt, &again, m, at, text)?;
             }
         }
-        Step::Bad => bad(rt)?,
+        None => bad(rt)?,
     }
     Ok(())
 }
 
 fn clob(rt: &impl Print, s: &[u8]) -> io::Result<()> {
-    let mut buf = [0u8; 1024];
-    let n = text_rules::clobs::format_clob(&mut buf, 0, s);
-    put(rt, &buf, n, b'\t')?;
-    if n <= 1024 {
-        reread_clob(rt, &buf[0..n])?;
-    }
-    Ok(())
+    both_ways(
+        rt,
+        |buf| text_rules::clobs::format_clob(buf, 0, s),
+        |text| reread_clob(rt, text),
+    )
 }
 
 fn reread_blob(rt: &impl Print, text: &[u8]) -> io::Result<()> {
@@ -453,25 +444,23 @@ fn reread_blob(rt: &impl Print, text: &[u8]) -> io::Result<()> {
     let mut again = [0u8; 1024];
     let r = tokens::blobs::blob_at(text, 0, &mut content, 0);
     match r {
-        Step::Next { at, pos } => {
+        Some(Step { at, pos }) => {
             if pos <= 256 {
                 let m = text_rules::blobs::format_blob_at(&mut again, 0, &content, 0, pos);
                 back(rt, &again, m, at, text)?;
             }
         }
-        Step::Bad => bad(rt)?,
+        None => bad(rt)?,
     }
     Ok(())
 }
 
 fn blob(rt: &impl Print, s: &[u8]) -> io::Result<()> {
-    let mut buf = [0u8; 1024];
-    let n = text_rules::blobs::format_blob_at(&mut buf, 0, s, 0, s.len());
-    put(rt, &buf, n, b'\t')?;
-    if n <= 1024 {
-        reread_blob(rt, &buf[0..n])?;
-    }
-    Ok(())
+    both_ways(
+        rt,
+        |buf| text_rules::blobs::format_blob_at(buf, 0, s, 0, s.len()),
+        |text| reread_blob(rt, text),
+    )
 }
 
 // Every character of one byte, and some of two, three and four.
@@ -488,49 +477,43 @@ fn strings(rt: &impl Print) -> io::Result<()> {
     string(rt, &wide)
 }
 
-fn keywords(rt: &impl Print) -> io::Result<()> {
-    symbol(rt, b"")?;
-    symbol(rt, b"true")?;
-    symbol(rt, b"false")?;
-    symbol(rt, b"nan")?;
-    symbol(rt, b"null")?;
-    symbol(rt, b"True")?;
-    symbol(rt, b"inf")?;
-    symbol(rt, b"nulls")
-}
-
-fn dollars(rt: &impl Print) -> io::Result<()> {
-    symbol(rt, b"$")?;
-    symbol(rt, b"$7")?;
-    symbol(rt, b"$007")?;
-    symbol(rt, b"$7a")?;
-    symbol(rt, b"$ion")?;
-    symbol(rt, b"$ion_")?;
-    symbol(rt, b"$ion_1_0")?;
-    symbol(rt, b"$ion_12_34")
-}
-
-fn markers(rt: &impl Print) -> io::Result<()> {
-    symbol(rt, b"$ion_1_0_0")?;
-    symbol(rt, b"$ion_1_")?;
-    symbol(rt, b"$ion__0")?;
-    symbol(rt, b"$ion_symbol_table")?;
-    symbol(rt, b"_")?;
-    symbol(rt, b"a b")?;
-    symbol(rt, b"7up")?;
-    symbol(rt, b"norad_id")
-}
-
 fn symbols(rt: &impl Print) -> io::Result<()> {
     for b in 0..128u8 {
         symbol(rt, &[b])?;
     }
-    keywords(rt)?;
-    dollars(rt)?;
-    markers(rt)?;
-    identifier(rt, 0)?;
-    identifier(rt, 10)?;
-    identifier(rt, 4294967295)
+    let words: [&[u8]; 24] = [
+        b"",
+        b"true",
+        b"false",
+        b"nan",
+        b"null",
+        b"True",
+        b"inf",
+        b"nulls",
+        b"$",
+        b"$7",
+        b"$007",
+        b"$7a",
+        b"$ion",
+        b"$ion_",
+        b"$ion_1_0",
+        b"$ion_12_34",
+        b"$ion_1_0_0",
+        b"$ion_1_",
+        b"$ion__0",
+        b"$ion_symbol_table",
+        b"_",
+        b"a b",
+        b"7up",
+        b"norad_id",
+    ];
+    for word in words {
+        symbol(rt, word)?;
+    }
+    for i in [0, 10, u32::MAX] {
+        identifier(rt, i)?;
+    }
+    Ok(())
 }
 
 // Every byte, and all of them together.

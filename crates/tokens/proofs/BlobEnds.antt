@@ -10,12 +10,13 @@ use lib.ListN.{length, drop, get_or}
 use borrow.Author.Tests.{eqb-true, ne_eqb}
 use Rattle.output.specs.Logic.{if, then, byte, ascii}
 use Rattle.text_rules.specs.Texts.{empty, strip}
-use Rattle.text_rules.specs.Base64.{bits_of, padded, base64_bytes}
+use Rattle.text_rules.specs.Base64.{bits_of, first_bytes, padded, base64_bytes}
 use Rattle.tokens.specs.Blob.{until_brace, blob_rest}
-use Rattle.tokens.specs.BlobSteps.{bits_read, group_at, read_bytes, FirstBytes}
+use Rattle.tokens.specs.BlobSteps.{group_at, FirstBytes}
 use Rattle.tokens.specs.Steps.{Copies}
 use Rattle.tokens.specs.declared.quoted.Step.{Step}
-use Rattle.tokens.specs.declared.quoted.Step.TheVariants.{Next, Bad}
+use Rattle.std.specs.Prelude.{Some, None}
+use Rattle.std.specs.Prelude as std
 use Rattle.tokens.proofs.Keeping.{kept_all}
 use Rattle.tokens.proofs.BlobChars.{clash, then_none, brace_value, none_first, none-second, none-third}
 use Rattle.tokens.proofs.BlobGroups.{four_at}
@@ -132,12 +133,12 @@ rest-padded a b c t h = go (eqb a (byte "}")) (eqb b (byte "}")) (eqb c (byte "}
 
 -- ---- its bytes
 
-padded_one : (a b n : ℕ) → bits_read n ≡ bits_of a b (byte "A") (byte "A") → padded a b (byte "=") ≡ read_bytes n 1
-unfolding padded read_bytes
+padded_one : (a b : ℕ) (n : Option ℕ) → n ≡ bits_of a b (byte "A") (byte "A") → padded a b (byte "=") ≡ then n (first_bytes 1)
+unfolding padded
 padded_one a b n e = rw e
 
-padded_two : (a b c n : ℕ) → eqb c (byte "=") ≡ false → bits_read n ≡ bits_of a b c (byte "A") → padded a b c ≡ read_bytes n 2
-unfolding padded read_bytes
+padded_two : (a b c : ℕ) (n : Option ℕ) → eqb c (byte "=") ≡ false → n ≡ bits_of a b c (byte "A") → padded a b c ≡ then n (first_bytes 2)
+unfolding padded
 padded_two a b c n h e = rw (h, e)
 
 -- ---- at a place
@@ -171,19 +172,19 @@ module _ (text : List ℕ) (at : ℕ) (long : at + 4 ≤ length text) (unclosed 
     pub last_unclosed : strip (ascii "}}") (drop (at + 4) text) ≡ none → blob_rest (drop at text) ≡ none
     last_unclosed e = ends ∙ rw e (then_none (padded a b c))
 
-    module _ (n : ℕ) (e : strip (ascii "}}") (drop (at + 4) text) ≡ some (drop (at + 4 + 2) text)) where
-      behind : (w : ℕ) → padded a b c ≡ read_bytes n w → blob_rest (drop at text) ≡ then (read_bytes n w) (λ s. some (s, drop (at + 6) text))
+    module _ (n : Option ℕ) (e : strip (ascii "}}") (drop (at + 4) text) ≡ some (drop (at + 4 + 2) text)) where
+      behind : (w : ℕ) → padded a b c ≡ then n (first_bytes w) → blob_rest (drop at text) ≡ then (then n (first_bytes w)) (λ s. some (s, drop (at + 6) text))
       behind w h = let z : at + 4 + 2 ≡ at + 6 = omega arith in ends ∙ rw (h, e, z)
 
-      pub last_one : c ≡ byte "=" → bits_read n ≡ bits_of a b (byte "A") (byte "A") → blob_rest (drop at text) ≡ then (read_bytes n 1) (λ s. some (s, drop (at + 6) text))
+      pub last_one : c ≡ byte "=" → n ≡ bits_of a b (byte "A") (byte "A") → blob_rest (drop at text) ≡ then (then n (first_bytes 1)) (λ s. some (s, drop (at + 6) text))
       last_one g h = behind 1 (ap (padded a b) g ∙ padded_one a b n h)
 
-      pub last_two : (c ≡ byte "=" → ⊥) → bits_read n ≡ bits_of a b c (byte "A") → blob_rest (drop at text) ≡ then (read_bytes n 2) (λ s. some (s, drop (at + 6) text))
+      pub last_two : (c ≡ byte "=" → ⊥) → n ≡ bits_of a b c (byte "A") → blob_rest (drop at text) ≡ then (then n (first_bytes 2)) (λ s. some (s, drop (at + 6) text))
       last_two g h = behind 2 (padded_two a b c n (ne_eqb c (byte "=") g) h)
 
 -- they were written, and the text goes on behind `}}`
-pub last_copies : {text : List ℕ} {at i : ℕ} {b b' : List ℕ} {p n w : ℕ} {o : Option (List ℕ × List ℕ)} (r : Step) → suc at ≤ i → i ≤ length text → o ≡ then (read_bytes n w) (λ s. some (s, drop i text)) → FirstBytes b b' p n w i r → Copies text (suc at) b b' p o r
-last_copies {text} (Next a q) l h e f =
+pub last_copies : {text : List ℕ} {at i : ℕ} {b b' : List ℕ} {p n w : ℕ} {o : Option (List ℕ × List ℕ)} (r : std.Option Step) → suc at ≤ i → i ≤ length text → o ≡ then (first_bytes w n) (λ s. some (s, drop i text)) → FirstBytes b b' p n w i r → Copies text (suc at) b b' p o r
+last_copies {text} (Some s) l h e f =
     let t = f.told in
     record { told = (t.0, e ∙ rw (t.1, t.2), omega (arith, t.2), omega (arith, t.2), t.3) }
-last_copies Bad l h e f = let t = f.told in record { told = (e ∙ rw t.0, rw t.1 kept_all) }
+last_copies None l h e f = let t = f.told in record { told = (e ∙ rw t.0, rw t.1 kept_all) }

@@ -1,5 +1,5 @@
 -- Base64 read group by group, through `}}`. Assumes nothing.
-use Prim.Native.Nat.{ℕ, suc, ◌+◌, ◌/◌, ◌%◌, ◌≤◌, ◌<◌}
+use Prim.Native.Nat.{ℕ, suc, ◌+◌, ◌/◌, ◌%◌, ◌≤◌, ◌<◌, min}
 use mathlib.Core.Path.{◌≡◌, refl, sym, ap, ◌∙◌}
 use mathlib.Core.Bool.{true}
 use mathlib.Core.List.{List, [], ◌∷◌, ◌++◌, append_assoc}
@@ -7,20 +7,19 @@ use mathlib.Core.Option.{Option, none, some}
 use native.Mathlib.Omega.{arith}
 use lib.ListN.{length, take, drop, get_or, take-append-drop, length-drop}
 use lib.Seq.{drop-drop}
-use borrow.Author.Tests.{lt-ltb, le-ltb}
 use Rattle.output.specs.Logic.{then, ascii}
 use Rattle.output.specs.Wrote.{Wrote, le_bytes, limit}
-use Rattle.output.proofs.Laws.{wrote_none, wrote_then, take-4}
+use Rattle.output.proofs.Laws.{wrote_empty, wrote_then, take-4}
 use Rattle.lanes.specs.Lanes.{Lane, every, unmarked_by}
 use Rattle.lanes.specs.Sextets.{octets, value_lane, no_base64}
 use Rattle.text_rules.specs.Texts.{strip}
 use Rattle.text_rules.specs.Base64.{bits_of, bytes24, base64_bytes}
 use Rattle.tokens.specs.Blob.{until_brace, blob_rest, blob}
-use Rattle.tokens.specs.BlobSteps.{bits_read, group_at, Groups, Decoded}
+use Rattle.tokens.specs.BlobSteps.{group_at, Groups, Decoded}
 use Rattle.tokens.specs.Steps.{Copies}
 use Rattle.tokens.specs.declared.quoted.Step.{Step}
-use Rattle.tokens.specs.declared.quoted.Step.TheVariants.{Next, Bad}
-use Rattle.tokens.specs.declared.blobs.Reached.{Reached}
+use Rattle.std.specs.Prelude.{Some, None}
+use Rattle.std.specs.Prelude as std
 use Rattle.tokens.proofs.Keeping.{wrote_then_kept}
 use Rattle.tokens.proofs.BlobChars.{bits_four, value_brace, value-pad}
 use Rattle.tokens.proofs.BlobLanes.{word-groups}
@@ -96,8 +95,8 @@ groups-word text i x v y h w e l o =
 
 -- ---- what was read so far
 
-pub decoded_none : (text : List ℕ) (at : ℕ) (b : List ℕ) (p : ℕ) → at ≤ length text → p ≤ limit → length b < limit → Decoded text at b b p record { at = at; pos = p }
-decoded_none text at b p h l room = record { bytes = []; groups = groups_none text at h; wrote = wrote_none b p l room }
+pub decoded_none : (text : List ℕ) (at : ℕ) (b : List ℕ) (p r : ℕ) → at ≤ length text → r ≡ min p limit → length b < limit → Decoded text at b b p record { at = at; pos = r }
+decoded_none text at b p r h e room = record { bytes = []; groups = groups_none text at h; wrote = wrote_empty b p r e room }
 
 pub decoded_more : {text : List ℕ} {at : ℕ} {b b' b'' : List ℕ} {p i q k s : ℕ} {y : List ℕ} → Decoded text at b b' p record { at = i; pos = q } → Groups text i k y → Wrote b' b'' q s y → Decoded text at b b'' p record { at = k; pos = s }
 decoded_more d g w = record { bytes = _; groups = groups_then d.groups g; wrote = wrote_then d.wrote w }
@@ -118,36 +117,28 @@ short_group (a ∷ b ∷ c ∷ d ∷ t) h = absurd (omega arith)
 pub end_group : (text : List ℕ) (i : ℕ) → length text < i + 4 → group_at (drop i text) ≡ none
 end_group text i h = short_group (drop i text) (omega (arith, length-drop i text))
 
--- ---- 24 bits that were read, or none
-
-pub read_none : (n : ℕ) {o : Option ℕ} → 16777215 < n → bits_read n ≡ o → o ≡ none
-read_none n h e = sym e ∙ rw (le-ltb n 16777216 h)
-
-pub read_some : (n : ℕ) {o : Option ℕ} → n ≤ 16777215 → bits_read n ≡ o → o ≡ some n
-read_some n h e = sym e ∙ rw (lt-ltb n 16777216 (omega arith))
-
 pub whole-three : {a b : List ℕ} {p q : ℕ} (n : ℕ) → Wrote a b p q (take 3 (bytes24 n)) → Wrote a b p q (bytes24 n)
 unfolding bytes24
 whole-three n w = w
 
 -- ---- a blob: what opens it, its groups, and what ends them
 
-pub copies_behind : {text : List ℕ} {at : ℕ} {b b' b'' : List ℕ} {p : ℕ} {q : Reached} (r : Step) → Decoded text at b b' p q → Copies text (suc q.at) b' b'' q.pos (blob_rest (drop q.at text)) r → Copies text (suc at) b b'' p (blob_rest (drop at text)) r
-copies_behind (Next i s) d f =
+pub copies_behind : {text : List ℕ} {at : ℕ} {b b' b'' : List ℕ} {p : ℕ} {q : Step} (r : std.Option Step) → Decoded text at b b' p q → Copies text (suc q.at) b' b'' q.pos (blob_rest (drop q.at text)) r → Copies text (suc at) b b'' p (blob_rest (drop at text)) r
+copies_behind (Some s) d f =
     let t = f.told in
     record { told = (d.bytes ++ t.0, d.groups.is ∙ rw t.1, omega (arith, t.2, d.groups.ahead), t.3, wrote_then d.wrote t.4) }
-copies_behind Bad d f = let t = f.told in record { told = (d.groups.is ∙ rw t.0, wrote_then_kept d.wrote t.1) }
+copies_behind None d f = let t = f.told in record { told = (d.groups.is ∙ rw t.0, wrote_then_kept d.wrote t.1) }
 
 pub blob_unopened : (t : List ℕ) → strip (ascii "{{") t ≡ none → blob t ≡ none
 unfolding blob
 blob_unopened t e = rw e
 
-pub blob_opened : {text : List ℕ} {at : ℕ} {b b' : List ℕ} {p : ℕ} (r : Step) → strip (ascii "{{") (drop at text) ≡ some (drop (at + 2) text) → Copies text (suc (at + 2)) b b' p (blob_rest (drop (at + 2) text)) r → Copies text (suc at) b b' p (blob (drop at text)) r
-blob_opened {text} {at} (Next i s) e f =
+pub blob_opened : {text : List ℕ} {at : ℕ} {b b' : List ℕ} {p : ℕ} (r : std.Option Step) → strip (ascii "{{") (drop at text) ≡ some (drop (at + 2) text) → Copies text (suc (at + 2)) b b' p (blob_rest (drop (at + 2) text)) r → Copies text (suc at) b b' p (blob (drop at text)) r
+blob_opened {text} {at} (Some s) e f =
     let t = f.told in
     let o : blob (drop at text) ≡ blob_rest (drop (at + 2) text) = unfold blob in rw e in
     record { told = (t.0, o ∙ t.1, omega (arith, t.2), t.3, t.4) }
-blob_opened {text} {at} Bad e f =
+blob_opened {text} {at} None e f =
     let t = f.told in
     let o : blob (drop at text) ≡ blob_rest (drop (at + 2) text) = unfold blob in rw e in
     record { told = (o ∙ t.0, t.1) }

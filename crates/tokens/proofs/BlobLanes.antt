@@ -6,7 +6,6 @@ use mathlib.Core.List.{List, [], ◌∷◌, ◌++◌, map, append-nil}
 use mathlib.Core.Option.{none, some}
 use native.Mathlib.Omega.{arith}
 use lib.ListN.{take, get_or}
-use borrow.Author.Tests.{lt-ltb}
 use Rattle.output.specs.Logic.{if}
 use Rattle.output.specs.Wrote.{le_bytes}
 use Rattle.lanes.specs.Lanes.{Lane, every, unmarked_by}
@@ -14,7 +13,7 @@ use Rattle.lanes.specs.Sextets.{octets, value_lane, no_base64}
 use Rattle.lanes.proofs.LaneLaws.{lane_bytes}
 use Rattle.text_rules.specs.Base64.{alphabet, place_from, base64_value, bits_of, bytes24}
 use Rattle.text_rules.proofs.Table.{same}
-use Rattle.tokens.specs.BlobSteps.{bits_read, group_at}
+use Rattle.tokens.specs.BlobSteps.{group_at}
 use Rattle.tokens.proofs.BlobChars.{value_char, four_bits, none_first, none-second, none-third, none_fourth}
 
 -- ---- the lane of a character is its number
@@ -45,6 +44,11 @@ and_both false y e = absurd (let z : ◌≡◌ {A = ℕ} 0 1 = cc in omega arith
 -- the bits of four bytes whose numbers num gives
 abbrev bits_by : (ℕ → ℕ) → ℕ → ℕ → ℕ → ℕ → ℕ
 bits_by num a b c d = ((num a * 64 + num b) * 64 + num c) * 64 + num d
+
+-- n is the 24 bits of four characters
+pub record Bits (n a b c d : ℕ) : Type 0 where
+  pub is : some n ≡ bits_of a b c d
+  pub below : n < 16777216
 
 -- ok says which bytes are characters, and num their numbers
 module _ (ok : ℕ → Bool) (num : ℕ → ℕ) (is : (b : ℕ) → b < 256 → base64_value b ≡ if (ok b) (some (num b)) none) where
@@ -93,7 +97,7 @@ module _ (ok : ℕ → Bool) (num : ℕ → ℕ) (is : (b : ℕ) → b < 256 →
         go true true true true u ep eq er et g e = absurd (let z : ◌≡◌ {A = ℕ} 0 1 = cc in omega arith)
 
     -- the bits, where the numbers are the lowest bytes of a word
-    group_word : (v : ℕ) → le_bytes 4 v ≡ map num (a ∷ b ∷ c ∷ d ∷ []) → Group → bits_read (v % 256 * 262144 + v / 256 % 256 * 4096 + v / 65536 % 256 * 64 + v / 16777216 % 256) ≡ bits_of a b c d
+    group_word : (v : ℕ) → le_bytes 4 v ≡ map num (a ∷ b ∷ c ∷ d ∷ []) → Group → Bits (v % 256 * 262144 + v / 256 % 256 * 4096 + v / 65536 % 256 * 64 + v / 16777216 % 256) a b c d
     unfolding le_bytes
     group_word v e g =
         let p : v % 256 ≡ num a = ap (λ (l : List ℕ). get_or l 0 0) e in
@@ -104,8 +108,8 @@ module _ (ok : ℕ → Bool) (num : ℕ → ℕ) (is : (b : ℕ) → b < 256 →
         let t' : v / 16777216 % 256 ≡ num d = ap (λ (k : ℕ). k % 256) (let z : v / 16777216 ≡ v / 256 / 256 / 256 = omega arith in z) ∙ t in
         rw (p, q, r', t') (read (num a * 262144 + num b * 4096 + num c * 64 + num d) (bits_by num a b c d) g.bits (omega (arith, g.lt_a, g.lt_b, g.lt_c, g.lt_d)) (omega arith))
       where
-        read : (m n : ℕ) → bits_of a b c d ≡ some n → m < 16777216 → m ≡ n → bits_read m ≡ bits_of a b c d
-        read m n e l h = rw (lt-ltb m 16777216 l) (ap some h ∙ sym e)
+        read : (m n : ℕ) → bits_of a b c d ≡ some n → m < 16777216 → m ≡ n → Bits m a b c d
+        read m n e l h = record { is = ap some h ∙ sym e; below = l }
 
 -- ---- a word of four characters and four `A`
 
@@ -126,7 +130,7 @@ module _ (a b c d x : ℕ) (ha : a < 256) (hb : b < 256) (hc : c < 256) (hd : d 
   pub bits-refused : every (unmarked_by no_base64) (le_bytes 8 x) ≡ false → none ≡ bits_of a b c d
   bits-refused g = sym (group_no (unmarked_by no_base64) value_lane lane_value a b c d ha hb hc hd (65 ∷ 65 ∷ 65 ∷ 65 ∷ []) letters_unmarked (ap (every (unmarked_by no_base64)) (sym word_bytes) ∙ g))
 
-  pub bits-read : (v : ℕ) → every (unmarked_by no_base64) (le_bytes 8 x) ≡ true → Lane value_lane x v → bits_read (v % 256 * 262144 + v / 256 % 256 * 4096 + v / 65536 % 256 * 64 + v / 16777216 % 256) ≡ bits_of a b c d
+  pub bits-read : (v : ℕ) → every (unmarked_by no_base64) (le_bytes 8 x) ≡ true → Lane value_lane x v → Bits (v % 256 * 262144 + v / 256 % 256 * 4096 + v / 65536 % 256 * 64 + v / 16777216 % 256) a b c d
   bits-read v g w =
       let s : List ℕ = 65 ∷ 65 ∷ 65 ∷ 65 ∷ [] in
       let l : le_bytes 4 x ≡ a ∷ b ∷ c ∷ d ∷ [] = unfold le_bytes in ap (take 4) word_bytes in

@@ -1,19 +1,15 @@
 -- The bytes of groups, as they are written. Assumes nothing.
 use Prim.Native.Nat.{ℕ, zero, suc, ◌+◌, ◌-◌, ◌*◌, ◌/◌, ◌%◌, ◌^◌, ◌≤◌, ◌<◌}
 use mathlib.Core.Path.{◌≡◌, refl, ◌∙◌}
-use mathlib.Core.Bool.{Bool, true, false}
 use mathlib.Core.List.{List, [], ◌∷◌}
-use mathlib.Core.Option.{Option, none, some}
+use mathlib.Core.Option.{none, some}
 use native.Mathlib.Omega.{arith}
-use lib.Dec.{eqb, ltb}
 use lib.ListN.{length, take}
 use lib.Seq.{sets}
-use borrow.Author.Tests.{eq-eqb, ne_eqb, lt-ltb, le-ltb}
-use Rattle.output.specs.Logic.{if, then}
+use borrow.Author.Tests.{eq-eqb, ne_eqb}
 use Rattle.output.specs.Wrote.{Wrote, limit, le_bytes}
 use Rattle.output.proofs.Laws.{sets-append}
 use Rattle.text_rules.specs.Base64.{bytes24, first_bytes}
-use Rattle.tokens.specs.BlobSteps.{read_bytes}
 
 three_le : (a b c w : ℕ) → a < 256 → b < 256 → c < 256 → w ≤ 3 → le_bytes w (a + 256 * b + 65536 * c) ≡ take w (a ∷ b ∷ c ∷ [])
 unfolding le_bytes
@@ -59,21 +55,13 @@ wrote_six {a} {b} {c} p w e g l room =
 
 -- ---- the first bytes, if the bits behind them are zero
 
-pub first_wide : (n w : ℕ) → 16777216 ≤ n → read_bytes n w ≡ none
-unfolding read_bytes first_bytes
-first_wide n w h = rw (le-ltb n 16777216 h)
+pub first-odd : (n w : ℕ) → (n % 256 ^ (3 - w) ≡ 0 → ⊥) → first_bytes w n ≡ none
+unfolding first_bytes
+first-odd n w h = rw (ne_eqb (n % 256 ^ (3 - w)) 0 h)
 
-pub first-odd : (n w : ℕ) → (n % 256 ^ (3 - w) ≡ 0 → ⊥) → read_bytes n w ≡ none
-unfolding read_bytes first_bytes
-first-odd n w h = go (ltb n 16777216)
-  where
-    go : (b : Bool) → then (if b (some n) none) (λ m. if {A = Option (List ℕ)} (eqb (m % 256 ^ (3 - w)) 0) (some (take w (bytes24 m))) none) ≡ none
-    go true = rw (ne_eqb (n % 256 ^ (3 - w)) 0 h)
-    go false = refl
-
-pub first-whole : (n w : ℕ) → n < 16777216 → n % 256 ^ (3 - w) ≡ 0 → read_bytes n w ≡ some (take w (bytes24 n))
-unfolding read_bytes first_bytes
-first-whole n w l h = rw (lt-ltb n 16777216 l, eq-eqb (n % 256 ^ (3 - w)) 0 h)
+pub first-whole : (n w : ℕ) → n % 256 ^ (3 - w) ≡ 0 → first_bytes w n ≡ some (take w (bytes24 n))
+unfolding first_bytes
+first-whole n w h = rw (eq-eqb (n % 256 ^ (3 - w)) 0 h)
 
 -- by the last byte, and of one byte by the last two
 pub last-odd : (n w : ℕ) → 1 ≤ w → w ≤ 2 → (n % 256 ≡ 0 → ⊥) → n % 256 ^ (3 - w) ≡ 0 → ⊥

@@ -19,7 +19,8 @@ use Rattle.text_rules.specs.Utf8.{char_at}
 use Rattle.tokens.specs.Quoted.{strict_raw, raw_rule, raw, quote, character, characters, quoted, raw_byte, clob_byte, clob_bytes}
 use Rattle.tokens.specs.Steps.{Kept, Copied, Copies, is_plain, is_plain_byte, RunTo}
 use Rattle.tokens.specs.declared.quoted.Step.{Step}
-use Rattle.tokens.specs.declared.quoted.Step.TheVariants.{Next, Bad}
+use Rattle.std.specs.Prelude.{Some, None}
+use Rattle.std.specs.Prelude as std
 use Rattle.text_rules.proofs.EscapesLaws.{byte_at}
 use Rattle.text_rules.proofs.Utf8Chars.{ascii}
 use Rattle.tokens.proofs.Keeping.{kept_all, wrote_then_kept}
@@ -93,10 +94,10 @@ many-run {p} {step} {q} g text (suc n) i f h each =
 
 -- ---- what a loop of such pieces says of its result
 
-pub record ManyAt (step : List ℕ → Read) (q : ℕ) (text : List ℕ) (at : ℕ) (b b' : List ℕ) (p : ℕ) (r : Step) : Type 0 where
+pub record ManyAt (step : List ℕ → Read) (q : ℕ) (text : List ℕ) (at : ℕ) (b b' : List ℕ) (p : ℕ) (r : std.Option Step) : Type 0 where
   pub told : (f : ℕ) → suc (length text - at) ≤ f → Copied text (suc at) b b' p (many step f q (drop at text)) r
 
-many-told : (step : List ℕ → Read) (q : ℕ) (text : List ℕ) (at : ℕ) (b b' : List ℕ) (p : ℕ) (r : Step)
+many-told : (step : List ℕ → Read) (q : ℕ) (text : List ℕ) (at : ℕ) (b b' : List ℕ) (p : ℕ) (r : std.Option Step)
     → ((f : ℕ) → length text - at ≤ f → Copied text (suc at) b b' p (many step (suc f) q (drop at text)) r)
     → (f : ℕ) → suc (length text - at) ≤ f → Copied text (suc at) b b' p (many step f q (drop at text)) r
 many-told step q text at b b' p r g zero l = absurd (omega arith)
@@ -104,40 +105,40 @@ many-told step q text at b b' p r g (suc f) l = g f (omega arith)
 
 module _ {step : List ℕ → Read} {q : ℕ} {text : List ℕ} where
   -- the mark
-  pub at_mark : {at p : ℕ} {b : List ℕ} → p ≤ limit → length b < limit → at < length text → get_or text at 0 ≡ q → ManyAt step q text at b b p (Next (at + 1) p)
+  pub at_mark : {at p : ℕ} {b : List ℕ} → p ≤ limit → length b < limit → at < length text → get_or text at 0 ≡ q → ManyAt step q text at b b p (Some record { at = at + 1; pos = p })
   unfolding quote
   at_mark {at} {p} {b} lp lb h e = record {
-    told = many-told step q text at b b p (Next (at + 1) p) λ f l. ([], many-end step q f (drop at text) (drop (at + 1) text) (rw (byte_at text at h, eq-eqb (get_or text at 0) q e)), omega arith, omega arith, wrote_none b p lp lb);
+    told = many-told step q text at b b p (Some record { at = at + 1; pos = p }) λ f l. ([], many-end step q f (drop at text) (drop (at + 1) text) (rw (byte_at text at h, eq-eqb (get_or text at 0) q e)), omega arith, omega arith, wrote_none b p lp lb);
   }
 
   -- a piece that is wrong
-  pub at_wrong : {at p : ℕ} {b b' : List ℕ} → at < length text → (get_or text at 0 ≡ q → ⊥) → step (drop at text) ≡ none → Kept p b b' → ManyAt step q text at b b' p Bad
+  pub at_wrong : {at p : ℕ} {b b' : List ℕ} → at < length text → (get_or text at 0 ≡ q → ⊥) → step (drop at text) ≡ none → Kept p b b' → ManyAt step q text at b b' p None
   unfolding quote
   at_wrong {at} {p} {b} {b'} h e w l = record {
-    told = many-told step q text at b b' p Bad λ f _. (many_wrong step q f (drop at text) (rw (byte_at text at h, ne_eqb (get_or text at 0) q e)) w, l);
+    told = many-told step q text at b b' p None λ f _. (many_wrong step q f (drop at text) (rw (byte_at text at h, ne_eqb (get_or text at 0) q e)) w, l);
   }
 
   -- the end of the text
-  pub at-end : {at p : ℕ} {b : List ℕ} → step [] ≡ none → length text ≤ at → ManyAt step q text at b b p Bad
+  pub at-end : {at p : ℕ} {b : List ℕ} → step [] ≡ none → length text ≤ at → ManyAt step q text at b b p None
   unfolding quote
   at-end {at} {p} {b} w h =
       let e : drop at text ≡ [] = drop_of_length-le text {i = at} h in
-      record { told = many-told step q text at b b p Bad λ f l. (many_wrong step q f (drop at text) (rw e) (rw e w), kept_all) }
+      record { told = many-told step q text at b b p None λ f l. (many_wrong step q f (drop at text) (rw e) (rw e w), kept_all) }
 
   -- a piece, and then the others
-  pub at_piece : {at next p z : ℕ} {b b1 b' : List ℕ} (r : Step) → at < length text → (get_or text at 0 ≡ q → ⊥)
-      → Copies text (suc at) b b1 p (step (drop at text)) (Next next z) → ManyAt step q text next b1 b' z r → ManyAt step q text at b b' p r
+  pub at_piece : {at next p z : ℕ} {b b1 b' : List ℕ} (r : std.Option Step) → at < length text → (get_or text at 0 ≡ q → ⊥)
+      → Copies text (suc at) b b1 p (step (drop at text)) (Some record { at = next; pos = z }) → ManyAt step q text next b1 b' z r → ManyAt step q text at b b' p r
   unfolding quote
-  at_piece {at} {next} {p} {z} {b} {b1} {b'} (Next a e) h n k g = record {
-    told = many-told step q text at b b' p (Next a e) λ f l.
+  at_piece {at} {next} {p} {z} {b} {b1} {b'} (Some s) h n k g = record {
+    told = many-told step q text at b b' p (Some s) λ f l.
         let t = k.told in
         let lo : suc at ≤ next = t.2 in
         let y = g.told f (omega arith) in
         let lo2 = y.2 in
         (t.0 ++ y.0, many_more step q f t.0 (drop at text) (drop next text) _ (rw (byte_at text at h, ne_eqb (get_or text at 0) q n)) t.1 y.1, omega arith, y.3, wrote_then t.4 y.4);
   }
-  at_piece {at} {next} {p} {z} {b} {b1} {b'} Bad h n k g = record {
-    told = many-told step q text at b b' p Bad λ f l.
+  at_piece {at} {next} {p} {z} {b} {b1} {b'} None h n k g = record {
+    told = many-told step q text at b b' p None λ f l.
         let t = k.told in
         let lo : suc at ≤ next = t.2 in
         let y = g.told f (omega arith) in
@@ -145,7 +146,7 @@ module _ {step : List ℕ → Read} {q : ℕ} {text : List ℕ} where
   }
 
   -- a run of plain bytes, and then the others
-  pub at-run : {kind : ℕ → Bool} {at e p z : ℕ} {b b1 b' : List ℕ} (r : Step) → Plain kind step q → RunTo kind text at e
+  pub at-run : {kind : ℕ → Bool} {at e p z : ℕ} {b b1 b' : List ℕ} (r : std.Option Step) → Plain kind step q → RunTo kind text at e
       → Wrote b b1 p z (take (e - at) (drop at text)) → ManyAt step q text e b1 b' z r → ManyAt step q text at b b' p r
   at-run {kind} {at} {e} {p} {z} {b} {b1} {b'} r pl run w g =
       let lo : at ≤ e = run.ahead in
@@ -159,22 +160,22 @@ module _ {step : List ℕ → Read} {q : ℕ} {text : List ℕ} where
             passed (f - n) r (ap (λ (k : ℕ). many step k q (drop at text)) m ∙ rw j at eq) (g.told (f - n) (omega arith));
       }
     where
-      passed : (f : ℕ) (r : Step) {o : Read} → o ≡ then (many step f q (drop e text)) (prefix (take (e - at) (drop at text))) → Copied text (suc e) b1 b' z (many step f q (drop e text)) r → Copied text (suc at) b b' p o r
-      passed f (Next a c) h y =
+      passed : (f : ℕ) (r : std.Option Step) {o : Read} → o ≡ then (many step f q (drop e text)) (prefix (take (e - at) (drop at text))) → Copied text (suc e) b1 b' z (many step f q (drop e text)) r → Copied text (suc at) b b' p o r
+      passed f (Some s) h y =
           let lo : at ≤ e = run.ahead in
           let lo2 = y.2 in
           (take (e - at) (drop at text) ++ y.0, h ∙ ap (λ (o : Read). then o (prefix (take (e - at) (drop at text)))) y.1, omega arith, y.3, wrote_then w y.4)
-      passed f Bad h y = (h ∙ ap (λ (o : Read). then o (prefix (take (e - at) (drop at text)))) y.0, wrote_then_kept w y.1)
+      passed f None h y = (h ∙ ap (λ (o : Read). then o (prefix (take (e - at) (drop at text)))) y.0, wrote_then_kept w y.1)
 
 -- ---- with the fuel of the definitions
 
-pub quoted-at : (is_raw : ℕ → Bool) {q : ℕ} {text : List ℕ} {at : ℕ} {b b' : List ℕ} {p : ℕ} (r : Step) → ManyAt (character is_raw) q text at b b' p r → Copies text (suc at) b b' p (quoted is_raw q (drop at text)) r
+pub quoted-at : (is_raw : ℕ → Bool) {q : ℕ} {text : List ℕ} {at : ℕ} {b b' : List ℕ} {p : ℕ} (r : std.Option Step) → ManyAt (character is_raw) q text at b b' p r → Copies text (suc at) b b' p (quoted is_raw q (drop at text)) r
 unfolding quoted
 quoted-at is_raw {q} {text} {at} {b} {b'} {p} r g = record {
   told = subst (λ (o : Read). Copied text (suc at) b b' p o r) (sym (characters-many is_raw (suc (length (drop at text))) q (drop at text))) (g.told (suc (length (drop at text))) (omega (arith, length-drop at text)));
 }
 
-pub clob-bytes-at : {text : List ℕ} {at : ℕ} {b b' : List ℕ} {p : ℕ} (r : Step) → ManyAt clob_byte (byte "\"") text at b b' p r → Copies text (suc at) b b' p (clob_bytes (suc (length (drop at text))) (drop at text)) r
+pub clob-bytes-at : {text : List ℕ} {at : ℕ} {b b' : List ℕ} {p : ℕ} (r : std.Option Step) → ManyAt clob_byte (byte "\"") text at b b' p r → Copies text (suc at) b b' p (clob_bytes (suc (length (drop at text))) (drop at text)) r
 clob-bytes-at {text} {at} {b} {b'} {p} r g = record {
   told = subst (λ (o : Read). Copied text (suc at) b b' p o r) (sym (clob-many (suc (length (drop at text))) (drop at text))) (g.told (suc (length (drop at text))) (omega (arith, length-drop at text)));
 }

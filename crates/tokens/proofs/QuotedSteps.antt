@@ -1,14 +1,14 @@
 -- The steps of reading quoted text and clobs at a place of a text. Assumes nothing.
 use Prim.Native.Nat.{ℕ, suc, ◌+◌, ◌*◌, ◌^◌, ◌≤◌, ◌<◌}
 use mathlib.Core.Path.{◌≡◌, refl, sym, ◌∙◌}
-use mathlib.Core.Bool.{Bool, true, false, not, ◌&&◌, ◌||◌}
+use mathlib.Core.Bool.{Bool, true, false, ◌&&◌}
 use mathlib.Core.List.{List, [], ◌∷◌}
 use mathlib.Core.Option.{Option, none, some}
 use native.Mathlib.Nat.{add-zero, pow-suc, pow-le-pow_right}
 use native.Mathlib.Numerals.{add-one}
 use native.Mathlib.Decide.{dec_le}
 use native.Mathlib.Omega.{arith}
-use lib.Dec.{eqb, leb, ltb}
+use lib.Dec.{eqb, leb}
 use lib.ListN.{length, take, drop, get_or, drop_of_length-le}
 use lib.Seq.{drop-drop, get_or-drop}
 use borrow.Author.Tests.{le-leb, lt-leb, ne_eqb}
@@ -17,9 +17,10 @@ use Rattle.text_rules.specs.Texts.{starts}
 use Rattle.text_rules.specs.Utf8.{char_at, is_scalar, utf8}
 use Rattle.text_rules.specs.Escapes.{hex_value, hex}
 use Rattle.tokens.specs.Quoted.{scalar_escape, letter_escape, escape, old_raw, strict_raw, raw_rule, raw, character, byte_escape, raw_byte, clob_byte}
-use Rattle.tokens.specs.Steps.{Copies, is_plain, RunTo}
+use Rattle.tokens.specs.Steps.{Copies, RunTo}
 use Rattle.tokens.specs.declared.quoted.Step.{Step}
-use Rattle.tokens.specs.declared.quoted.Step.TheVariants.{Next, Bad}
+use Rattle.std.specs.Prelude.{Some, None}
+use Rattle.std.specs.Prelude as std
 use Rattle.text_rules.proofs.EscapesLaws.{byte_at}
 use Rattle.text_rules.proofs.DigitLaws.{never}
 use Rattle.text_rules.proofs.Utf8Chars.{char_drop}
@@ -39,9 +40,9 @@ run_more {p} {text} {at} {i} g h e = record {
 
 -- ---- a definition's answer told of another, and of an earlier place
 
-pub copies_as : {text : List ℕ} {lo lo' : ℕ} {b b' : List ℕ} {p : ℕ} {o o' : Option (List ℕ × List ℕ)} (r : Step) → lo' ≤ lo → o' ≡ o → Copies text lo b b' p o r → Copies text lo' b b' p o' r
-copies_as (Next at pos) l e g = let t = g.told in record { told = (t.0, e ∙ t.1, (let z = t.2 in omega arith), t.3, t.4) }
-copies_as Bad l e g = let t = g.told in record { told = (e ∙ t.0, t.1) }
+pub copies_as : {text : List ℕ} {lo lo' : ℕ} {b b' : List ℕ} {p : ℕ} {o o' : Option (List ℕ × List ℕ)} (r : std.Option Step) → lo' ≤ lo → o' ≡ o → Copies text lo b b' p o r → Copies text lo' b b' p o' r
+copies_as (Some s) l e g = let t = g.told in record { told = (t.0, e ∙ t.1, (let z = t.2 in omega arith), t.3, t.4) }
+copies_as None l e g = let t = g.told in record { told = (e ∙ t.0, t.1) }
 
 -- ---- hex digits
 
@@ -69,25 +70,6 @@ rule_both false c h = h
 pub rule_plain : (old : Bool) (c : ℕ) → 0x20 ≤ c → raw_rule old c ≡ true
 rule_plain old c h = rule_both old c (unfold strict_raw in rw (le-leb 0x20 c h))
 
--- and neither takes LF or CR
-pub rule_lf : (old : Bool) (c : ℕ) → c ≡ 10 → raw_rule old c ≡ false
-unfolding raw_rule old_raw strict_raw
-rule_lf true c e = rw e
-rule_lf false c e = rw e
-
-pub rule_cr : (old : Bool) (c : ℕ) → c ≡ 13 → raw_rule old c ≡ false
-unfolding raw_rule old_raw strict_raw
-rule_cr true c e = rw e
-rule_cr false c e = rw e
-
-pub rule_old : (old : Bool) (c : ℕ) → old ≡ true → (c ≡ 10 → ⊥) → (c ≡ 13 → ⊥) → raw_rule old c ≡ true
-unfolding raw_rule old_raw
-rule_old old c e m n = rw (e, ne_eqb c 10 m, ne_eqb c 13 n)
-
-pub rule_strict : (old : Bool) (c : ℕ) → old ≡ false → c < 0x20 → raw_rule old c ≡ eqb c 9 || eqb c 11 || eqb c 12
-unfolding raw_rule strict_raw
-rule_strict old c e l = rw (e, lt-leb 0x20 c l)
-
 pub starts-at : (b : ℕ) (t : List ℕ) (i : ℕ) → i < length t → starts b (drop i t) ≡ eqb (get_or t i 0) b
 unfolding starts
 starts-at b t i h = rw (byte_at t i h)
@@ -111,32 +93,6 @@ pub hex-fits : (x i w : ℕ) → x < 16 ^ i → i ≤ w → w ≤ 8 → x < 4294
 hex-fits x i w h l k =
     let z : 16 ^ i ≤ 16 ^ 8 = pow-le-pow_right {n = 16} (omega arith) {i = i} {j = 8} (omega arith) in
     omega arith
-
--- ---- plain bytes
-
-pub plain-last : (q b : ℕ) → leb 0x20 b && ltb b 0x80 ≡ true → (b ≡ byte "\\" → ⊥) → is_plain q b ≡ not (eqb b q)
-unfolding is_plain strict_raw
-plain-last q b h n = rw (ne_eqb b 92 n) (go (leb 0x20 b) (ltb b 0x80) h)
-  where
-    go : (x y : Bool) → x && y ≡ true → ((x || eqb b 9 || eqb b 11 || eqb b 12) && y && true && not (eqb b q)) ≡ not (eqb b q)
-    go true true h = refl
-    go true false h = never (sym h)
-    go false y h = never (sym h)
-
--- tab, 11 and 12
-pub plain-blank : (q b c : ℕ) → strict_raw c && ltb c 0x80 && not (eqb c (byte "\\")) ≡ true → b ≡ c → is_plain q b ≡ not (eqb b q)
-unfolding is_plain
-plain-blank q b c h e = rw (e, h)
-
--- any other byte: a control, or from hex 80 on
-pub plain_other : (q b : ℕ) → leb 0x20 b && ltb b 0x80 ≡ false → (b ≡ 9 → ⊥) → (b ≡ 11 → ⊥) → (b ≡ 12 → ⊥) → is_plain q b ≡ false
-unfolding is_plain strict_raw
-plain_other q b h l m n = rw (ne_eqb b 9 l, ne_eqb b 11 m, ne_eqb b 12 n) (go (leb 0x20 b) (ltb b 0x80) h)
-  where
-    go : (x y : Bool) → x && y ≡ false → ((x || false || false || false) && y && not (eqb b (byte "\\")) && not (eqb b q)) ≡ false
-    go true true h = never h
-    go true false h = refl
-    go false y h = refl
 
 -- ---- which rule a byte leads to
 

@@ -8,15 +8,14 @@ use native.Mathlib.Omega.{arith}
 use lib.Dec.{eqb}
 use lib.ListN.{length, take, drop, get_or}
 use borrow.Author.Tests.{eq-eqb, ne_eqb}
-use Rattle.output.specs.Logic.{if, then, or, byte, ascii}
+use Rattle.output.specs.Logic.{then, byte, ascii}
 use Rattle.text_rules.specs.Texts.{starts, same}
 use Rattle.text_rules.specs.Words.{word, behind_word, kind_of}
 use Rattle.text_rules.specs.WordSteps.{Spanned, WordAt}
 use Rattle.text_rules.specs.Reading.{Reads}
 use Rattle.tokens.specs.Token.{type_of, null_behind, null, bool_of, bool}
-use Rattle.tokens.specs.TokenSteps.{type_read, number_type, text_type, container_type}
 use Rattle.text_rules.specs.declared.words.Kind.{Kind}
-use Rattle.text_rules.specs.declared.words.Kind.TheVariants.{Refused}
+use Rattle.text_rules.specs.declared.words.Kind.TheVariants.{Null, True, False, Nan, Marker, Number, Text, Refused}
 use Rattle.text_rules.specs.declared.words.Word.{Word}
 use Rattle.text_rules.proofs.Places.{byte_at, end-at, next}
 use Rattle.text_rules.proofs.ReadingLaws.{reads_from, refused}
@@ -31,25 +30,6 @@ reads_some x at e l h = record { is = e; place = (l, h) }
 pub reads_before : {A : Type 0} {text : List ℕ} {lo lo' : ℕ} {o o' : Option (A × List ℕ)} {r : Option (A × ℕ)} → o' ≡ o → lo' ≤ lo → Reads text lo o r → Reads text lo' o' r
 reads_before e l h = record { is = e ∙ h.is; place = (reads_from h l).place }
 
--- ---- types
-
-or_if : {A : Type 0} (b : Bool) (x : A) (o p : Option A) → or (if b (some x) o) p ≡ if b (some x) (or o p)
-or_if true x o p = refl
-or_if false x o p = refl
-
-type_split : (w : List ℕ) → or (number_type w) (or (text_type w) (container_type w)) ≡ type_of w
-unfolding type_of number_type text_type container_type
-type_split w = simp or_if
-
-pub type_number : (w : List ℕ) (t : ℕ) → number_type w ≡ type_read t → (t ≡ 0 → ⊥) → type_of w ≡ type_read t
-type_number w t e h = sym (type_split w) ∙ rw (e, ne_eqb t 0 h)
-
-pub type_text : (w : List ℕ) (a t : ℕ) → number_type w ≡ type_read a → a ≡ 0 → text_type w ≡ type_read t → (t ≡ 0 → ⊥) → type_of w ≡ type_read t
-type_text w a t e z f h = sym (type_split w) ∙ rw (e, eq-eqb a 0 z, f, ne_eqb t 0 h)
-
-pub type_container : (w : List ℕ) (a b t : ℕ) → number_type w ≡ type_read a → a ≡ 0 → text_type w ≡ type_read b → b ≡ 0 → container_type w ≡ type_read t → type_of w ≡ type_read t
-type_container w a b t e z f y g = sym (type_split w) ∙ rw (e, eq-eqb a 0 z, f, eq-eqb b 0 y, g)
-
 -- ---- nulls
 
 module _ (text : List ℕ) (at : ℕ) where
@@ -63,19 +43,19 @@ module _ (text : List ℕ) (at : ℕ) where
       let i : null_behind (drop at text) ≡ some (0, drop at text) = unfold null_behind starts in rw (byte_at text at h, ne_eqb _ _ n) in
       reads_some 0 at i (omega arith) (omega arith)
 
-  module _ (h : at < length text) (dot : get_or text at 0 ≡ byte ".") {e : ℕ} (s : Spanned text (at + 1) e) (t : ℕ) (is : type_of (take (e - (at + 1)) (drop (at + 1) text)) ≡ type_read t) where
-    behind_dot : null_behind (drop at text) ≡ then (type_read t) (λ k. some (k, drop e text))
+  module _ (h : at < length text) (dot : get_or text at 0 ≡ byte ".") {e : ℕ} (s : Spanned text (at + 1) e) (o : Option ℕ) (is : type_of (take (e - (at + 1)) (drop (at + 1) text)) ≡ o) where
+    behind_dot : null_behind (drop at text) ≡ then o (λ k. some (k, drop e text))
     unfolding null_behind
     behind_dot =
         let d : starts (byte ".") (drop at text) ≡ true = unfold starts in rw (byte_at text at h) (eq-eqb _ _ dot) in
-        let i : type_of (word (drop (at + 1) text)) ≡ type_read t = ap type_of (sym s.bytes) ∙ is in
+        let i : type_of (word (drop (at + 1) text)) ≡ o = ap type_of (sym s.bytes) ∙ is in
         rw (d, next text at, i, ← s.rest)
 
-    pub null_typed : (t ≡ 0 → ⊥) → Reads text at (null_behind (drop at text)) (some (t, e))
-    null_typed n = let a = s.ahead in reads_some t e (behind_dot ∙ rw (ne_eqb t 0 n)) (omega arith) s.inside
+    pub null_typed : (t : ℕ) → o ≡ some t → Reads text at (null_behind (drop at text)) (some (t, e))
+    null_typed t n = let a = s.ahead in reads_some t e (behind_dot ∙ rw n) (omega arith) s.inside
 
-    pub null_untyped : t ≡ 0 → Reads text at (null_behind (drop at text)) none
-    null_untyped z = refused (behind_dot ∙ rw (eq-eqb t 0 z))
+    pub null_untyped : o ≡ none → Reads text at (null_behind (drop at text)) none
+    null_untyped z = refused (behind_dot ∙ rw z)
 
 module _ {text : List ℕ} {at e : ℕ} (s : Spanned text at e) where
   word-is : (w : List ℕ) (b : Bool) → b ≡ same w (take (e - at) (drop at text)) → same w (word (drop at text)) ≡ b
@@ -98,6 +78,17 @@ module _ {text : List ℕ} {at e : ℕ} (s : Spanned text at e) where
       reads_before i l g
 
 -- ---- bools
+
+-- a word of another kind is no bool
+pub no_bool : (k : Kind) → (k ≡ True → ⊥) → (k ≡ False → ⊥) → bool_of k ≡ none
+no_bool True t f = absurd (t refl)
+no_bool False t f = absurd (f refl)
+no_bool Null t f = refl
+no_bool Nan t f = refl
+no_bool Marker t f = refl
+no_bool (Number n) t f = refl
+no_bool Text t f = refl
+no_bool Refused t f = refl
 
 bool-some : (t : List ℕ) (b : Bool) → bool_of (kind_of (word t)) ≡ some b → bool t ≡ some (b, behind_word t)
 unfolding bool

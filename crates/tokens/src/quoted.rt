@@ -1,131 +1,75 @@
 // Quoted text and clobs, read: the bytes that they mean are written as they are read.
-ghost use Rattle.std.specs.Prelude.{◌≡◌, [], ◌∷◌, suc, ◌+◌, ◌≤◌, ◌<◌, ◌&&◌, leb, ltb, length, drop};
+ghost use Rattle.std.specs.Prelude.{◌≡◌, [], ◌∷◌, suc, ◌+◌, ◌≤◌, ◌<◌, length, drop, IfSome};
 ghost use Rattle.std.proofs.Math.Option.{some};
 ghost use Rattle.output.specs.Logic.{then};
 ghost use Rattle.output.specs.Wrote.{Wrote, limit};
 ghost use Rattle.text_rules.specs.Utf8.{utf8};
 ghost use Rattle.text_rules.specs.Escapes.{letter, hex_value, hex};
 ghost use Rattle.tokens.specs.Quoted.{scalar_escape, letter_escape, escape, raw_rule, raw, character, quoted, byte_escape, clob_byte, clob_bytes, clob};
-ghost use Rattle.tokens.specs.Steps.{Copies, if_below, own_letter, HexAt, is_plain, is_plain_byte, RunTo};
+ghost use Rattle.tokens.specs.Steps.{Copies, HexAt, is_plain, is_plain_byte, RunTo};
+ghost use Rattle.text_rules.specs.Reading.{found};
 
-// Something was read up to `at`, and its bytes written up to `pos`; or nothing.
+// Something was read up to `at`, and its bytes written up to `pos`.
 #[derive(Clone, Copy)]
-pub enum Step {
-    Next { at: usize, pos: usize },
-    Bad,
-}
-
-// The number that hex digits name, or not all of them are hex digits.
-#[derive(Clone, Copy)]
-pub enum Hex {
-    Value(u32),
-    Bad,
+pub struct Step {
+    pub at: usize,
+    pub pos: usize,
 }
 
 // ---- escapes
 
-// A byte that stands for itself behind a backslash, or 128.
-fn own_value(b: u8) -> u8
-    ensures { own_letter b ≡ if_below 128 result }
+// What a letter behind a backslash stands for.
+#[tactic(auto, using(std::proofs::lemmas::Bool::Decides::nat_tests), unfolding(text_rules::specs::Escapes::letter))]
+fn letter_value(b: u8) -> Option<u8>
+    ensures { found result ≡ letter b }
 {
-    if b == b'\\' {
-        return b;
+    match b {
+        b'0' => Some(0),
+        b'a' => Some(7),
+        b'b' => Some(8),
+        b't' => Some(9),
+        b'n' => Some(10),
+        b'v' => Some(11),
+        b'f' => Some(12),
+        b'r' => Some(13),
+        b'\\' | b'"' | b'\'' | b'/' | b'?' => Some(b),
+        _ => None,
     }
-    if b == b'"' {
-        return b;
-    }
-    if b == b'\'' {
-        return b;
-    }
-    if b == b'/' {
-        return b;
-    }
-    if b == b'?' {
-        return b;
-    }
-    128
 }
 
-// What a letter behind a backslash stands for, or 128.
-fn letter_value(b: u8) -> u8
-    ensures { letter b ≡ if_below 128 result }
+// The value of a hex digit of either case.
+#[tactic(auto, using(std::proofs::lemmas::Bool::Decides::nat_tests), unfolding(text_rules::specs::Escapes::hex_value))]
+fn hex_value(b: u8) -> Option<u8>
+    ensures digit { found result ≡ hex_value b }
+    ensures below { IfSome result (λ d. d < 16) }
 {
-    if b == b'0' {
-        return 0;
+    match b {
+        b'0'..=b'9' => Some(b - b'0'),
+        b'A'..=b'F' => Some(10 + (b - b'A')),
+        b'a'..=b'f' => Some(10 + (b - b'a')),
+        _ => None,
     }
-    if b == b'a' {
-        return 7;
-    }
-    if b == b'b' {
-        return 8;
-    }
-    if b == b't' {
-        return 9;
-    }
-    if b == b'n' {
-        return 10;
-    }
-    if b == b'v' {
-        return 11;
-    }
-    if b == b'f' {
-        return 12;
-    }
-    if b == b'r' {
-        return 13;
-    }
-    own_value(b)
-}
-
-// The value of a hex digit of either case, or 16.
-fn hex_value(b: u8) -> u8
-    ensures { hex_value b ≡ if_below 16 result }
-{
-    if b < b'0' {
-        return 16;
-    }
-    if b <= b'9' {
-        return b - b'0';
-    }
-    if b < b'A' {
-        return 16;
-    }
-    if b <= b'F' {
-        return 10 + (b - b'A');
-    }
-    if b < b'a' {
-        return 16;
-    }
-    if b <= b'f' {
-        return 10 + (b - b'a');
-    }
-    16
 }
 
 // The w hex digits at a place.
-fn hex_at(text: &[u8], at: usize, w: usize) -> Hex
+fn hex_at(text: &[u8], at: usize, w: usize) -> Option<u32>
     requires { (at ≤ length text.now) × (w ≤ 8) }
     ensures { HexAt text.now at w result }
 {
     let mut v: u32 = 0;
-    let mut i: usize = 0;
-    while i < w {
+    for i in 0..w {
         if text.len() - at <= i {
-            return Hex::Bad;
+            return None;
         }
-        let d = hex_value(text[at + i]);
-        if 16 <= d {
-            return Hex::Bad;
-        }
+        let d = hex_value(text[at + i])?;
         v = v * 16 + d as u32;
-        i += 1;
     }
-    Hex::Value(v)
+    Some(v)
 }
 
 // The UTF-8 of a scalar value.
 fn put_utf8(buf: &mut [u8], pos: usize, v: u32) -> usize
-    requires { (pos ≤ limit) × (v < 0x11_0000) }
+    requires { v < 0x11_0000 }
     ensures { Wrote buf.old buf.new pos result (utf8 v) }
 {
     if v < 0x80 {
@@ -147,101 +91,78 @@ fn put_utf8(buf: &mut [u8], pos: usize, v: u32) -> usize
 }
 
 // The scalar value that the w hex digits at a place name.
-fn scalar_at(text: &[u8], at: usize, w: usize, buf: &mut [u8], pos: usize) -> Step
-    requires { (at ≤ length text.now) × (w ≤ 8) × (pos ≤ limit) }
+fn scalar_at(text: &[u8], at: usize, w: usize, buf: &mut [u8], pos: usize) -> Option<Step>
+    requires { (at ≤ length text.now) × (w ≤ 8) }
     ensures { Copies text.now at buf.old buf.new pos (scalar_escape w (drop at text.now)) result }
 {
-    let Hex::Value(v) = hex_at(text, at, w) else {
-        return Step::Bad;
-    };
+    let v = hex_at(text, at, w)?;
     if !text_rules::utf8::is_scalar(v) {
-        return Step::Bad;
+        return None;
     }
     let p = put_utf8(buf, pos, v);
-    Step::Next { at: at + w, pos: p }
+    Some(Step { at: at + w, pos: p })
 }
 
 // A short letter at a place.
-fn letter_at(text: &[u8], at: usize, buf: &mut [u8], pos: usize) -> Step
-    requires { (at < length text.now) × (pos ≤ limit) }
+fn letter_at(text: &[u8], at: usize, buf: &mut [u8], pos: usize) -> Option<Step>
+    requires { at < length text.now }
     ensures { Copies text.now (suc at) buf.old buf.new pos (letter_escape (drop at text.now)) result }
 {
-    let v = letter_value(text[at]);
-    if 128 <= v {
-        return Step::Bad;
-    }
+    let v = letter_value(text[at])?;
     let p = output::put(buf, pos, v);
-    Step::Next { at: at + 1, pos: p }
+    Some(Step { at: at + 1, pos: p })
 }
 
 // What stands behind a backslash in quoted text.
-fn escape_at(text: &[u8], at: usize, buf: &mut [u8], pos: usize) -> Step
-    requires { (at ≤ length text.now) × (pos ≤ limit) }
+fn escape_at(text: &[u8], at: usize, buf: &mut [u8], pos: usize) -> Option<Step>
+    requires { at ≤ length text.now }
     ensures { Copies text.now (suc at) buf.old buf.new pos (escape (drop at text.now)) result }
 {
     if at == text.len() {
-        return Step::Bad;
+        return None;
     }
-    let b = text[at];
-    if b == b'x' {
-        return scalar_at(text, at + 1, 2, buf, pos);
+    match text[at] {
+        b'x' => scalar_at(text, at + 1, 2, buf, pos),
+        b'u' => scalar_at(text, at + 1, 4, buf, pos),
+        b'U' => scalar_at(text, at + 1, 8, buf, pos),
+        _ => letter_at(text, at, buf, pos),
     }
-    if b == b'u' {
-        return scalar_at(text, at + 1, 4, buf, pos);
-    }
-    if b == b'U' {
-        return scalar_at(text, at + 1, 8, buf, pos);
-    }
-    letter_at(text, at, buf, pos)
 }
 
 // ---- quoted text
 
 // What a raw character may start with; `old`: by 01's rule, else by Ion's. No LF and no CR by either.
+#[tactic(auto, using(std::proofs::lemmas::Bool::Decides::nat_tests), unfolding(crate::specs::Quoted::raw_rule, crate::specs::Quoted::old_raw, crate::specs::Quoted::strict_raw))]
 fn is_raw(b: u8, old: bool) -> bool
     ensures { result ≡ raw_rule old b }
 {
-    if 0x20 <= b {
-        return true;
+    match b {
+        0x20.. | 9 | 11 | 12 => true,
+        10 | 13 => false,
+        _ => old,
     }
-    if b == 10 {
-        return false;
-    }
-    if b == 13 {
-        return false;
-    }
-    if old {
-        return true;
-    }
-    if b == 9 {
-        return true;
-    }
-    if b == 11 {
-        return true;
-    }
-    b == 12
 }
 
 // A raw character: valid UTF-8.
-fn raw_at(text: &[u8], at: usize, old: bool, buf: &mut [u8], pos: usize) -> Step
-    requires { (at < length text.now) × (pos ≤ limit) }
+fn raw_at(text: &[u8], at: usize, old: bool, buf: &mut [u8], pos: usize) -> Option<Step>
+    requires { at < length text.now }
     ensures { Copies text.now (suc at) buf.old buf.new pos (raw (raw_rule old) (drop at text.now)) result }
 {
     if !is_raw(text[at], old) {
-        return Step::Bad;
+        return None;
     }
     let n = text_rules::utf8::char_len(text, at);
     if n == 0 {
-        return Step::Bad;
+        return None;
     }
     let end = at + n;
     let p = output::put_bytes(buf, pos, &text[at..end]);
-    Step::Next { at: end, pos: p }
+    Some(Step { at: end, pos: p })
 }
 
 // One character of quoted text.
-fn character_at(text: &[u8], at: usize, old: bool, buf: &mut [u8], pos: usize) -> Step
-    requires { (at < length text.now) × (pos ≤ limit) }
+fn character_at(text: &[u8], at: usize, old: bool, buf: &mut [u8], pos: usize) -> Option<Step>
+    requires { at < length text.now }
     ensures { Copies text.now (suc at) buf.old buf.new pos (character (raw_rule old) (drop at text.now)) result }
 {
     if text[at] == b'\\' {
@@ -250,44 +171,25 @@ fn character_at(text: &[u8], at: usize, old: bool, buf: &mut [u8], pos: usize) -
     raw_at(text, at, old, buf, pos)
 }
 
-// A byte from hex 20 to 7F: most are, so `is_plain` asks for it first.
-fn is_usual(b: u8) -> bool
-    ensures { result ≡ leb 0x20 b && ltb b 0x80 }
-{
-    if b < 0x20 {
-        return false;
-    }
-    b < 0x80
-}
-
-// A byte that is a character as it stands, by both rules, where the mark is q.
+// A byte that is a character as it stands, by both rules, where the mark is q. Most are from hex 20 to 7F, so these are asked for first: one `match`
+// takes a third more instructions a byte.
+#[tactic(auto, using(std::proofs::lemmas::Bool::Decides::nat_tests), unfolding(crate::specs::Steps::is_plain, crate::specs::Quoted::strict_raw))]
 fn is_plain(b: u8, q: u8) -> bool
     ensures { result ≡ is_plain q b }
 {
-    if is_usual(b) {
-        if b == b'\\' {
-            return false;
-        }
-        return b != q;
+    if 0x20 <= b && b < 0x80 {
+        return b != b'\\' && b != q;
     }
-    if b == 9 {
-        return b != q;
-    }
-    if b == 11 {
-        return b != q;
-    }
-    if b == 12 {
-        return b != q;
-    }
-    false
+    matches!(b, 9 | 11 | 12) && b != q
 }
 
-// Where the looking for plain bytes stops at the latest: what was looked at is copied while it is near.
+// Where the looking for plain bytes stops at the latest: what was looked at is copied while it is near. Not one with the converter's: it may be asked at
+// the end, where that may not, and so promises no step.
 fn block_end(at: usize, end: usize) -> usize
     requires { at ≤ end }
-    ensures { result ≤ end }
+    ensures { (at ≤ result) × (result ≤ end) }
 {
-    if end - at <= 4096 { end } else { at + 4096 }
+    end.min(at.saturating_add(4096))
 }
 
 // The end of the plain bytes at a place, or of those in its block.
@@ -296,65 +198,63 @@ fn plain_end(text: &[u8], at: usize, q: u8) -> usize
     ensures { RunTo (is_plain q) text.now at result }
 {
     let stop = block_end(at, text.len());
-    let mut i = at;
-    while i < stop {
+    for i in at..stop {
         if !is_plain(text[i], q) {
             return i;
         }
-        i += 1;
     }
-    i
+    stop
 }
 
 // Quoted text behind its mark q, through the next; `old`: by 01's raw rule. A run of plain bytes is copied at once.
-pub fn characters_at(text: &[u8], at: usize, q: u8, old: bool, buf: &mut [u8], pos: usize) -> Step
-    requires { (at ≤ length text.now) × (pos ≤ limit) }
+pub fn characters_at(
+    text: &[u8],
+    at: usize,
+    q: u8,
+    old: bool,
+    buf: &mut [u8],
+    pos: usize,
+) -> Option<Step>
+    requires { at ≤ length text.now }
     ensures { Copies text.now (suc at) buf.old buf.new pos (quoted (raw_rule old) q (drop at text.now)) result }
 {
     let mut i = at;
     let mut p = pos;
+    // A walk: the step is the run's length and that of the character behind it.
     loop {
         let e = plain_end(text, i, q);
         p = output::put_bytes(buf, p, &text[i..e]);
         if e == text.len() {
-            return Step::Bad;
+            return None;
         }
         if text[e] == q {
-            return Step::Next { at: e + 1, pos: p };
+            return Some(Step { at: e + 1, pos: p });
         }
-        let Step::Next {
-            at: next,
-            pos: behind,
-        } = character_at(text, e, old, buf, p)
-        else {
-            return Step::Bad;
-        };
-        i = next;
-        p = behind;
+        let s = character_at(text, e, old, buf, p)?;
+        i = s.at;
+        p = s.pos;
     }
 }
 
 // ---- clobs
 
 // The byte that two hex digits at a place name.
-fn hex_byte_at(text: &[u8], at: usize, buf: &mut [u8], pos: usize) -> Step
-    requires { (at ≤ length text.now) × (pos ≤ limit) }
+fn hex_byte_at(text: &[u8], at: usize, buf: &mut [u8], pos: usize) -> Option<Step>
+    requires { at ≤ length text.now }
     ensures { Copies text.now at buf.old buf.new pos (then (hex 2 0 (drop at text.now)) (λ v. some (v.0 ∷ [], v.1))) result }
 {
-    let Hex::Value(v) = hex_at(text, at, 2) else {
-        return Step::Bad;
-    };
+    let v = hex_at(text, at, 2)?;
     let p = output::put(buf, pos, v as u8);
-    Step::Next { at: at + 2, pos: p }
+    Some(Step { at: at + 2, pos: p })
 }
 
 // What stands behind a backslash in a clob.
-fn byte_escape_at(text: &[u8], at: usize, buf: &mut [u8], pos: usize) -> Step
-    requires { (at ≤ length text.now) × (pos ≤ limit) }
+fn byte_escape_at(text: &[u8], at: usize, buf: &mut [u8], pos: usize) -> Option<Step>
+    requires { at ≤ length text.now }
     ensures { Copies text.now (suc at) buf.old buf.new pos (byte_escape (drop at text.now)) result }
 {
     if at == text.len() {
-        return Step::Bad;
+        return None;
     }
     if text[at] == b'x' {
         return hex_byte_at(text, at + 1, buf, pos);
@@ -363,38 +263,30 @@ fn byte_escape_at(text: &[u8], at: usize, buf: &mut [u8], pos: usize) -> Step
 }
 
 // One byte of a clob.
-fn clob_byte_at(text: &[u8], at: usize, buf: &mut [u8], pos: usize) -> Step
-    requires { (at < length text.now) × (pos ≤ limit) }
+fn clob_byte_at(text: &[u8], at: usize, buf: &mut [u8], pos: usize) -> Option<Step>
+    requires { at < length text.now }
     ensures { Copies text.now (suc at) buf.old buf.new pos (clob_byte (drop at text.now)) result }
 {
-    let b = text[at];
-    if b == b'\\' {
-        return byte_escape_at(text, at + 1, buf, pos);
+    match text[at] {
+        b'\\' => byte_escape_at(text, at + 1, buf, pos),
+        b @ 0x20..=0x7E => {
+            let p = output::put(buf, pos, b);
+            Some(Step { at: at + 1, pos: p })
+        }
+        _ => None,
     }
-    if b < 0x20 {
-        return Step::Bad;
-    }
-    if 0x7E < b {
-        return Step::Bad;
-    }
-    let p = output::put(buf, pos, b);
-    Step::Next { at: at + 1, pos: p }
 }
 
 // A byte that stands for itself in a clob.
+#[tactic(auto, using(std::proofs::lemmas::Bool::Decides::nat_tests), unfolding(crate::specs::Steps::is_plain_byte))]
 fn is_plain_byte(b: u8) -> bool
     ensures { result ≡ is_plain_byte b }
 {
-    if b < 0x20 {
-        return false;
+    match b {
+        b'\\' | b'"' => false,
+        0x20..=0x7E => true,
+        _ => false,
     }
-    if 0x7E < b {
-        return false;
-    }
-    if b == b'\\' {
-        return false;
-    }
-    b != b'"'
 }
 
 // The end of the plain bytes at a place, or of those in its block.
@@ -403,60 +295,51 @@ fn plain_bytes_end(text: &[u8], at: usize) -> usize
     ensures { RunTo is_plain_byte text.now at result }
 {
     let stop = block_end(at, text.len());
-    let mut i = at;
-    while i < stop {
+    for i in at..stop {
         if !is_plain_byte(text[i]) {
             return i;
         }
-        i += 1;
     }
-    i
+    stop
 }
 
 // The bytes of a clob, through the double quote mark: a run of plain bytes is copied at once.
-fn clob_bytes_at(text: &[u8], at: usize, buf: &mut [u8], pos: usize) -> Step
-    requires { (at ≤ length text.now) × (pos ≤ limit) }
+fn clob_bytes_at(text: &[u8], at: usize, buf: &mut [u8], pos: usize) -> Option<Step>
+    requires { at ≤ length text.now }
     ensures { Copies text.now (suc at) buf.old buf.new pos (clob_bytes (suc (length (drop at text.now))) (drop at text.now)) result }
 {
     let mut i = at;
     let mut p = pos;
+    // A walk: the step is the run's length and that of the escape behind it.
     loop {
         let e = plain_bytes_end(text, i);
         p = output::put_bytes(buf, p, &text[i..e]);
         if e == text.len() {
-            return Step::Bad;
+            return None;
         }
         if text[e] == b'"' {
-            return Step::Next { at: e + 1, pos: p };
+            return Some(Step { at: e + 1, pos: p });
         }
-        let Step::Next {
-            at: next,
-            pos: behind,
-        } = clob_byte_at(text, e, buf, p)
-        else {
-            return Step::Bad;
-        };
-        i = next;
-        p = behind;
+        let s = clob_byte_at(text, e, buf, p)?;
+        i = s.at;
+        p = s.pos;
     }
 }
 
 // A clob: `{{"`, bytes, `"}}`.
-pub fn clob_at(text: &[u8], at: usize, buf: &mut [u8], pos: usize) -> Step
-    requires { (at ≤ length text.now) × (pos ≤ limit) }
+pub fn clob_at(text: &[u8], at: usize, buf: &mut [u8], pos: usize) -> Option<Step>
+    requires { at ≤ length text.now }
     ensures { Copies text.now (suc at) buf.old buf.new pos (clob (drop at text.now)) result }
 {
     if !text_rules::words::word_stands(text, at, b"{{\"") {
-        return Step::Bad;
+        return None;
     }
-    let Step::Next { at: end, pos: p } = clob_bytes_at(text, at + 3, buf, pos) else {
-        return Step::Bad;
-    };
-    if !text_rules::words::word_stands(text, end, b"}}") {
-        return Step::Bad;
+    let s = clob_bytes_at(text, at + 3, buf, pos)?;
+    if !text_rules::words::word_stands(text, s.at, b"}}") {
+        return None;
     }
-    Step::Next {
-        at: end + 2,
-        pos: p,
-    }
+    Some(Step {
+        at: s.at + 2,
+        pos: s.pos,
+    })
 }

@@ -3,200 +3,142 @@ ghost use Rattle.std.specs.Prelude.{◌≡◌, suc, ◌≤◌, length, drop};
 ghost use Rattle.output.specs.Wrote.{limit};
 ghost use Rattle.tokens.specs.Quoted.{raw_rule};
 ghost use Rattle.tokens.specs.Token.{type_of, null_behind, null, bool, bare_symbol, symbol};
-ghost use Rattle.text_rules.specs.Reading.{Reads};
-ghost use Rattle.tokens.specs.TokenSteps.{null_read, bool_read, type_read, number_type, text_type, container_type, SymbolAt};
+ghost use Rattle.text_rules.specs.Reading.{Reads, found};
+ghost use Rattle.tokens.specs.TokenSteps.{SymbolAt};
 
-// A null of a type, and the place behind it; or none.
-#[derive(Clone, Copy)]
-pub enum NullRead {
-    Is(u8, usize),
-    Bad,
-}
+use crate::quoted::characters_at;
+use text_rules::words::{Kind, name_end, same_word, word_at, word_end};
 
-#[derive(Clone, Copy)]
-pub enum BoolRead {
-    Is(bool, usize),
-    Bad,
-}
-
-// A symbol's text was read up to `at` and written up to `pos`; or its number was read; or there is none.
+// A symbol's text was read up to `at` and written up to `pos`; or its number was read.
 #[derive(Clone, Copy)]
 pub enum SymbolRead {
     Text { at: usize, pos: usize },
     Id { n: u32, at: usize },
-    Bad,
 }
 
-// The type among 1 to 4 that a name names, 0 for none.
-fn number_type(w: &[u8]) -> u8
-    ensures { number_type w.now ≡ type_read result }
+// The type that a name names behind `null.`.
+#[tactic(auto, unfolding(crate::specs::Token::type_of))]
+fn type_of(w: &[u8]) -> Option<u8>
+    ensures { found result ≡ type_of w.now }
 {
-    if text_rules::words::same_word(w, b"bool") {
-        return 1;
+    if same_word(w, b"bool") {
+        return Some(1);
     }
-    if text_rules::words::same_word(w, b"int") {
-        return 2;
+    if same_word(w, b"int") {
+        return Some(2);
     }
-    if text_rules::words::same_word(w, b"float") {
-        return 3;
+    if same_word(w, b"float") {
+        return Some(3);
     }
-    if text_rules::words::same_word(w, b"decimal") {
-        return 4;
+    if same_word(w, b"decimal") {
+        return Some(4);
     }
-    0
-}
-
-// The type among 5 to 8 that a name names, 0 for none.
-fn text_type(w: &[u8]) -> u8
-    ensures { text_type w.now ≡ type_read result }
-{
-    if text_rules::words::same_word(w, b"timestamp") {
-        return 5;
+    if same_word(w, b"timestamp") {
+        return Some(5);
     }
-    if text_rules::words::same_word(w, b"symbol") {
-        return 6;
+    if same_word(w, b"symbol") {
+        return Some(6);
     }
-    if text_rules::words::same_word(w, b"string") {
-        return 7;
+    if same_word(w, b"string") {
+        return Some(7);
     }
-    if text_rules::words::same_word(w, b"clob") {
-        return 8;
+    if same_word(w, b"clob") {
+        return Some(8);
     }
-    0
-}
-
-// The type among 9 to 12 that a name names, 0 for none.
-fn container_type(w: &[u8]) -> u8
-    ensures { container_type w.now ≡ type_read result }
-{
-    if text_rules::words::same_word(w, b"blob") {
-        return 9;
+    if same_word(w, b"blob") {
+        return Some(9);
     }
-    if text_rules::words::same_word(w, b"list") {
-        return 10;
+    if same_word(w, b"list") {
+        return Some(10);
     }
-    if text_rules::words::same_word(w, b"sexp") {
-        return 11;
+    if same_word(w, b"sexp") {
+        return Some(11);
     }
-    if text_rules::words::same_word(w, b"struct") {
-        return 12;
+    if same_word(w, b"struct") {
+        return Some(12);
     }
-    0
-}
-
-// The type that a name names behind `null.`, 0 for none.
-fn type_of(w: &[u8]) -> u8
-    ensures { type_of w.now ≡ type_read result }
-{
-    let a = number_type(w);
-    if a != 0 {
-        return a;
-    }
-    let b = text_type(w);
-    if b != 0 {
-        return b;
-    }
-    container_type(w)
+    None
 }
 
 // The type behind `null` at a place, and where it ends.
-pub fn null_behind(text: &[u8], at: usize) -> NullRead
+pub fn null_behind(text: &[u8], at: usize) -> Option<(u8, usize)>
     requires { at ≤ length text.now }
-    ensures { Reads text.now at (null_behind (drop at text.now)) (null_read result) }
+    ensures { Reads text.now at (null_behind (drop at text.now)) (found result) }
 {
-    if at == text.len() {
-        return NullRead::Is(0, at);
+    if at == text.len() || text[at] != b'.' {
+        return Some((0, at));
     }
-    if text[at] != b'.' {
-        return NullRead::Is(0, at);
-    }
-    let e = text_rules::words::word_end(text, at + 1);
-    let t = type_of(&text[at + 1..e]);
-    if t == 0 {
-        return NullRead::Bad;
-    }
-    NullRead::Is(t, e)
+    let e = word_end(text, at + 1);
+    let t = type_of(&text[at + 1..e])?;
+    Some((t, e))
 }
 
 // A null of some type.
-pub fn null_at(text: &[u8], at: usize) -> NullRead
+pub fn null_at(text: &[u8], at: usize) -> Option<(u8, usize)>
     requires { at ≤ length text.now }
-    ensures { Reads text.now (suc at) (null (drop at text.now)) (null_read result) }
+    ensures { Reads text.now (suc at) (null (drop at text.now)) (found result) }
 {
-    let e = text_rules::words::word_end(text, at);
-    if !text_rules::words::same_word(&text[at..e], b"null") {
-        return NullRead::Bad;
+    let e = word_end(text, at);
+    if !same_word(&text[at..e], b"null") {
+        return None;
     }
     null_behind(text, e)
 }
 
 // true or false.
-pub fn bool_at(text: &[u8], at: usize) -> BoolRead
+pub fn bool_at(text: &[u8], at: usize) -> Option<(bool, usize)>
     requires { at ≤ length text.now }
-    ensures { Reads text.now (suc at) (bool (drop at text.now)) (bool_read result) }
+    ensures { Reads text.now (suc at) (bool (drop at text.now)) (found result) }
 {
-    let w = text_rules::words::word_at(text, at);
-    let k = w.kind;
-    match k {
-        text_rules::words::Kind::True => BoolRead::Is(true, w.end),
-        text_rules::words::Kind::False => BoolRead::Is(false, w.end),
-        text_rules::words::Kind::Null => BoolRead::Bad,
-        text_rules::words::Kind::Nan => BoolRead::Bad,
-        text_rules::words::Kind::Marker => BoolRead::Bad,
-        text_rules::words::Kind::Number(_) => BoolRead::Bad,
-        text_rules::words::Kind::Text => BoolRead::Bad,
-        text_rules::words::Kind::Refused => BoolRead::Bad,
+    let w = word_at(text, at);
+    match w.kind {
+        Kind::True => Some((true, w.end)),
+        Kind::False => Some((false, w.end)),
+        _ => None,
     }
 }
 
 // A bare symbol: its text or its number.
-fn bare_symbol_at(text: &[u8], at: usize, buf: &mut [u8], pos: usize) -> SymbolRead
-    requires { (at ≤ length text.now) × (pos ≤ limit) }
+fn bare_symbol_at(text: &[u8], at: usize, buf: &mut [u8], pos: usize) -> Option<SymbolRead>
+    requires { at ≤ length text.now }
     ensures { SymbolAt text.now (suc at) buf.old buf.new pos (bare_symbol (drop at text.now)) result }
 {
-    let n = text_rules::words::name_end(text, at);
+    let n = name_end(text, at);
     if at < n {
         let q = output::put_bytes(buf, pos, &text[at..n]);
-        return SymbolRead::Text { at: n, pos: q };
+        return Some(SymbolRead::Text { at: n, pos: q });
     }
-    let w = text_rules::words::word_at(text, at);
-    let k = w.kind;
-    let e = w.end;
-    match k {
-        text_rules::words::Kind::Text => {
-            let p = output::put_bytes(buf, pos, &text[at..e]);
-            SymbolRead::Text { at: e, pos: p }
+    let w = word_at(text, at);
+    match w.kind {
+        Kind::Text => {
+            let p = output::put_bytes(buf, pos, &text[at..w.end]);
+            Some(SymbolRead::Text { at: w.end, pos: p })
         }
-        text_rules::words::Kind::Number(n) => SymbolRead::Id { n, at: e },
-        text_rules::words::Kind::Null => SymbolRead::Bad,
-        text_rules::words::Kind::True => SymbolRead::Bad,
-        text_rules::words::Kind::False => SymbolRead::Bad,
-        text_rules::words::Kind::Nan => SymbolRead::Bad,
-        text_rules::words::Kind::Marker => SymbolRead::Bad,
-        text_rules::words::Kind::Refused => SymbolRead::Bad,
+        Kind::Number(n) => Some(SymbolRead::Id { n, at: w.end }),
+        _ => None,
     }
 }
 
 // A symbol; `old`: by 01's raw rule. Its text, without marks and escapes, is written as it is read.
-pub fn symbol_at(text: &[u8], at: usize, old: bool, buf: &mut [u8], pos: usize) -> SymbolRead
-    requires { (at ≤ length text.now) × (pos ≤ limit) }
+pub fn symbol_at(
+    text: &[u8],
+    at: usize,
+    old: bool,
+    buf: &mut [u8],
+    pos: usize,
+) -> Option<SymbolRead>
+    requires { at ≤ length text.now }
     ensures { SymbolAt text.now (suc at) buf.old buf.new pos (symbol (raw_rule old) (drop at text.now)) result }
 {
     if at == text.len() {
-        return SymbolRead::Bad;
+        return None;
     }
     if text[at] != b'\'' {
         return bare_symbol_at(text, at, buf, pos);
     }
-    let crate::quoted::Step::Next { at: a, pos: p } = crate::quoted::characters_at(
-        text,
-        at + 1,
-        b'\'',
-        old,
-        buf,
-        pos,
-    ) else {
-        return SymbolRead::Bad;
-    };
-    SymbolRead::Text { at: a, pos: p }
+    let s = characters_at(text, at + 1, b'\'', old, buf, pos)?;
+    Some(SymbolRead::Text {
+        at: s.at,
+        pos: s.pos,
+    })
 }

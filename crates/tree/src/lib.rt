@@ -15,18 +15,12 @@ pub fn write_tree_with(quoted: bool, tape: &[u8], out: &mut [u8]) -> Answer
     ensures answer { outcome result ≡ written_with quoted tape.now (length out.old) }
     ensures buffer { out.new ≡ leaves_with quoted tape.now out.old }
 {
-    let c = tape::check::check_tape(tape);
-    if c.fault != 0 {
-        return tape::answer::refusal_of(c.fault);
-    }
-    if c.count != 1 {
-        return Answer::Unsuited;
-    }
-    if c.numbered {
-        return Answer::Unsuited;
-    }
-    // the one node is the marker
-    if tape[0] == 14 {
+    let c = match tape::check::check_tape(tape) {
+        Ok(c) => c,
+        Err(fault) => return Answer::from(fault),
+    };
+    // the last of them: the one node is the marker
+    if c.count != 1 || c.numbered || tape[0] == 14 {
         return Answer::Unsuited;
     }
     let end = tape.len() - 8;
@@ -50,18 +44,12 @@ pub fn tree_length_with(quoted: bool, tape: &[u8]) -> Answer
     ensures { outcome result ≡ tree_length_with quoted tape.now }
 {
     let mut sums = [0usize; 4];
-    let c = measure::walk::measure_tape(quoted, tape, &mut sums);
-    if c.fault != 0 {
-        return tape::answer::refusal_of(c.fault);
-    }
-    if c.count != 1 {
-        return Answer::Unsuited;
-    }
-    if c.numbered {
-        return Answer::Unsuited;
-    }
-    // the one node is the marker
-    if tape[0] == 14 {
+    let c = match measure::walk::measure_tape(quoted, tape, &mut sums) {
+        Ok(c) => c,
+        Err(fault) => return Answer::from(fault),
+    };
+    // the last of them: the one node is the marker
+    if c.count != 1 || c.numbered || tape[0] == 14 {
         return Answer::Unsuited;
     }
     Answer::Count(sums[0] + (sums[1] - sums[2]))

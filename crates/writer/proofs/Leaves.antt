@@ -18,7 +18,7 @@ use Rattle.tape.specs.Tape.{reading, kind, length_of, sym_of, name_of, decimal_o
 use Rattle.tape.specs.Steps.{meant_scalar, size_of, size_taken}
 use Rattle.tape.specs.Fine.{Bytes}
 use Rattle.tape.specs.declared.Frame.TheVariants.{Struct}
-use Rattle.tape.specs.declared.Place.TheVariants.{Bad as Nowhere, At}
+use Rattle.std.specs.Prelude.{Some, None}
 use Rattle.tape.specs.declared.Scalar.{Scalar as ScalarC}
 use Rattle.tape.specs.declared.Scalar.TheVariants as C
 use Rattle.tape.proofs.Numbers.{bytes_drop, bytes_take}
@@ -49,10 +49,10 @@ module _ (l : List ℕ) (z : sym_of l ≡ none → ⊥) where
     where
       go : Dec (5 + length_of l ≤ length l) → 5 + length_of l ≤ length l
       go (yes h) = h
-      go (no h) = absurd (z (sym-text l Nowhere k (sym (length_over l (omega arith)))))
+      go (no h) = absurd (z (sym-text l None k (sym (length_over l (omega arith)))))
 
   sym-is : kind l ≡ 6 → sym_of l ≡ some (Sym.text (take (length_of l) (drop 5 l)), 5 + length_of l)
-  sym-is k = sym-text l (At (length_of l)) k (sym (length_some l (sym-fits k)))
+  sym-is k = sym-text l (Some (length_of l)) k (sym (length_some l (sym-fits k)))
 
 -- ---- scalars
 
@@ -135,13 +135,13 @@ module _ (s : List ℕ) (at e : ℕ) (w : at ≤ e) (i : e ≤ length s) (z : 0 
     sized_leaf : (c : List ℕ → Scalar) → scalar_of l ≡ sized_of c l → LeafAt s at e (c (take n (drop 5 l))) (5 + n)
     unfolding sized_of
     sized_leaf c t =
-        let f : 5 + length_of l ≤ length l = long (5 + length_of l) (λ h. t ∙ ap (λ (o : Option (List ℕ × ℕ)). reading {B = Option (Scalar × ℕ)} o none (λ x m. some (c x, m))) (text_by l Nowhere (sym (length_over l h)))) in
+        let f : 5 + length_of l ≤ length l = long (5 + length_of l) (λ h. t ∙ ap (λ (o : Option (List ℕ × ℕ)). reading {B = Option (Scalar × ℕ)} o none (λ x m. some (c x, m))) (text_by l None (sym (length_over l h)))) in
         let len = part_length s at e i in
         let g = length-is (omega arith) in
         record {
           room = omega arith;
           read = t
-              ∙ ap (λ (o : Option (List ℕ × ℕ)). reading {B = Option (Scalar × ℕ)} o none (λ x m. some (c x, m))) (text_by l (At (length_of l)) (sym (length_some l f)))
+              ∙ ap (λ (o : Option (List ℕ × ℕ)). reading {B = Option (Scalar × ℕ)} o none (λ x m. some (c x, m))) (text_by l (Some (length_of l)) (sym (length_some l f)))
               ∙ ap (λ (m : ℕ). some (c (take m (drop 5 l)), 5 + m)) g;
         }
 

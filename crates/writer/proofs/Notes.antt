@@ -1,5 +1,5 @@
 -- The text of annotations and of heads. Assumes nothing.
-use Prim.Native.Nat.{ℕ, zero, suc, ◌+◌, ◌-◌, ◌<◌, ◌≤◌}
+use Prim.Native.Nat.{ℕ, zero, suc, ◌+◌, ◌-◌, ◌<◌, ◌≤◌, min}
 use mathlib.Core.Path.{◌≡◌, refl, sym, ap, ◌∙◌}
 use mathlib.Core.List.{List, [], ◌∷◌, ◌++◌, append-nil}
 use mathlib.Core.Bool.{Bool, true, false}
@@ -9,15 +9,14 @@ use lib.Dec.{leb, eqb}
 use lib.ListN.{length, get_or, drop}
 use Rattle.output.specs.Logic.{if, ascii}
 use Rattle.output.specs.Wrote.{Wrote, limit}
-use Rattle.output.proofs.Laws.{Progress, start, more as further, finish}
+use Rattle.output.proofs.Laws.{Progress, begin, more as further, finish}
 use Rattle.text_rules.specs.Text.{Sym}
 use Rattle.tape.specs.Bytes.{part}
 use Rattle.tape.specs.Tree.{Head, encode_notes}
 use Rattle.tape.specs.Tape.{reading, kind, sym_of, syms_of, name_of, notes_of, head_of}
 use Rattle.tape.specs.Steps.{place_of, head_at, size_taken}
 use Rattle.tape.specs.declared.Frame.{Frame}
-use Rattle.tape.specs.declared.Place.{Place}
-use Rattle.tape.specs.declared.Place.TheVariants.{At}
+use Rattle.std.specs.Prelude.{Option as OptionC, Some}
 use Rattle.tape.proofs.Parts.{part-drop, part-first}
 use Rattle.tape.proofs.Reading.{if_all, notes_sound, Long, long, sym_long}
 use Rattle.tape.proofs.CodeReading.{place_read, place-within, head_one, notes-none}
@@ -149,7 +148,7 @@ notes-nothing l ss =
     go none e = let y : ◌≡◌ {A = ℕ} 0 1 = cc in absurd (omega arith)
     go (some (ts, j)) e = let y : 2 + j ≡ 0 = (both e).1 in absurd (omega arith)
 
-module _ (quoted : Bool) (s : List ℕ) (at e v : ℕ) (z : place_of at (notes_of (part s at e)) ≡ At v) where
+module _ (quoted : Bool) (s : List ℕ) (at e v : ℕ) (z : place_of at (notes_of (part s at e)) ≡ Some v) where
   pub notes_absent : at ≡ v → notes_text quoted (notes_in (part s at e)) ≡ []
   unfolding notes_text
   notes_absent h =
@@ -160,8 +159,8 @@ module _ (quoted : Bool) (s : List ℕ) (at e v : ℕ) (z : place_of at (notes_o
   pub notes-room : at ≤ e → e ≤ length s → v ≤ e
   notes-room h i = (place-within encode_notes s at e v (notes_of (part s at e)) h i (notes_sound (part s at e)) z).1
 
-  pub notes-start : (at ≡ v → ⊥) → (b : List ℕ) (pos : ℕ) → pos ≤ limit → length b < limit → Noting quoted b b pos pos (notes_text quoted (notes_in (part s at e))) s (at + 2) e v
-  notes-start h b pos i j =
+  pub notes-start : (at ≡ v → ⊥) → (b : List ℕ) (pos p : ℕ) → p ≡ min pos limit → length b < limit → Noting quoted b b pos p (notes_text quoted (notes_in (part s at e))) s (at + 2) e v
+  notes-start h b pos p i j =
       let r = place_read [] at v (notes_of (part s at e)) z in
       let m = r.0 in
       let f = notes_listed (part s at e) (notes_in (part s at e)) (v - at) (omega arith) r.1 in
@@ -172,13 +171,13 @@ module _ (quoted : Bool) (s : List ℕ) (at e v : ℕ) (z : place_of at (notes_o
         notes = notes_in (part s at e);
         read = ap (syms_of (get_or (part s at e) 1 0)) (sym (part-drop s at e 2)) ∙ f.read ∙ ap (λ (i : ℕ). some (notes_in (part s at e), i)) y;
         before = omega arith;
-        progress = start b pos _ i j;
+        progress = begin b pos p _ i j;
       }
 
 -- ---- heads
 
 -- the annotations of a child are those in its head
-notes-head : (k : Frame) (s : List ℕ) (at e q : ℕ) (h : Head) (m : ℕ) → At q ≡ place_of at (name_of k (part s at e)) → head_of k (part s at e) ≡ some (h, m) → notes_in (part s q e) ≡ h.1
+notes-head : (k : Frame) (s : List ℕ) (at e q : ℕ) (h : Head) (m : ℕ) → Some q ≡ place_of at (name_of k (part s at e)) → head_of k (part s at e) ≡ some (h, m) → notes_in (part s q e) ≡ h.1
 unfolding head_of
 notes-head k s at e q h m z r = go (name_of k (part s at e)) z r
   where
@@ -186,7 +185,7 @@ notes-head k s at e q h m z r = go (name_of k (part s at e)) z r
     behind a n none r = let y : ◌≡◌ {A = ℕ} 0 1 = cc in absurd (omega arith)
     behind a n (some (ss, i)) r = ap (λ (o : Option (Head × ℕ)). reading o ss (λ g j. g.1)) r
 
-    go : (o : Option (Option Sym × ℕ)) → At q ≡ place_of at o
+    go : (o : Option (Option Sym × ℕ)) → Some q ≡ place_of at o
         → reading {B = Option (Head × ℕ)} o none (λ a n. reading (notes_of (drop n (part s at e))) none (λ ss i. some ((a, ss), n + i))) ≡ some (h, m) → notes_in (part s q e) ≡ h.1
     go none z r = let y : ◌≡◌ {A = ℕ} 0 1 = cc in absurd (omega arith)
     go (some (a, n)) z r =
@@ -194,7 +193,7 @@ notes-head k s at e q h m z r = go (name_of k (part s at e)) z r
         ap (λ (i : ℕ). notes_in (part s i e)) (sym y) ∙ ap notes_in (sym (part-drop s at e n)) ∙ behind a n (notes_of (drop n (part s at e))) r
 
 -- a head is written in three parts
-pub front_parts : (quoted : Bool) (y w : ℕ) (k : Frame) (s : List ℕ) (at e q v : ℕ) → place_of at (name_of k (part s at e)) ≡ At q → place_of at (head_of k (part s at e)) ≡ At v
+pub front_parts : (quoted : Bool) (y w : ℕ) (k : Frame) (s : List ℕ) (at e q v : ℕ) → place_of at (name_of k (part s at e)) ≡ Some q → place_of at (head_of k (part s at e)) ≡ Some v
     → front quoted y w (head_at k (part s at e)) ≡ blanks w ++ name_text quoted (name_in k (part s at e)) ++ if (eqb y 3) (notes_text quoted (notes_in (part s q e))) []
 unfolding front
 front_parts quoted y w k s at e q v n z =
@@ -214,10 +213,10 @@ module _ (k : Frame) (s : List ℕ) (at e : ℕ) (r : head_of k (part s at e) �
       go (some (a, n)) r = refl
 
   module _ (q : ℕ) (y : q ≡ at + size_taken (name_of k (part s at e))) where
-    pub name_placed : place_of at (name_of k (part s at e)) ≡ At q
-    name_placed = ap (place_of at) name_there ∙ ap At (sym y)
+    pub name_placed : place_of at (name_of k (part s at e)) ≡ Some q
+    name_placed = ap (place_of at) name_there ∙ ap Some (sym y)
 
-    pub notes_placed : place_of q (notes_of (part s q e)) ≡ At (at + size_taken (head_of k (part s at e)))
+    pub notes_placed : place_of q (notes_of (part s q e)) ≡ Some (at + size_taken (head_of k (part s at e)))
     notes_placed = sym (head_one k s at e q name_placed) ∙ ap (place_of at) r
 
     pub name-before : q ≤ at + size_taken (head_of k (part s at e))
@@ -229,7 +228,7 @@ module _ (k : Frame) (s : List ℕ) (at e : ℕ) (r : head_of k (part s at e) �
 
       pub bare_place : q ≡ at + size_taken (head_of k (part s at e))
       bare_place =
-          let z : ◌≡◌ {A = Place} (At (q + 0)) (At (at + size_taken (head_of k (part s at e)))) = sym (ap (place_of q) noteless) ∙ notes_placed in
+          let z : ◌≡◌ {A = OptionC ℕ} (Some (q + 0)) (Some (at + size_taken (head_of k (part s at e)))) = sym (ap (place_of q) noteless) ∙ notes_placed in
           let x : q + 0 ≡ at + size_taken (head_of k (part s at e)) = cc in
           omega arith
 

@@ -1,11 +1,10 @@
 // The text of values, and of the nodes of a body in a layout.
-ghost use Rattle.std.specs.Prelude.{◌≡◌, ◌++◌, ◌+◌, ◌-◌, ◌*◌, ◌<◌, ◌≤◌, length, get_or, take, drop, Bool, true, false, not, eqb, []};
+ghost use Rattle.std.specs.Prelude.{◌≡◌, ◌++◌, ◌+◌, ◌-◌, ◌*◌, ◌<◌, ◌≤◌, length, get_or, take, drop, Bool, true, false, not, eqb, [], Some};
 ghost use Rattle.output.specs.Wrote.{Wrote, limit};
 ghost use Rattle.tape.specs.Bytes.{part};
 ghost use Rattle.std.proofs.Math.Option.{some};
 ghost use Rattle.tape.specs.Tape.{reading, name_of, notes_of, head_of, scalar_of, walk};
 ghost use Rattle.tape.specs.Steps.{place_of, meant_scalar, size_of, head_at, size_taken, node_at, size_at, problem_at};
-ghost use Rattle.tape.specs.declared.Place.TheVariants.{At};
 ghost use Rattle.output.specs.Logic.{if, ascii};
 ghost use Rattle.writer.specs.Text.{scalar_text, name_text, notes_text, blanks, closing, indented, texts};
 ghost use Rattle.text_rules.specs.Text.{symbol_text, string_text, clob_text, blob_text};
@@ -15,7 +14,7 @@ ghost use Rattle.writer.specs.Steps.{Rare, name_in, notes_in, front, separating,
 use crate::whitespace_config;
 use crate::whitespace_config::Separator;
 use floats::float;
-use tape::{Frame, Place, Scalar, Scanned, Symbol};
+use tape::{Frame, Scalar, Symbol};
 use text_rules::text_formatter;
 
 // Where writing and reading stand: the next position of the buffer, and the next place of the tape.
@@ -38,7 +37,6 @@ fn write_symbol_text(
     end: usize,
     quoted: bool,
 ) -> usize
-    requires pos_le_limit { pos ≤ limit }
     requires n_bound { at + (5 + n) ≤ end }
     requires end_in_bounds { end ≤ length tape.now }
     ensures { Wrote buf.old buf.new pos result (symbol_text quoted (take n (drop 5 (part tape.now at end)))) }
@@ -50,7 +48,6 @@ fn write_symbol_text(
 }
 
 fn write_string(buf: &mut [u8], pos: usize, tape: &[u8], at: usize, n: usize, end: usize) -> usize
-    requires pos_le_limit { pos ≤ limit }
     requires n_bound { at + (5 + n) ≤ end }
     requires end_in_bounds { end ≤ length tape.now }
     ensures { Wrote buf.old buf.new pos result (string_text (take n (drop 5 (part tape.now at end)))) }
@@ -61,7 +58,6 @@ fn write_string(buf: &mut [u8], pos: usize, tape: &[u8], at: usize, n: usize, en
 }
 
 fn write_clob(buf: &mut [u8], pos: usize, tape: &[u8], at: usize, n: usize, end: usize) -> usize
-    requires pos_le_limit { pos ≤ limit }
     requires n_bound { at + (5 + n) ≤ end }
     requires end_in_bounds { end ≤ length tape.now }
     ensures { Wrote buf.old buf.new pos result (clob_text (take n (drop 5 (part tape.now at end)))) }
@@ -72,7 +68,6 @@ fn write_clob(buf: &mut [u8], pos: usize, tape: &[u8], at: usize, n: usize, end:
 }
 
 fn write_blob(buf: &mut [u8], pos: usize, tape: &[u8], at: usize, n: usize, end: usize) -> usize
-    requires pos_le_limit { pos ≤ limit }
     requires n_bound { at + (5 + n) ≤ end }
     requires end_in_bounds { end ≤ length tape.now }
     ensures { Wrote buf.old buf.new pos result (blob_text (take n (drop 5 (part tape.now at end)))) }
@@ -83,7 +78,6 @@ fn write_blob(buf: &mut [u8], pos: usize, tape: &[u8], at: usize, n: usize, end:
 // The scalar s, whose node stands at a place: a null, a bool, a float, an identifier, a clob, or a blob, for which `write_value` does not ask. `write_leaf` writes the
 // other kinds itself.
 fn write_scalar(buf: &mut [u8], pos: usize, tape: &[u8], at: usize, end: usize, s: Scalar) -> Step
-    requires pos_le_limit { pos ≤ limit }
     requires s_bound { at + size_of s ≤ end }
     requires end_in_bounds { end ≤ length tape.now }
     requires rare { Rare s }
@@ -123,7 +117,6 @@ fn write_scalar(buf: &mut [u8], pos: usize, tape: &[u8], at: usize, end: usize, 
 
 // What ends a name.
 fn write_colon(buf: &mut [u8], pos: usize) -> usize
-    requires { pos ≤ limit }
     ensures { Wrote buf.old buf.new pos result (ascii ": ") }
 {
     output::put_two(buf, pos, b':', b' ')
@@ -134,15 +127,7 @@ fn plain_at(tape: &[u8], from: usize, n: usize, quoted: bool) -> bool
     requires { from + 8 ≤ length tape.now }
     ensures { result ≡ true → Plain quoted tape.now from n }
 {
-    if quoted {
-        return false;
-    }
-    if 1 <= n {
-        if n <= 8 {
-            return text_rules::short_words::is_plain(output::word_at(tape, from), n);
-        }
-    }
-    false
+    !quoted && 1 <= n && n <= 8 && text_rules::short_words::is_plain(output::word_at(tape, from), n)
 }
 
 // The symbol at a place, which is text, and `: `.
@@ -154,7 +139,6 @@ fn write_text_name(
     end: usize,
     quoted: bool,
 ) -> Step
-    requires pos_le_limit { pos ≤ limit }
     requires at_le_end { at ≤ end }
     requires end_in_bounds { end + 8 ≤ length tape.now }
     requires end_value { name_of Struct (part tape.now at end) ≡ some (name_in Struct (part tape.now at end), size_taken (name_of Struct (part tape.now at end))) }
@@ -182,7 +166,6 @@ fn write_text_name(
 
 // The symbol at a place, and `: `.
 fn write_name(buf: &mut [u8], pos: usize, tape: &[u8], at: usize, end: usize, quoted: bool) -> Step
-    requires pos_le_limit { pos ≤ limit }
     requires at_le_end { at ≤ end }
     requires end_in_bounds { end + 8 ≤ length tape.now }
     requires end_value { name_of Struct (part tape.now at end) ≡ some (name_in Struct (part tape.now at end), size_taken (name_of Struct (part tape.now at end))) }
@@ -218,9 +201,7 @@ fn encode_field_name(
 {
     match frame {
         Frame::Struct => write_name(buf, pos, tape, at, end, quoted),
-        Frame::Top => Step { pos, at },
-        Frame::List => Step { pos, at },
-        Frame::Sexp => Step { pos, at },
+        Frame::Top | Frame::List | Frame::Sexp => Step { pos, at },
     }
 }
 
@@ -242,7 +223,6 @@ fn write_note(
     end: usize,
     quoted: bool,
 ) -> usize
-    requires pos_le_limit { pos ≤ limit }
     requires n_bound { at + (5 + n) ≤ end }
     requires end_in_bounds { end ≤ length tape.now }
     ensures { Wrote buf.old buf.new pos result (symbol_text quoted (take n (drop 5 (part tape.now at end))) ++ ascii "::") }
@@ -265,23 +245,22 @@ fn write_notes(
     value: usize,
     quoted: bool,
 ) -> usize
-    requires pos_le_limit { pos ≤ limit }
     requires at_le_end { at ≤ end }
     requires end_in_bounds { end ≤ length tape.now }
-    requires end_value { place_of at (notes_of (part tape.now at end)) ≡ At value }
+    requires end_value { place_of at (notes_of (part tape.now at end)) ≡ Some value }
     ensures { Wrote buf.old buf.new pos result (notes_text quoted (notes_in (part tape.now at end))) }
 {
     if at == value {
-        return pos;
+        return output::bounded(pos);
     }
-    let mut p = pos;
+    let mut p = output::bounded(pos);
     let mut from = at + 2;
+    // A walk: the step is the symbol's size.
     while from < value {
-        let s = tape::sym_at(tape, from, end);
+        let Some(s) = tape::sym_at(tape, from, end) else {
+            return p;
+        };
         match s {
-            Symbol::Bad => {
-                return p;
-            }
             Symbol::Text(n) => {
                 p = write_note(buf, p, tape, from, n, end, quoted);
                 from = from + (5 + n);
@@ -322,7 +301,7 @@ fn write_front(
     if tape[from] != 13 {
         return n;
     }
-    let Place::At(value) = tape::notes_end(tape, from, end) else {
+    let Some(value) = tape::notes_end(tape, from, end) else {
         return n;
     };
     if layout == 3 {
@@ -337,14 +316,13 @@ fn write_front(
 
 // What follows a child; `more`: another child follows it. In the tree text nothing follows the last.
 fn write_ending(buf: &mut [u8], pos: usize, layout: u32, s: Separator, more: bool) -> usize
-    requires { pos ≤ limit }
     ensures { Wrote buf.old buf.new pos result (if (if (eqb layout 3) (not more) false) [] (separating s)) }
 {
     if more {
         return whitespace_config::write_separator(buf, pos, s);
     }
     if layout == 3 {
-        return pos;
+        return output::bounded(pos);
     }
     whitespace_config::write_separator(buf, pos, s)
 }
@@ -358,7 +336,6 @@ fn write_symbol(
     end: usize,
     quoted: bool,
 ) -> Step
-    requires pos_le_limit { pos ≤ limit }
     requires at_le_end { at ≤ end }
     requires end_in_bounds { end + 8 ≤ length tape.now }
     requires nonzero { 0 < size_taken (scalar_of (part tape.now at end)) }
@@ -384,7 +361,6 @@ fn write_symbol(
 
 // The scalar at a place. The frequent kinds are written straight from the tape, the others through `Scalar`.
 fn write_leaf(buf: &mut [u8], pos: usize, tape: &[u8], at: usize, end: usize, quoted: bool) -> Step
-    requires pos_le_limit { pos ≤ limit }
     requires at_le_end { at ≤ end }
     requires end_in_bounds { end + 8 ≤ length tape.now }
     requires nonzero { 0 < size_taken (scalar_of (part tape.now at end)) }
@@ -423,15 +399,17 @@ fn write_leaf(buf: &mut [u8], pos: usize, tape: &[u8], at: usize, end: usize, qu
             at: at + (5 + n),
         };
     }
-    let Scanned::Is(s) = tape::scalar_at(tape, at, end) else {
-        return Step { pos, at };
+    let Some(s) = tape::scalar_at(tape, at, end) else {
+        return Step {
+            pos: output::bounded(pos),
+            at,
+        };
     };
     write_scalar(buf, pos, tape, at, end, s)
 }
 
 // The blob at a place. As a function of its own it leaves the walk's other kinds as quick as they were.
 fn write_blob_node(buf: &mut [u8], pos: usize, tape: &[u8], at: usize, end: usize) -> Step
-    requires pos_le_limit { pos ≤ limit }
     requires at_le_end { at ≤ end }
     requires end_in_bounds { end + 8 ≤ length tape.now }
     requires nonzero { 0 < size_taken (scalar_of (part tape.now at end)) }
@@ -449,7 +427,6 @@ fn write_blob_node(buf: &mut [u8], pos: usize, tape: &[u8], at: usize, end: usiz
 
 // The version marker. A literal is stored where its function starts, so it stays out of the walk.
 fn write_marker(buf: &mut [u8], pos: usize) -> usize
-    requires { pos ≤ limit }
     ensures { Wrote buf.old buf.new pos result (ascii "$ion_1_0") }
 {
     output::put_bytes(buf, pos, b"$ion_1_0")
@@ -457,7 +434,6 @@ fn write_marker(buf: &mut [u8], pos: usize) -> usize
 
 // What follows the last child of a container.
 fn write_close(buf: &mut [u8], pos: usize, width: usize, frame: Frame) -> usize
-    requires { pos ≤ limit }
     ensures { Wrote buf.old buf.new pos result (blanks width ++ closing frame) }
 {
     if width == 0 {
@@ -484,7 +460,6 @@ fn write_container(
 ) -> Step
     requires at_le_end { at ≤ end }
     requires end_in_bounds { end + 8 ≤ length tape.now }
-    requires pos_le_limit { pos ≤ limit }
     requires width_bound { 2 * depth + width ≤ 256 }
     requires end_value { problem_at depth (part tape.now at end) ≡ 0 }
     requires bound { (10 ≤ get_or tape.now at 0) × (get_or tape.now at 0 ≡ 14 → ⊥) × (get_or tape.now at 0 ≡ 15 → ⊥) }
@@ -518,7 +493,6 @@ fn write_value(
 ) -> Step
     requires at_le_end { at ≤ end }
     requires end_in_bounds { end + 8 ≤ length tape.now }
-    requires pos_le_limit { pos ≤ limit }
     requires width_bound { 2 * depth + width ≤ 256 }
     requires end_value { problem_at depth (part tape.now at end) ≡ 0 }
     ensures text { Wrote buf.old buf.new pos result.pos (item quoted layout width (node_at depth (part tape.now at end))) }
@@ -568,6 +542,7 @@ pub fn write_nodes(
     let s = whitespace_config::separator_of(layout, frame);
     let mut at = from;
     let mut p = pos;
+    // A walk: the step is the node's size.
     while at < end {
         let f = write_front(buf, p, tape, at, end, frame, layout, width, quoted);
         let v = write_value(

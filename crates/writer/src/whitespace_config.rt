@@ -53,7 +53,6 @@ pub fn separator_of(layout: u32, frame: Frame) -> Separator
 }
 
 pub fn write_separator(buf: &mut [u8], pos: usize, s: Separator) -> usize
-    requires { pos ≤ limit }
     ensures { Wrote buf.old buf.new pos result (separating s) }
 {
     if s.pair {
@@ -84,11 +83,10 @@ pub fn indentation(layout: u32, width: usize) -> usize
 
 // An opening bracket. The top level has none.
 pub fn write_opening(buf: &mut [u8], pos: usize, frame: Frame) -> usize
-    requires { pos ≤ limit }
     ensures { Wrote buf.old buf.new pos result (opening frame) }
 {
     match frame {
-        Frame::Top => pos,
+        Frame::Top => output::bounded(pos),
         Frame::List => output::put(buf, pos, b'['),
         Frame::Sexp => output::put(buf, pos, b'('),
         Frame::Struct => output::put(buf, pos, b'{'),
@@ -97,7 +95,6 @@ pub fn write_opening(buf: &mut [u8], pos: usize, frame: Frame) -> usize
 
 // An opening bracket, and the line's end behind it in Pretty.
 pub fn write_start(buf: &mut [u8], pos: usize, layout: u32, frame: Frame) -> usize
-    requires { pos ≤ limit }
     ensures { Wrote buf.old buf.new pos result (opening frame ++ broken layout) }
 {
     let p = write_opening(buf, pos, frame);
@@ -107,13 +104,12 @@ pub fn write_start(buf: &mut [u8], pos: usize, layout: u32, frame: Frame) -> usi
     p
 }
 
-// A closing bracket.
+// A closing bracket. Not one with `write_opening`: the brackets are others, and so is the definition.
 pub fn write_end(buf: &mut [u8], pos: usize, frame: Frame) -> usize
-    requires { pos ≤ limit }
     ensures { Wrote buf.old buf.new pos result (closing frame) }
 {
     match frame {
-        Frame::Top => pos,
+        Frame::Top => output::bounded(pos),
         Frame::List => output::put(buf, pos, b']'),
         Frame::Sexp => output::put(buf, pos, b')'),
         Frame::Struct => output::put(buf, pos, b'}'),

@@ -16,10 +16,10 @@ pub fn write_stream_with(quoted: bool, layout: u32, tape: &[u8], out: &mut [u8])
     if 2 < layout {
         return Answer::NoLayout;
     }
-    let c = tape::check::check_tape(tape);
-    if c.fault != 0 {
-        return tape::answer::refusal_of(c.fault);
-    }
+    let c = match tape::check::check_tape(tape) {
+        Ok(c) => c,
+        Err(fault) => return Answer::from(fault),
+    };
     if c.noted {
         return Answer::Unsuited;
     }

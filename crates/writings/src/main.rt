@@ -3,74 +3,43 @@
 // before the call. The frames and what they must give are the table of tests/writings.py.
 #![tactic(auto)]
 
-ghost use Rattle.std.specs.Prelude.{◌≤◌};
-ghost use Rattle.output.specs.Wrote.{limit};
-
+use program_io::{Hex, Refused};
 use std::io;
 use tape::answer::Answer;
 
 fn write(layout: u8, tape: &[u8], out: &mut [u8]) -> Answer {
-    if layout == b't' {
-        return tree::write_tree(tape, out);
-    }
-    writer::writer::write_stream(layout as u32, tape, out)
-}
-
-// The count, or the refusal.
-fn put_count(line: &mut [u8], a: Answer) -> usize
-    ensures { result ≤ limit }
-{
-    match a {
-        Answer::Count(n) => text_rules::digits::put_digits(line, 0, n as u64),
-        _ => program_io::put_refusal(line, 0, tape::answer::number(a)),
+    match layout {
+        b't' => tree::write_tree(tape, out),
+        _ => writer::writer::write_stream(u32::from(layout), tape, out),
     }
 }
 
 fn show(rt: &impl Print, layout: u8, tape: &[u8], out: &mut [u8]) -> io::Result<()> {
-    let mut line = [0u8; 8224];
-    let a = write(layout, tape, out);
-    let p = put_count(&mut line, a);
-    let q = output::put(&mut line, p, b' ');
-    let r = program_io::put_hex(&mut line, q, out);
-    let e = output::put(&mut line, r, b'\n');
-    program_io::print(rt, &line, e)?;
-    Ok(())
+    match write(layout, tape, out) {
+        Answer::Count(n) => print!(rt; "{n}")?,
+        refused => print!(rt; "{}", Refused(tape::answer::number(refused)))?,
+    }
+    println!(rt; " {}", Hex(out))
 }
 
 // Whether a frame asks for a buffer that it can have.
-fn frame(rt: &impl Print, frame: &[u8]) -> io::Result<bool> {
+fn show_frame(rt: &impl Print, frame: &[u8]) -> io::Result<bool> {
     let mut out = [b'#'; 4096];
-    if frame.len() < 9 {
+    let Some((head, tape)) = frame.split_at_checked(9) else {
         return Ok(false);
-    }
-    let room = tape::u32_at(frame, 1) as usize;
-    if 4096 < room {
+    };
+    let room = tape::u32_at(head, 1) as usize;
+    let Some(out) = out.get_mut(..room) else {
         return Ok(false);
-    }
-    show(rt, frame[0], &frame[9..], &mut out[0..room])?;
-    Ok(true)
-}
-
-// Whether all of the input is frames. Stops before the first that is malformed.
-fn all(rt: &impl Print, input: &[u8]) -> io::Result<bool> {
-    let mut at: usize = 0;
-    while at < input.len() {
-        let end = program_io::frame_end(input, at, 9);
-        if end == at {
-            return Ok(false);
-        }
-        if !frame(rt, &input[at..end])? {
-            return Ok(false);
-        }
-        at = end;
-    }
+    };
+    show(rt, head[0], tape, out)?;
     Ok(true)
 }
 
 fn main(rt: HostRuntime) -> io::Result<()> {
     let mut input = [0u8; 65536];
     let n = program_io::read_full(&mut rt.stdin(), &mut input)?;
-    if !all(&rt, &input[0..n])? {
+    if !program_io::all_frames(&input[..n], 9, |frame| show_frame(&rt, frame))? {
         println!(rt; "malformed input")?;
     }
     Ok(())

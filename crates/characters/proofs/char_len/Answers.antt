@@ -5,6 +5,3 @@ use Rattle.characters.proofs.char_len.Goals as goal
 
 pub returns-then-a-lt128 : goal.returns-then-a-lt128
 returns-then-a-lt128 c = sym (ascii _ _ _ _ c.if-a-lt128.true)
-
-pub returns : goal.returns
-returns c = simp (c.char_of.ensures, c.byte-d.ensures, c.byte-c.ensures, c.byte-b.ensures)

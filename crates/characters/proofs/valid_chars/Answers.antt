@@ -12,9 +12,6 @@ pub loop-i-init : goal.loop-i-init
 unfolding valid
 loop-i-init c = (c.requires, refl)
 
-pub char_len-n-requires : goal.char_len-n-requires
-char_len-n-requires c = omega arith
-
 pub returns-then-n-eq0 : goal.returns-then-n-eq0
 returns-then-n-eq0 c =
     let s = c.args.s.now in
@@ -28,9 +25,6 @@ next c =
 
 pub overflow_add-i : goal.overflow_add-i
 overflow_add-i c = omega (arith, next c)
-
-pub loop-i-smaller : goal.loop-i-smaller
-loop-i-smaller c = omega (arith, next c)
 
 pub loop-i-preserved : goal.loop-i-preserved
 loop-i-preserved c =

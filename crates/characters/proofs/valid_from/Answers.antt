@@ -8,6 +8,3 @@ returns-then-word_at-eq0 c =
     let i = c.ascii_words-i in
     let w = c.word_at in
     sym (i.ensures.1 ∙ last_word _ i.result w.result c.requires.1 c.if-n-i.true w.type_inv w.ensures c.if-word_at-eq0.true)
-
-pub returns : goal.returns
-returns c = c.valid_chars.ensures ∙ sym c.ascii_words-i.ensures.1

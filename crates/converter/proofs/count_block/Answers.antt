@@ -4,5 +4,5 @@ use native.Mathlib.Omega.{arith}
 use lib.ListN.{length}
 use Rattle.converter.proofs.count_block.Goals as goal
 
-pub returns-then-any_replaced-eq0 : goal.returns-then-any_replaced-eq0
-returns-then-any_replaced-eq0 c = omega (arith, ap length (c.any_replaced.ensures c.if-any_replaced-eq0.true))
+pub returns-else-any_replaced : goal.returns-else-any_replaced
+returns-else-any_replaced c = omega (arith, ap length (c.any_replaced.ensures c.if-any_replaced.false))

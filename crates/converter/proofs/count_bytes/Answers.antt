@@ -10,20 +10,20 @@ use Rattle.converter.proofs.Steps.{byte_step}
 use Rattle.converter.proofs.Texts.{converted-nothing}
 use Rattle.converter.proofs.count_bytes.Goals as goal
 
-pub loop-i-init : goal.loop-i-init
-loop-i-init c = (omega arith, omega arith, omega arith)
+pub loop-b-init : goal.loop-b-init
+loop-b-init c = (omega arith, omega arith, omega arith)
 
-pub loop-i-preserved : goal.loop-i-preserved
-loop-i-preserved c =
-    let l = c.loop-i in
+pub loop-b-preserved : goal.loop-b-preserved
+loop-b-preserved c =
+    let l = c.loop-b in
     let s : List ℕ = c.args.s.now in
-    let e = ap length (byte_step s l.i c.loop-i-test.true) in
-    let p = length-append (replacement (get_or s l.i 0)) (converted (drop (l.i + 1) s)) in
+    let e = ap length (byte_step s l.b-index c.loop-b-test.true) in
+    let p = length-append (replacement (get_or s l.b-index 0)) (converted (drop (l.b-index + 1) s)) in
     (omega arith, omega (arith, c.count_byte-c.ensures.1), omega (arith, e, p, c.count_byte-c.ensures.0, l.invariant.2))
 
 pub returns : goal.returns
 returns c =
-    let l = c.loop-i in
+    let l = c.loop-b in
     let s : List ℕ = c.args.s.now in
-    let e : drop l.i s ≡ [] = drop_of_length-le s {i = l.i} (omega arith) in
+    let e : drop l.b-index s ≡ [] = drop_of_length-le s {i = l.b-index} (omega arith) in
     omega (arith, rw (e, converted-nothing) at l.invariant.2, l.invariant.0)

@@ -1,16 +1,17 @@
 -- `converter::is_old` meets its contract. Assumes nothing.
-use Rattle.tokens.specs.Quoted.{raw_rule}
+use Rattle.std.proofs.Common.{◌≡◌, ℕ, List, [], ◌∷◌, Option, Some, None, ◌∙◌}
+use Rattle.std.specs.Prelude.{is_some}
+use Rattle.tokens.specs.Quoted.{old_raw, raw_rule}
+use Rattle.reader.specs.Steps.{ReadTape}
+use Rattle.reader.specs.declared.Made.{Made}
 use Rattle.converter.specs.Outcome.{is_old}
 use Rattle.converter.proofs.is_old.Goals as goal
 
-pub returns-in_default : goal.returns-in_default
-unfolding is_old raw_rule
-returns-in_default c =
-    let e = rw c.in_default.is at c.write_tape.ensures in
-    rw e.0
+told : (t b b' : List ℕ) (r : Option Made) → ReadTape old_raw t b b' r → is_some r ≡ is_old t
+unfolding is_old
+told t b b' (Some m) h = rw h.1
+told t b b' None h = rw h.0
 
 pub returns : goal.returns
-unfolding is_old raw_rule
-returns c =
-    let e = rw c.in-Length.is at c.write_tape.ensures in
-    rw e.1
+unfolding raw_rule
+returns c = c.is_some.ensures ∙ told c.args.text.now (0 ∷ []) c.write_tape.new.buf c.write_tape.result c.write_tape.ensures

@@ -4,17 +4,14 @@ use mathlib.Core.Path.{◌≡◌}
 use mathlib.Core.List.{List, []}
 use native.Mathlib.Omega.{arith}
 use lib.ListN.{drop, drop_of_length-le}
-use Rattle.output.proofs.Laws.{start, more, finish, wrote-length, wrote-bound}
+use Rattle.output.proofs.Laws.{begin, more, finish, wrote-length}
 use Rattle.converter.proofs.Steps.{block_step}
 use Rattle.converter.proofs.Texts.{converted-nothing}
 use borrow.Author.Rules.{rules}
 use Rattle.converter.proofs.put_converted.Goals as goal
 
 pub loop-i-init : goal.loop-i-init
-loop-i-init c = (omega arith, start _ _ _ (search rules) (search rules))
-
-pub put_converted_block-p-requires : goal.put_converted_block-p-requires
-put_converted_block-p-requires c = wrote-bound c.loop-i.invariant.1.wrote
+loop-i-init c = (omega arith, begin _ _ _ _ c.bounded-p.ensures (search rules))
 
 pub loop-i-smaller : goal.loop-i-smaller
 loop-i-smaller c = let k = c.block_end-e.ensures in omega (arith, k.0, k.1)

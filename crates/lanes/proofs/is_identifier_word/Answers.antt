@@ -4,14 +4,6 @@ use Rattle.lanes.specs.Lanes.{rep}
 use Rattle.lanes.proofs.LaneLaws.{lane_self, lane_and, lane_or, lane_not, lane_lt, low_add, other_add, unmarked}
 use Rattle.lanes.proofs.is_identifier_word.Goals as goal
 
-pub overflow_add-m : goal.overflow_add-m
-unfolding rep
-overflow_add-m c = record { fits = lane_lt (low_add 0x50 c.args.x (omega arith) c.ranges.x.fits) }
-
-pub overflow_add-m-2 : goal.overflow_add-m-2
-unfolding rep
-overflow_add-m-2 c = record { fits = lane_lt (low_add 0x46 c.args.x (omega arith) c.ranges.x.fits) }
-
 pub overflow_add-m-3 : goal.overflow_add-m-3
 unfolding rep
 overflow_add-m-3 c = record { fits = lane_lt (other_add 0x24 c.args.x (omega arith) c.ranges.x.fits) }

@@ -4,10 +4,6 @@ use Rattle.lanes.specs.Lanes.{rep}
 use Rattle.lanes.proofs.LaneLaws.{lane_self, lane_and, lane_or, lane_not, lane_lt, low_add, other_add}
 use Rattle.lanes.proofs.not_raw.Goals as goal
 
-pub overflow_add-r : goal.overflow_add-r
-unfolding rep
-overflow_add-r c = record { fits = lane_lt (low_add 0x60 c.args.x (omega arith) c.ranges.x.fits) }
-
 pub overflow_add-r-2 : goal.overflow_add-r-2
 unfolding rep
 overflow_add-r-2 c = record { fits = lane_lt (other_add 0x22 c.args.x (omega arith) c.ranges.x.fits) }

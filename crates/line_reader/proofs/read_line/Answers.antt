@@ -40,27 +40,27 @@ returns-in_default c =
     let e = rw c.in_default.is at w.ensures in
     λ at. book-none t at b f _ (c.zero-in_default.ensures ∙ ap (λ (n : ℕ). replicate n 0) (length_front b w.new.buf l.result w.auto.buf)) e.0
 
-pub returns-then-count-ne1 : goal.returns-then-count-ne1
+pub returns-then-made-ne1 : goal.returns-then-made-ne1
 unfolding raw_rule
-returns-then-count-ne1 c =
+returns-then-made-ne1 c =
     let b : List ℕ = c.args.out.now in
     let t : List ℕ = c.args.line.now in
     let l = c.limit_of-limit in
     let w = c.write_tape in
     let f : ends_in_lf t ≡ true = sym c.ends_in_lf.ensures ∙ c.if-not-ends_in_lf.false in
-    let e = rw c.in-Length.is at w.ensures in
-    λ at. book_several t at b f e.0 e.1 _ (c.zero-then-count-ne1.ensures ∙ ap (λ (n : ℕ). replicate n 0) (length_front b w.new.buf l.result w.auto.buf)) (λ s. c.if-count-ne1.true (e.2 ∙ s))
+    let e = rw c.in-Some.is at w.ensures in
+    λ at. book_several t at b f e.0 e.1 _ (c.zero-then-made-ne1.ensures ∙ ap (λ (n : ℕ). replicate n 0) (length_front b w.new.buf l.result w.auto.buf)) (λ s. c.if-made-ne1.true (e.2 ∙ s))
 
-pub returns-then-limit-n : goal.returns-then-limit-n
+pub returns-then-limit-made : goal.returns-then-limit-made
 unfolding raw_rule
-returns-then-limit-n c =
+returns-then-limit-made c =
     let b : List ℕ = c.args.out.now in
     let t : List ℕ = c.args.line.now in
     let l = c.limit_of-limit in
     let w = c.write_tape in
     let f : ends_in_lf t ≡ true = sym c.ends_in_lf.ensures ∙ c.if-not-ends_in_lf.false in
-    let e = rw c.in-Length.is at w.ensures in
-    λ at. book_long t at b f e.0 e.1 (sym e.2 ∙ c.if-count-ne1.false) l.result _ _ l.ensures e.3 _ (c.zero-then-limit-n.ensures ∙ ap (λ (n : ℕ). replicate n 0) (length_front b w.new.buf l.result w.auto.buf)) c.if-limit-n.true
+    let e = rw c.in-Some.is at w.ensures in
+    λ at. book_long t at b f e.0 e.1 (sym e.2 ∙ c.if-made-ne1.false) l.result _ _ l.ensures e.3 _ (c.zero-then-limit-made.ensures ∙ ap (λ (n : ℕ). replicate n 0) (length_front b w.new.buf l.result w.auto.buf)) c.if-limit-made.true
 
 pub returns : goal.returns
 unfolding raw_rule
@@ -70,5 +70,5 @@ returns c =
     let l = c.limit_of-limit in
     let w = c.write_tape in
     let f : ends_in_lf t ≡ true = sym c.ends_in_lf.ensures ∙ c.if-not-ends_in_lf.false in
-    let e = rw c.in-Length.is at w.ensures in
-    λ at. book-laid t at b f e.0 e.1 (sym e.2 ∙ c.if-count-ne1.false) l.result _ _ l.ensures e.3 c.if-limit-n.false
+    let e = rw c.in-Some.is at w.ensures in
+    λ at. book-laid t at b f e.0 e.1 (sym e.2 ∙ c.if-made-ne1.false) l.result _ _ l.ensures e.3 c.if-limit-made.false

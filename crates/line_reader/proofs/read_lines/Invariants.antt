@@ -1,5 +1,5 @@
 -- The invariant: the calls so far were made, each from what the last one left. Assumes nothing.
-use Rattle.std.proofs.Common.{◌≡◌, ◌-◌, length}
+use Rattle.std.proofs.Common.{◌≡◌}
 use Rattle.line_reader.proofs.RunLaws.{Upto, stored}
 use Rattle.line_reader.proofs.read_lines.Given as goal
 
@@ -11,6 +11,3 @@ invariant-loop-i l =
     × (u.buf ≡ l.out)
     × (stored l.text l.initial.out l.initial.calls u ≡ l.calls)
     × (l.s.text.now ≡ l.text)
-
-abbrev pub decreases-loop-i : goal.decreases-loop-i
-decreases-loop-i l = length l.initial.calls - l.i

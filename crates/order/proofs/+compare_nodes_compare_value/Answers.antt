@@ -1,57 +1,20 @@
 -- `compare_nodes` and `compare_value` meet their contracts. Assumes nothing.
 use mathlib.Core.Path.{◌≡◌, refl, sym, ap, ◌∙◌}
 use native.Mathlib.Omega.{arith}
-use lib.ListN.{get_or, take, drop}
-use Rattle.tape.specs.Bytes.{part}
-use Rattle.tape.specs.Tape.{walk}
+use Rattle.std.proofs.lemmas.Map.Lookups.{exact_unsigned}
+use Rattle.order.proofs.CodeLaws.{equal_of}
+use lib.ListN.{get_or}
 use Rattle.tape.specs.Fine.{Bytes}
 use Rattle.tape.specs.CheckSteps.{frame_of}
-use Rattle.order.specs.Order.{nodes}
-use Rattle.order.specs.Steps.{code, Body}
-use Rattle.order.proofs.ValueLaws.{value-place, scalar-at, header_room, container_at, value_less, value_greater, value-scalar, value_marker, value_container, child_here, value_found, nodes_longer, nodes_shorter, nodes_ended, front_decides, value_decides, both_pass, no_depth}
+use Rattle.order.proofs.ValueLaws.{value-place, scalar-at, header_room, container_at, value_kind, value-scalar, value_marker, value_container, child_here, value_found, nodes_longer, nodes_shorter, nodes_ended, front_decides, value_decides, both_pass, no_depth}
 use Rattle.order.proofs.SharedLaws.{shared_on}
 use Rattle.tape.proofs.Turning.{OfScalar}
-use Prim.Native.Nat.{ℕ, ◌+◌, ◌*◌, ◌-◌, ◌<◌, ◌≤◌}
+use Prim.Native.Nat.{◌≤◌}
 use Rattle.order.proofs.+compare_nodes_compare_value.Goals as goal
 
 pub compare_nodes-returns-then-depth-eq0 : goal.compare_nodes-returns-then-depth-eq0
 compare_nodes-returns-then-depth-eq0 t c =
     absurd (no_depth c.args.depth c.args.frame _ c.if-depth-eq0.true c.requires.body.fine)
-
-pub compare_nodes-pass_known-x-requires : goal.compare_nodes-pass_known-x-requires
-compare_nodes-pass_known-x-requires t c =
-    let p = c.requires in
-    record { body = p.body; known_bound = p.shared.left }
-
-pub compare_nodes-overflow_sub-y : goal.compare_nodes-overflow_sub-y
-compare_nodes-overflow_sub-y t c =
-    let w = c.pass_known-x.ensures in
-    let l = w.least in
-    let m = w.most in
-    omega arith
-
-pub compare_nodes-overflow_add-y : goal.compare_nodes-overflow_add-y
-compare_nodes-overflow_add-y t c =
-    let w = c.pass_known-x.ensures in
-    let l = w.least in
-    let m = w.most in
-    let z = c.requires.shared.right in
-    let r = c.requires.body_2.room in
-    omega arith
-
-pub compare_nodes-overflow_sub-n : goal.compare_nodes-overflow_sub-n
-compare_nodes-overflow_sub-n t c =
-    let w = c.pass_known-x.ensures in
-    let l = w.least in
-    let m = w.most in
-    omega arith
-
-pub compare_nodes-overflow_sub-n-2 : goal.compare_nodes-overflow_sub-n-2
-compare_nodes-overflow_sub-n-2 t c =
-    let w = c.pass_known-x.ensures in
-    let l = w.least in
-    let m = w.most in
-    omega arith
 
 pub compare_nodes-loop-x-init : goal.compare_nodes-loop-x-init
 compare_nodes-loop-x-init t c =
@@ -67,7 +30,7 @@ compare_nodes-returns-then-eb-y t c =
     let a = c.args in
     let l = c.loop-x in
     let v = l.invariant in
-    sym (ap code (v.2 ∙ nodes_longer a.depth a.frame a.a.now a.b.now l.x a.ea l.y a.eb c.if-depth-eq0.false v.0 v.1 c.loop-x-test.true c.if-eb-y.true))
+    sym ((v.2 ∙ nodes_longer a.depth a.frame a.a.now a.b.now l.x a.ea l.y a.eb c.if-depth-eq0.false v.0 v.1 c.loop-x-test.true c.if-eb-y.true))
 
 pub compare_nodes-compare_fronts-f-requires : goal.compare_nodes-compare_fronts-f-requires
 compare_nodes-compare_fronts-f-requires t c =
@@ -76,16 +39,12 @@ compare_nodes-compare_fronts-f-requires t c =
     let v = l.invariant in
     record { headed = (child_here a.depth a.frame a.a.now l.x a.ea c.if-depth-eq0.false c.loop-x-test.true v.0).headed; headed_2 = (child_here a.depth a.frame a.b.now l.y a.eb c.if-depth-eq0.false (omega (arith, c.if-eb-y.false)) v.1).headed }
 
-pub compare_nodes-returns-then-o-ne1 : goal.compare_nodes-returns-then-o-ne1
-compare_nodes-returns-then-o-ne1 t c =
+pub compare_nodes-returns-then-is_ne : goal.compare_nodes-returns-then-is_ne
+compare_nodes-returns-then-is_ne t c =
     let a = c.args in
     let l = c.loop-x in
     let v = l.invariant in
-    front_decides a.depth a.frame a.a.now a.b.now l.x a.ea l.y a.eb c.if-depth-eq0.false v.0 v.1 c.loop-x-test.true (omega (arith, c.if-eb-y.false)) c.compare_fronts-f.ensures.order c.if-o-ne1.true ∙ sym (ap code v.2)
-
-pub compare_nodes-overflow_sub-depth : goal.compare_nodes-overflow_sub-depth
-compare_nodes-overflow_sub-depth t c =
-    omega (arith, c.if-depth-eq0.false)
+    front_decides a.depth a.frame a.a.now a.b.now l.x a.ea l.y a.eb c.if-depth-eq0.false v.0 v.1 c.loop-x-test.true (omega (arith, c.if-eb-y.false)) c.compare_fronts-f.ensures.order (sym c.is_ne.ensures ∙ c.if-is_ne.true) ∙ sym (v.2)
 
 pub compare_nodes-compare_value-v-requires : goal.compare_nodes-compare_value-v-requires
 compare_nodes-compare_value-v-requires t c =
@@ -93,26 +52,26 @@ compare_nodes-compare_value-v-requires t c =
     let l = c.loop-x in
     let v = l.invariant in
     let nz = c.if-depth-eq0.false in
-    let pl = c.compare_fronts-f.ensures.places c.if-o-ne1.false in
+    let pl = c.compare_fronts-f.ensures.places (equal_of _ (sym c.is_ne.ensures ∙ c.if-is_ne.false)) in
     let f = value_found a.depth a.frame a.a.now l.x a.ea nz c.loop-x-test.true v.0 pl.0 in
     let g = value_found a.depth a.frame a.b.now l.y a.eb nz (omega (arith, c.if-eb-y.false)) v.1 pl.1 in
     let m = c.decreases in
     (omega arith, (f.value, (g.value, (f.forth, (g.forth, v.3)))))
 
-pub compare_nodes-returns-then-v-ne1 : goal.compare_nodes-returns-then-v-ne1
-compare_nodes-returns-then-v-ne1 t c =
+pub compare_nodes-returns-then-is_ne-2 : goal.compare_nodes-returns-then-is_ne-2
+compare_nodes-returns-then-is_ne-2 t c =
     let a = c.args in
     let l = c.loop-x in
     let v = l.invariant in
-    let pl = c.compare_fronts-f.ensures.places c.if-o-ne1.false in
-    value_decides a.depth a.frame a.a.now a.b.now l.x a.ea l.y a.eb c.if-depth-eq0.false v.0 v.1 c.loop-x-test.true (omega (arith, c.if-eb-y.false)) c.compare_fronts-f.ensures.order c.if-o-ne1.false pl.0 pl.1 c.compare_value-v.ensures c.if-v-ne1.true ∙ sym (ap code v.2)
+    let pl = c.compare_fronts-f.ensures.places (equal_of _ (sym c.is_ne.ensures ∙ c.if-is_ne.false)) in
+    value_decides a.depth a.frame a.a.now a.b.now l.x a.ea l.y a.eb c.if-depth-eq0.false v.0 v.1 c.loop-x-test.true (omega (arith, c.if-eb-y.false)) c.compare_fronts-f.ensures.order (sym c.is_ne.ensures ∙ c.if-is_ne.false) pl.0 pl.1 c.compare_value-v.ensures (sym c.is_ne-in-loop-x.ensures ∙ c.if-is_ne-2.true) ∙ sym (v.2)
 
 pub compare_nodes-value_size-requires : goal.compare_nodes-value_size-requires
 compare_nodes-value_size-requires t c =
     let a = c.args in
     let l = c.loop-x in
     let v = l.invariant in
-    let pl = c.compare_fronts-f.ensures.places c.if-o-ne1.false in
+    let pl = c.compare_fronts-f.ensures.places (equal_of _ (sym c.is_ne.ensures ∙ c.if-is_ne.false)) in
     let f = value_found a.depth a.frame a.a.now l.x a.ea c.if-depth-eq0.false c.loop-x-test.true v.0 pl.0 in
     record { at_le_end = f.value.within; end_in_bounds = f.value.room; nonzero = f.sized }
 
@@ -121,7 +80,7 @@ compare_nodes-overflow_add-x t c =
     let a = c.args in
     let l = c.loop-x in
     let v = l.invariant in
-    let pl = c.compare_fronts-f.ensures.places c.if-o-ne1.false in
+    let pl = c.compare_fronts-f.ensures.places (equal_of _ (sym c.is_ne.ensures ∙ c.if-is_ne.false)) in
     let f = value_found a.depth a.frame a.a.now l.x a.ea c.if-depth-eq0.false c.loop-x-test.true v.0 pl.0 in
     let z = c.value_size.ensures in
     let w = f.behind in
@@ -135,7 +94,7 @@ compare_nodes-value_size-requires-in-loop-x t c =
     let a = c.args in
     let l = c.loop-x in
     let v = l.invariant in
-    let pl = c.compare_fronts-f.ensures.places c.if-o-ne1.false in
+    let pl = c.compare_fronts-f.ensures.places (equal_of _ (sym c.is_ne.ensures ∙ c.if-is_ne.false)) in
     let f = value_found a.depth a.frame a.b.now l.y a.eb c.if-depth-eq0.false (omega (arith, c.if-eb-y.false)) v.1 pl.1 in
     record { at_le_end = f.value.within; end_in_bounds = f.value.room; nonzero = f.sized }
 
@@ -144,7 +103,7 @@ compare_nodes-overflow_add-y-in-loop-x t c =
     let a = c.args in
     let l = c.loop-x in
     let v = l.invariant in
-    let pl = c.compare_fronts-f.ensures.places c.if-o-ne1.false in
+    let pl = c.compare_fronts-f.ensures.places (equal_of _ (sym c.is_ne.ensures ∙ c.if-is_ne.false)) in
     let f = value_found a.depth a.frame a.b.now l.y a.eb c.if-depth-eq0.false (omega (arith, c.if-eb-y.false)) v.1 pl.1 in
     let z = c.value_size-in-loop-x.ensures in
     let w = f.behind in
@@ -156,7 +115,7 @@ compare_nodes-loop-x-smaller t c =
     let a = c.args in
     let l = c.loop-x in
     let v = l.invariant in
-    let pl = c.compare_fronts-f.ensures.places c.if-o-ne1.false in
+    let pl = c.compare_fronts-f.ensures.places (equal_of _ (sym c.is_ne.ensures ∙ c.if-is_ne.false)) in
     let f = value_found a.depth a.frame a.a.now l.x a.ea c.if-depth-eq0.false c.loop-x-test.true v.0 pl.0 in
     let z = c.value_size.ensures in
     let w = f.behind in
@@ -172,10 +131,10 @@ compare_nodes-loop-x-preserved t c =
     let v = l.invariant in
     let nz = c.if-depth-eq0.false in
     let lt = c.loop-x-test.true in
-    let pl = c.compare_fronts-f.ensures.places c.if-o-ne1.false in
+    let pl = c.compare_fronts-f.ensures.places (equal_of _ (sym c.is_ne.ensures ∙ c.if-is_ne.false)) in
     let f = value_found a.depth a.frame a.a.now l.x a.ea nz lt v.0 pl.0 in
     let g = value_found a.depth a.frame a.b.now l.y a.eb nz (omega (arith, c.if-eb-y.false)) v.1 pl.1 in
-    let order = both_pass a.depth a.frame a.a.now a.b.now l.x a.ea l.y a.eb nz v.0 v.1 lt (omega (arith, c.if-eb-y.false)) c.compare_fronts-f.ensures.order c.if-o-ne1.false pl.0 pl.1 c.compare_value-v.ensures c.if-v-ne1.false c.value_size.ensures c.value_size-in-loop-x.ensures in
+    let order = both_pass a.depth a.frame a.a.now a.b.now l.x a.ea l.y a.eb nz v.0 v.1 lt (omega (arith, c.if-eb-y.false)) c.compare_fronts-f.ensures.order (sym c.is_ne.ensures ∙ c.if-is_ne.false) pl.0 pl.1 c.compare_value-v.ensures (sym c.is_ne-in-loop-x.ensures ∙ c.if-is_ne-2.false) c.value_size.ensures c.value_size-in-loop-x.ensures in
     (f.next c.value_size.ensures, g.next c.value_size-in-loop-x.ensures, v.2 ∙ order, refl)
 
 pub compare_nodes-returns-then-y-eb : goal.compare_nodes-returns-then-y-eb
@@ -183,14 +142,14 @@ compare_nodes-returns-then-y-eb t c =
     let a = c.args in
     let l = c.loop-x in
     let v = l.invariant in
-    sym (ap code (v.2 ∙ nodes_shorter a.depth a.frame a.a.now a.b.now l.x a.ea l.y a.eb c.if-depth-eq0.false v.0 v.1 c.loop-x-test.false c.if-y-eb.true))
+    sym ((v.2 ∙ nodes_shorter a.depth a.frame a.a.now a.b.now l.x a.ea l.y a.eb c.if-depth-eq0.false v.0 v.1 c.loop-x-test.false c.if-y-eb.true))
 
 pub compare_nodes-returns : goal.compare_nodes-returns
 compare_nodes-returns t c =
     let a = c.args in
     let l = c.loop-x in
     let v = l.invariant in
-    sym (ap code (v.2 ∙ nodes_ended a.depth a.frame a.a.now a.b.now l.x a.ea l.y a.eb c.if-depth-eq0.false v.0 v.1 c.loop-x-test.false c.if-y-eb.false))
+    sym ((v.2 ∙ nodes_ended a.depth a.frame a.a.now a.b.now l.x a.ea l.y a.eb c.if-depth-eq0.false v.0 v.1 c.loop-x-test.false c.if-y-eb.false))
 
 pub compare_value-bounds-a-p : goal.compare_value-bounds-a-p
 compare_value-bounds-a-p t c =
@@ -214,23 +173,10 @@ compare_value-bounds-b-q t c =
     let r = h in
     omega arith
 
-pub compare_value-returns-then-k-l : goal.compare_value-returns-then-k-l
-compare_value-returns-then-k-l t c =
+pub compare_value-returns-then-is_ne : goal.compare_value-returns-then-is_ne
+compare_value-returns-then-is_ne t c =
     let a = c.args in
-    let s = a.a.now in
-    let t' = a.b.now in
-    let g = c.requires.value_at in
-    let h = c.requires.value_at_2 in
-    sym (ap code (value_less a.depth s t' a.p a.ea a.q a.eb g h c.if-k-l.true))
-
-pub compare_value-returns-then-l-k : goal.compare_value-returns-then-l-k
-compare_value-returns-then-l-k t c =
-    let a = c.args in
-    let s = a.a.now in
-    let t' = a.b.now in
-    let g = c.requires.value_at in
-    let h = c.requires.value_at_2 in
-    sym (ap code (value_greater a.depth s t' a.p a.ea a.q a.eb g h c.if-l-k.true))
+    value_kind a.depth a.a.now a.b.now a.p a.ea a.q a.eb c.requires.value_at c.requires.value_at_2 _ c.cmp-by_kind.ensures (sym c.is_ne.ensures ∙ c.if-is_ne.true)
 
 pub compare_value-compare_leaf-requires : goal.compare_value-compare_leaf-requires
 compare_value-compare_leaf-requires t c =
@@ -239,7 +185,7 @@ compare_value-compare_leaf-requires t c =
     let t' = a.b.now in
     let g = c.requires.value_at in
     let h = c.requires.value_at_2 in
-    let same : get_or s a.p 0 ≡ get_or t' a.q 0 = omega (arith, c.if-k-l.false, c.if-l-k.false) in
+    let same : get_or s a.p 0 ≡ get_or t' a.q 0 = exact_unsigned _ _ (sym c.cmp-by_kind.ensures ∙ equal_of _ (sym c.is_ne.ensures ∙ c.if-is_ne.false)) in
     let plain : OfScalar (get_or s a.p 0) = (λ j u z k. omega (arith, c.if-k-lt10.true)) in
     record { leaf = (scalar-at a.depth s a.p a.ea g plain).leaf; leaf_2 = (scalar-at a.depth t' a.q a.eb h (λ j u z k. plain j u z (same ∙ k))).leaf; p_value = same; x_le_p = c.requires.x_le_p; y_le_q = c.requires.y_le_q; a_value = c.requires.a_value }
 
@@ -250,9 +196,9 @@ compare_value-returns-then-k-lt10 t c =
     let t' = a.b.now in
     let g = c.requires.value_at in
     let h = c.requires.value_at_2 in
-    let same : get_or s a.p 0 ≡ get_or t' a.q 0 = omega (arith, c.if-k-l.false, c.if-l-k.false) in
+    let same : get_or s a.p 0 ≡ get_or t' a.q 0 = exact_unsigned _ _ (sym c.cmp-by_kind.ensures ∙ equal_of _ (sym c.is_ne.ensures ∙ c.if-is_ne.false)) in
     let plain : OfScalar (get_or s a.p 0) = (λ j u z k. omega (arith, c.if-k-lt10.true)) in
-    c.compare_leaf.ensures ∙ sym (ap code (value-scalar a.depth s t' a.p a.ea a.q a.eb g h same plain))
+    c.compare_leaf.ensures ∙ sym ((value-scalar a.depth s t' a.p a.ea a.q a.eb g h same plain))
 
 pub compare_value-returns-then-k-eq14 : goal.compare_value-returns-then-k-eq14
 compare_value-returns-then-k-eq14 t c =
@@ -261,8 +207,8 @@ compare_value-returns-then-k-eq14 t c =
     let t' = a.b.now in
     let g = c.requires.value_at in
     let h = c.requires.value_at_2 in
-    let same : get_or s a.p 0 ≡ get_or t' a.q 0 = omega (arith, c.if-k-l.false, c.if-l-k.false) in
-    sym (ap code (value_marker a.depth s t' a.p a.ea a.q a.eb g h same c.if-k-eq14.true))
+    let same : get_or s a.p 0 ≡ get_or t' a.q 0 = exact_unsigned _ _ (sym c.cmp-by_kind.ensures ∙ equal_of _ (sym c.is_ne.ensures ∙ c.if-is_ne.false)) in
+    sym ((value_marker a.depth s t' a.p a.ea a.q a.eb g h same c.if-k-eq14.true))
 
 pub compare_value-compare_leaf-requires-then-k-eq15 : goal.compare_value-compare_leaf-requires-then-k-eq15
 compare_value-compare_leaf-requires-then-k-eq15 t c =
@@ -271,7 +217,7 @@ compare_value-compare_leaf-requires-then-k-eq15 t c =
     let t' = a.b.now in
     let g = c.requires.value_at in
     let h = c.requires.value_at_2 in
-    let same : get_or s a.p 0 ≡ get_or t' a.q 0 = omega (arith, c.if-k-l.false, c.if-l-k.false) in
+    let same : get_or s a.p 0 ≡ get_or t' a.q 0 = exact_unsigned _ _ (sym c.cmp-by_kind.ensures ∙ equal_of _ (sym c.is_ne.ensures ∙ c.if-is_ne.false)) in
     let plain : OfScalar (get_or s a.p 0) = (λ j u z k. omega (arith, c.if-k-eq15.true)) in
     record { leaf = (scalar-at a.depth s a.p a.ea g plain).leaf; leaf_2 = (scalar-at a.depth t' a.q a.eb h (λ j u z k. plain j u z (same ∙ k))).leaf; p_value = same; x_le_p = c.requires.x_le_p; y_le_q = c.requires.y_le_q; a_value = c.requires.a_value }
 
@@ -282,13 +228,9 @@ compare_value-returns-then-k-eq15 t c =
     let t' = a.b.now in
     let g = c.requires.value_at in
     let h = c.requires.value_at_2 in
-    let same : get_or s a.p 0 ≡ get_or t' a.q 0 = omega (arith, c.if-k-l.false, c.if-l-k.false) in
+    let same : get_or s a.p 0 ≡ get_or t' a.q 0 = exact_unsigned _ _ (sym c.cmp-by_kind.ensures ∙ equal_of _ (sym c.is_ne.ensures ∙ c.if-is_ne.false)) in
     let plain : OfScalar (get_or s a.p 0) = (λ j u z k. omega (arith, c.if-k-eq15.true)) in
-    c.compare_leaf-then-k-eq15.ensures ∙ sym (ap code (value-scalar a.depth s t' a.p a.ea a.q a.eb g h same plain))
-
-pub compare_value-frame_of-f-requires : goal.compare_value-frame_of-f-requires
-compare_value-frame_of-f-requires t c =
-    tt
+    c.compare_leaf-then-k-eq15.ensures ∙ sym ((value-scalar a.depth s t' a.p a.ea a.q a.eb g h same plain))
 
 pub compare_value-overflow_add-i : goal.compare_value-overflow_add-i
 compare_value-overflow_add-i t c =
@@ -297,7 +239,7 @@ compare_value-overflow_add-i t c =
     let t' = a.b.now in
     let g = c.requires.value_at in
     let h = c.requires.value_at_2 in
-    let same : get_or s a.p 0 ≡ get_or t' a.q 0 = omega (arith, c.if-k-l.false, c.if-l-k.false) in
+    let same : get_or s a.p 0 ≡ get_or t' a.q 0 = exact_unsigned _ _ (sym c.cmp-by_kind.ensures ∙ equal_of _ (sym c.is_ne.ensures ∙ c.if-is_ne.false)) in
     let ten : 10 ≤ get_or s a.p 0 = omega (arith, c.if-k-lt10.false) in
     let no = c.if-k-eq14.false in
     let nb = c.if-k-eq15.false in
@@ -314,7 +256,7 @@ compare_value-overflow_add-j t c =
     let t' = a.b.now in
     let g = c.requires.value_at in
     let h = c.requires.value_at_2 in
-    let same : get_or s a.p 0 ≡ get_or t' a.q 0 = omega (arith, c.if-k-l.false, c.if-l-k.false) in
+    let same : get_or s a.p 0 ≡ get_or t' a.q 0 = exact_unsigned _ _ (sym c.cmp-by_kind.ensures ∙ equal_of _ (sym c.is_ne.ensures ∙ c.if-is_ne.false)) in
     let ten : 10 ≤ get_or s a.p 0 = omega (arith, c.if-k-lt10.false) in
     let no = c.if-k-eq14.false in
     let nb = c.if-k-eq15.false in
@@ -331,7 +273,7 @@ compare_value-overflow_add-p t c =
     let t' = a.b.now in
     let g = c.requires.value_at in
     let h = c.requires.value_at_2 in
-    let same : get_or s a.p 0 ≡ get_or t' a.q 0 = omega (arith, c.if-k-l.false, c.if-l-k.false) in
+    let same : get_or s a.p 0 ≡ get_or t' a.q 0 = exact_unsigned _ _ (sym c.cmp-by_kind.ensures ∙ equal_of _ (sym c.is_ne.ensures ∙ c.if-is_ne.false)) in
     let ten : 10 ≤ get_or s a.p 0 = omega (arith, c.if-k-lt10.false) in
     let no = c.if-k-eq14.false in
     let nb = c.if-k-eq15.false in
@@ -348,7 +290,7 @@ compare_value-u32_at-requires t c =
     let t' = a.b.now in
     let g = c.requires.value_at in
     let h = c.requires.value_at_2 in
-    let same : get_or s a.p 0 ≡ get_or t' a.q 0 = omega (arith, c.if-k-l.false, c.if-l-k.false) in
+    let same : get_or s a.p 0 ≡ get_or t' a.q 0 = exact_unsigned _ _ (sym c.cmp-by_kind.ensures ∙ equal_of _ (sym c.is_ne.ensures ∙ c.if-is_ne.false)) in
     let ten : 10 ≤ get_or s a.p 0 = omega (arith, c.if-k-lt10.false) in
     let no = c.if-k-eq14.false in
     let nb = c.if-k-eq15.false in
@@ -365,7 +307,7 @@ compare_value-overflow_add-va t c =
     let t' = a.b.now in
     let g = c.requires.value_at in
     let h = c.requires.value_at_2 in
-    let same : get_or s a.p 0 ≡ get_or t' a.q 0 = omega (arith, c.if-k-l.false, c.if-l-k.false) in
+    let same : get_or s a.p 0 ≡ get_or t' a.q 0 = exact_unsigned _ _ (sym c.cmp-by_kind.ensures ∙ equal_of _ (sym c.is_ne.ensures ∙ c.if-is_ne.false)) in
     let ten : 10 ≤ get_or s a.p 0 = omega (arith, c.if-k-lt10.false) in
     let no = c.if-k-eq14.false in
     let nb = c.if-k-eq15.false in
@@ -383,7 +325,7 @@ compare_value-overflow_add-q t c =
     let t' = a.b.now in
     let g = c.requires.value_at in
     let h = c.requires.value_at_2 in
-    let same : get_or s a.p 0 ≡ get_or t' a.q 0 = omega (arith, c.if-k-l.false, c.if-l-k.false) in
+    let same : get_or s a.p 0 ≡ get_or t' a.q 0 = exact_unsigned _ _ (sym c.cmp-by_kind.ensures ∙ equal_of _ (sym c.is_ne.ensures ∙ c.if-is_ne.false)) in
     let ten : 10 ≤ get_or s a.p 0 = omega (arith, c.if-k-lt10.false) in
     let no = c.if-k-eq14.false in
     let nb = c.if-k-eq15.false in
@@ -400,7 +342,7 @@ compare_value-u32_at-requires-2 t c =
     let t' = a.b.now in
     let g = c.requires.value_at in
     let h = c.requires.value_at_2 in
-    let same : get_or s a.p 0 ≡ get_or t' a.q 0 = omega (arith, c.if-k-l.false, c.if-l-k.false) in
+    let same : get_or s a.p 0 ≡ get_or t' a.q 0 = exact_unsigned _ _ (sym c.cmp-by_kind.ensures ∙ equal_of _ (sym c.is_ne.ensures ∙ c.if-is_ne.false)) in
     let ten : 10 ≤ get_or s a.p 0 = omega (arith, c.if-k-lt10.false) in
     let no = c.if-k-eq14.false in
     let nb = c.if-k-eq15.false in
@@ -417,7 +359,7 @@ compare_value-overflow_add-vb t c =
     let t' = a.b.now in
     let g = c.requires.value_at in
     let h = c.requires.value_at_2 in
-    let same : get_or s a.p 0 ≡ get_or t' a.q 0 = omega (arith, c.if-k-l.false, c.if-l-k.false) in
+    let same : get_or s a.p 0 ≡ get_or t' a.q 0 = exact_unsigned _ _ (sym c.cmp-by_kind.ensures ∙ equal_of _ (sym c.is_ne.ensures ∙ c.if-is_ne.false)) in
     let ten : 10 ≤ get_or s a.p 0 = omega (arith, c.if-k-lt10.false) in
     let no = c.if-k-eq14.false in
     let nb = c.if-k-eq15.false in
@@ -435,7 +377,7 @@ compare_value-known_on-m-requires t c =
     let t' = a.b.now in
     let g = c.requires.value_at in
     let h = c.requires.value_at_2 in
-    let same : get_or s a.p 0 ≡ get_or t' a.q 0 = omega (arith, c.if-k-l.false, c.if-l-k.false) in
+    let same : get_or s a.p 0 ≡ get_or t' a.q 0 = exact_unsigned _ _ (sym c.cmp-by_kind.ensures ∙ equal_of _ (sym c.is_ne.ensures ∙ c.if-is_ne.false)) in
     let ten : 10 ≤ get_or s a.p 0 = omega (arith, c.if-k-lt10.false) in
     let no = c.if-k-eq14.false in
     let nb = c.if-k-eq15.false in
@@ -454,7 +396,7 @@ compare_value-compare_nodes-requires t c =
     let t' = a.b.now in
     let g = c.requires.value_at in
     let h = c.requires.value_at_2 in
-    let same : get_or s a.p 0 ≡ get_or t' a.q 0 = omega (arith, c.if-k-l.false, c.if-l-k.false) in
+    let same : get_or s a.p 0 ≡ get_or t' a.q 0 = exact_unsigned _ _ (sym c.cmp-by_kind.ensures ∙ equal_of _ (sym c.is_ne.ensures ∙ c.if-is_ne.false)) in
     let ten : 10 ≤ get_or s a.p 0 = omega (arith, c.if-k-lt10.false) in
     let no = c.if-k-eq14.false in
     let nb = c.if-k-eq15.false in
@@ -472,7 +414,7 @@ compare_value-returns t c =
     let t' = a.b.now in
     let g = c.requires.value_at in
     let h = c.requires.value_at_2 in
-    let same : get_or s a.p 0 ≡ get_or t' a.q 0 = omega (arith, c.if-k-l.false, c.if-l-k.false) in
+    let same : get_or s a.p 0 ≡ get_or t' a.q 0 = exact_unsigned _ _ (sym c.cmp-by_kind.ensures ∙ equal_of _ (sym c.is_ne.ensures ∙ c.if-is_ne.false)) in
     let ten : 10 ≤ get_or s a.p 0 = omega (arith, c.if-k-lt10.false) in
     let no = c.if-k-eq14.false in
     let nb = c.if-k-eq15.false in
@@ -480,4 +422,4 @@ compare_value-returns t c =
     let w' = header_room a.depth t' a.q a.eb h (omega arith) (λ z. no (same ∙ z)) (λ z. nb (same ∙ z)) in
     let r = g.room in
     let r' = h.room in
-    c.compare_nodes.ensures ∙ sym (ap code (value_container a.depth s t' a.p a.ea a.q a.eb g h same ten no nb c.frame_of-f.result c.frame_of-f.ensures c.u32_at.result c.u32_at-2.result c.u32_at.ensures.0 c.u32_at-2.ensures.0))
+    c.compare_nodes.ensures ∙ sym ((value_container a.depth s t' a.p a.ea a.q a.eb g h same ten no nb c.frame_of-f.result c.frame_of-f.ensures c.u32_at.result c.u32_at-2.result c.u32_at.ensures.0 c.u32_at-2.ensures.0))

@@ -1,6 +1,6 @@
 -- With n more containers that may be open, `compare_nodes` measures 2n and `compare_value` 2n + 1. The invariant of the loop: what is left from the
 -- present places on decides the order of the whole. Assumes nothing.
-use Rattle.std.proofs.Common.{ℕ, ◌+◌, ◌-◌, ◌*◌, ◌≡◌, take, drop}
+use Rattle.std.proofs.Common.{◌+◌, ◌-◌, ◌*◌, ◌≡◌, take, drop}
 use Rattle.tape.specs.Bytes.{part}
 use Rattle.tape.specs.Tape.{walk}
 use Rattle.order.specs.Order.{nodes}

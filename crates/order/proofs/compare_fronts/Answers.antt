@@ -1,15 +1,16 @@
 -- `order::compare_fronts` meets its contract. Assumes nothing.
+use Rattle.std.specs.Ordering.{nat_cmp, ordering_then}
+use Rattle.std.specs.declared.cmp.Ordering.{Ordering}
 use mathlib.Core.Path.{sym, ap, ◌∙◌}
 use native.Mathlib.Omega.{arith}
-use Prim.Native.Nat.{ℕ, ◌+◌, ◌-◌}
+use Prim.Native.Nat.{ℕ, ◌+◌}
 use Rattle.tape.specs.Bytes.{part}
 use lib.ListN.{get_or}
 use Rattle.tape.specs.Tape.{name_of}
 use Rattle.tape.specs.Steps.{head_at, size_taken}
-use Rattle.order.specs.Order.{then_by, numbers, lists, options, syms}
-use Rattle.order.proofs.CodeLaws.{numbers-told, step_by, both_one}
+use Rattle.order.specs.Order.{options, syms}
+use Rattle.order.proofs.Combine.{both_equal}
 use Rattle.order.proofs.HeadLaws.{head_parts}
-use borrow.Author.Rules.{rules}
 use Rattle.order.proofs.compare_fronts.Goals as goal
 
 pub compare_names-n-requires : goal.compare_names-n-requires
@@ -45,11 +46,13 @@ returns c =
     let q = c.name_place-q.ensures in
     let notes = rw (u.list, v.list, u.ends, v.ends) at (rw (p, q) at c.compare_notes-s.ensures) in
     let names = rw (u.name, v.name) at c.compare_names-n.ensures in
-    let bytes = numbers-told c.compare_numbers-k.ensures (c.wide.ensures ∙ ap (λ (i : ℕ). get_or s i 0) p) (c.wide-2.ensures ∙ ap (λ (i : ℕ). get_or t i 0) q) in
+    let bytes = c.cmp-k.ensures ∙ ap (λ (i : ℕ). nat_cmp (get_or s i 0) (get_or t c.name_place-q.result 0)) p ∙ ap (λ (i : ℕ). nat_cmp (get_or s (a.i + size_taken (name_of a.frame (part s a.i a.ea))) 0) (get_or t i 0)) q in
     let A = options syms (head_at a.frame (part s a.i a.ea)).0 (head_at a.frame (part t a.j a.eb)).0 in
-    let B = numbers (get_or s (a.i + size_taken (name_of a.frame (part s a.i a.ea))) 0) (get_or t (a.j + size_taken (name_of a.frame (part t a.j a.eb))) 0) in
-    let C = lists syms (head_at a.frame (part s a.i a.ea)).1 (head_at a.frame (part t a.j a.eb)).1 in
+    let B = nat_cmp (get_or s (a.i + size_taken (name_of a.frame (part s a.i a.ea))) 0) (get_or t (a.j + size_taken (name_of a.frame (part t a.j a.eb))) 0) in
     record {
-      order = step_by A (then_by B C) c.then_code-c.ensures names (step_by B C c.then_code.ensures bytes notes.order);
-      places = λ z. notes.places (both_one c.compare_numbers-k.result c.compare_notes-s.result.order (sym c.then_code.ensures ∙ both_one c.compare_names-n.result c.then_code.result (sym c.then_code-c.ensures ∙ z)));
+      order =
+          c.then-2.ensures
+          ∙ ap (λ (w : Ordering). ordering_then w c.then.result) names
+          ∙ ap (ordering_then A) (c.then.ensures ∙ ap (λ (w : Ordering). ordering_then w c.compare_notes-s.result.order) bytes ∙ ap (ordering_then B) notes.order);
+      places = λ z. notes.places (both_equal _ _ (sym c.then.ensures ∙ (both_equal _ _ (sym c.then-2.ensures ∙ z)).1)).1;
     }

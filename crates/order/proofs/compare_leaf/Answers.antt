@@ -1,11 +1,13 @@
 -- `order::compare_leaf` meets its contract. Assumes nothing.
-use Rattle.order.specs.Steps.{scalar_in, text_at}
+use Rattle.order.specs.Order.{fields_of}
+use Rattle.order.specs.Steps.{scalar_in, number_at, text_at}
 use Prim.Native.Nat.{◌+◌, ◌<◌}
 use lib.IntN.{pos}
-use Rattle.tape.specs.Bytes.{part}
+use Rattle.tape.specs.Bytes.{part, signed}
+use Rattle.tape.specs.Tape.{timestamp_as}
 use mathlib.Core.Path.{sym, ◌∙◌}
 use native.Mathlib.Omega.{arith}
-use lib.ListN.{get_or}
+use lib.ListN.{get_or, drop}
 use Rattle.order.proofs.Leaves.{leaf_place, low_key, int_key, float_at, decimal_key, timestamp_key, id-key, text-key, keys-numbers, keys-bytes, keys_decimal, keys_one, keys-float, keyed}
 use Rattle.order.proofs.compare_leaf.Goals as goal
 
@@ -38,7 +40,7 @@ compare_int-requires c =
 
 pub returns-then-k-eq2 : goal.returns-then-k-eq2
 returns-then-k-eq2 c =
-    keyed (scalar_in (part c.args.a.now c.args.p c.args.ea)) (scalar_in (part c.args.b.now c.args.q c.args.eb)) _ c.compare_int.ensures (int_key c.args.a.now c.args.p c.args.ea c.requires.leaf c.if-k-eq2.true).key (int_key c.args.b.now c.args.q c.args.eb c.requires.leaf_2 (sym c.requires.p_value ∙ c.if-k-eq2.true)).key (keys_one 2 _ _)
+    keyed (scalar_in (part c.args.a.now c.args.p c.args.ea)) (scalar_in (part c.args.b.now c.args.q c.args.eb)) _ c.compare_int.ensures (int_key c.args.a.now c.args.p c.args.ea c.requires.leaf c.if-k-eq2.true).key (int_key c.args.b.now c.args.q c.args.eb c.requires.leaf_2 (sym c.requires.p_value ∙ c.if-k-eq2.true)).key (keys_one 2 (signed 64 (number_at c.args.a.now c.args.p 8 1)) (signed 64 (number_at c.args.b.now c.args.q 8 1)))
 
 pub compare_float-requires : goal.compare_float-requires
 compare_float-requires c =
@@ -80,7 +82,7 @@ compare_timestamp-requires c =
 
 pub returns-then-k-eq5 : goal.returns-then-k-eq5
 returns-then-k-eq5 c =
-    keyed (scalar_in (part c.args.a.now c.args.p c.args.ea)) (scalar_in (part c.args.b.now c.args.q c.args.eb)) _ c.compare_timestamp.ensures (timestamp_key c.args.a.now c.args.p c.args.ea c.requires.leaf c.if-k-eq5.true).key (timestamp_key c.args.b.now c.args.q c.args.eb c.requires.leaf_2 (sym c.requires.p_value ∙ c.if-k-eq5.true)).key (keys-numbers 5 _ _)
+    keyed (scalar_in (part c.args.a.now c.args.p c.args.ea)) (scalar_in (part c.args.b.now c.args.q c.args.eb)) _ c.compare_timestamp.ensures (timestamp_key c.args.a.now c.args.p c.args.ea c.requires.leaf c.if-k-eq5.true).key (timestamp_key c.args.b.now c.args.q c.args.eb c.requires.leaf_2 (sym c.requires.p_value ∙ c.if-k-eq5.true)).key (keys-numbers 5 (fields_of (timestamp_as (drop c.args.p c.args.a.now))) (fields_of (timestamp_as (drop c.args.q c.args.b.now))))
 
 pub compare_id-requires : goal.compare_id-requires
 compare_id-requires c =
@@ -94,7 +96,7 @@ compare_id-requires c =
 
 pub returns-then-k-eq7 : goal.returns-then-k-eq7
 returns-then-k-eq7 c =
-    keyed (scalar_in (part c.args.a.now c.args.p c.args.ea)) (scalar_in (part c.args.b.now c.args.q c.args.eb)) _ c.compare_id.ensures (id-key c.args.a.now c.args.p c.args.ea c.requires.leaf c.if-k-eq7.true).key (id-key c.args.b.now c.args.q c.args.eb c.requires.leaf_2 (sym c.requires.p_value ∙ c.if-k-eq7.true)).key (keys_one 7 _ _)
+    keyed (scalar_in (part c.args.a.now c.args.p c.args.ea)) (scalar_in (part c.args.b.now c.args.q c.args.eb)) _ c.compare_id.ensures (id-key c.args.a.now c.args.p c.args.ea c.requires.leaf c.if-k-eq7.true).key (id-key c.args.b.now c.args.q c.args.eb c.requires.leaf_2 (sym c.requires.p_value ∙ c.if-k-eq7.true)).key (keys_one 7 (pos (number_at c.args.a.now c.args.p 4 1)) (pos (number_at c.args.b.now c.args.q 4 1)))
 
 pub compare_text-requires : goal.compare_text-requires
 compare_text-requires c =

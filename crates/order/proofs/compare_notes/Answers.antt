@@ -1,6 +1,5 @@
 -- `order::compare_notes` meets its contract. Assumes nothing.
 use Rattle.order.proofs.HeadLaws.{notes_here}
-use borrow.Author.Rules.{rules}
 use Rattle.order.proofs.compare_notes.Goals as goal
 
 pub compare_syms-requires : goal.compare_syms-requires

@@ -1,10 +1,6 @@
 -- `order::equal_blocks` meets its contract. Assumes nothing.
-use mathlib.Core.Path.{sym, ap, ◌∙◌}
-use native.Mathlib.Omega.{arith}
 use Prim.Native.Nat.{◌+◌, ◌-◌}
-use Rattle.output.specs.Wrote.{le_bytes}
 use Rattle.order.specs.Steps.{Shared}
-use Rattle.order.proofs.SharedLaws.{shared_none, shared_block}
 use Rattle.order.proofs.equal_blocks.Given as goal
 
 abbrev pub invariant-loop-n : goal.invariant-loop-n

@@ -1,7 +1,6 @@
 -- `order::known_on` meets its contract. Assumes nothing.
 use native.Mathlib.Omega.{arith}
 use Rattle.order.proofs.SharedLaws.{shared_from}
-use borrow.Author.Rules.{rules}
 use Rattle.order.proofs.known_on.Goals as goal
 
 pub returns-then-n-u-2 : goal.returns-then-n-u-2

@@ -5,11 +5,7 @@ use borrow.Author.Tests.{eq-eqb, ne_eqb}
 use lib.ListN.{get_or}
 use Rattle.order.specs.Steps.{notes_count}
 use Rattle.order.proofs.HeadLaws.{notes_here}
-use borrow.Author.Rules.{rules}
 use Rattle.order.proofs.notes_count.Goals as goal
-
-pub bounds-tape-at : goal.bounds-tape-at
-bounds-tape-at c = let w = c.requires.within in let r = c.requires.room in omega arith
 
 pub bounds-tape-at-then-tape-at-eq13 : goal.bounds-tape-at-then-tape-at-eq13
 bounds-tape-at-then-tape-at-eq13 c =

@@ -1,14 +1,9 @@
 -- `order::notes_start` meets its contract. Assumes nothing.
 use mathlib.Core.Path.{refl}
-use native.Mathlib.Omega.{arith}
 use borrow.Author.Tests.{eq-eqb, ne_eqb}
 use lib.ListN.{get_or}
 use Rattle.order.specs.Steps.{notes_start}
-use borrow.Author.Rules.{rules}
 use Rattle.order.proofs.notes_start.Goals as goal
-
-pub bounds-tape-at : goal.bounds-tape-at
-bounds-tape-at c = let w = c.requires.within in let r = c.requires.room in omega arith
 
 pub returns-then-tape-at-eq13 : goal.returns-then-tape-at-eq13
 unfolding notes_start

@@ -4,7 +4,6 @@ use mathlib.Core.Bool.{true, false}
 use borrow.Author.Tests.{le-leb, lt-leb}
 use native.Mathlib.Omega.{arith}
 use Rattle.order.proofs.FloatLaws.{nan-told, inf-told, fin-told}
-use borrow.Author.Rules.{rules}
 use Rattle.order.proofs.odd_number.Goals as goal
 
 pub returns-then-m-lt9218868437227405312 : goal.returns-then-m-lt9218868437227405312

@@ -1,9 +1,8 @@
 -- `order::pass_known` meets its contract. Assumes nothing.
-use mathlib.Core.Path.{◌≡◌, refl}
+use mathlib.Core.Path.{refl}
 use native.Mathlib.Omega.{arith}
-use Prim.Native.Nat.{◌+◌, ◌-◌, ◌<◌}
+use Prim.Native.Nat.{◌<◌}
 use Rattle.tape.specs.Fine.{Bytes}
-use Rattle.order.specs.Steps.{Passed}
 use Rattle.order.proofs.SharedLaws.{value_here, passed_none, passed_on}
 use Rattle.order.proofs.ValueLaws.{no_depth}
 use Rattle.order.proofs.pass_known.Goals as goal
@@ -13,21 +12,10 @@ returns-then-depth-eq0 c =
     let all : Bytes c.args.tape.now = λ i. (c.shared_slice_known-1.given i).fits in
     record { least = omega arith; most = omega arith; left = c.requires.body; other = λ t j f b h q. absurd (no_depth _ _ _ c.if-depth-eq0.true c.requires.body.fine); same = λ t j f b h q. absurd (no_depth _ _ _ c.if-depth-eq0.true c.requires.body.fine) }
 
-pub overflow_add-stop : goal.overflow_add-stop
-overflow_add-stop c =
-    let h = c.requires.body.room in
-    let k = c.requires.known_bound in
-    omega arith
-
 pub loop-x-init : goal.loop-x-init
 loop-x-init c =
     let all : Bytes c.args.tape.now = λ i. (c.shared_slice_known-1.given i).fits in
     (refl, passed_none c.args.depth c.args.frame c.if-depth-eq0.false c.args.tape.now c.args.at c.args.end c.args.known all c.requires.body)
-
-pub value_place-p-requires : goal.value_place-p-requires
-value_place-p-requires c =
-    let b = c.loop-x.invariant.1.left in
-    record { at_le_end = b.within; end_in_bounds = b.room }
 
 pub value_size-requires : goal.value_size-requires
 value_size-requires c =
@@ -57,9 +45,6 @@ overflow_add-y c =
     let w = v.forth in
     omega arith
 
-pub returns-then-stop-y : goal.returns-then-stop-y
-returns-then-stop-y c = c.loop-x.invariant.1
-
 pub loop-x-smaller : goal.loop-x-smaller
 loop-x-smaller c =
     let a = c.args in
@@ -76,6 +61,9 @@ loop-x-smaller c =
     let w = v.forth in
     omega arith
 
+pub returns-then-stop-y : goal.returns-then-stop-y
+returns-then-stop-y c = c.loop-x.invariant.1
+
 pub loop-x-preserved : goal.loop-x-preserved
 loop-x-preserved c =
     let a = c.args in
@@ -86,6 +74,3 @@ loop-x-preserved c =
     let t = c.loop-x-test.true in
     let lt : l.x < a.end = omega arith in
     (i, passed_on a.depth a.frame c.if-depth-eq0.false a.tape.now a.at a.end a.known all l.invariant.1 lt c.value_place-p.ensures c.value_size.ensures (omega (arith, c.if-stop-y.false)))
-
-pub returns : goal.returns
-returns c = c.loop-x.invariant.1

@@ -1,11 +1,7 @@
 -- `order::pass_known` meets its contract. Assumes nothing.
-use mathlib.Core.Path.{◌≡◌, refl}
-use native.Mathlib.Omega.{arith}
-use Prim.Native.Nat.{◌+◌, ◌-◌, ◌<◌}
-use Rattle.tape.specs.Fine.{Bytes}
+use mathlib.Core.Path.{◌≡◌}
+use Prim.Native.Nat.{◌+◌, ◌-◌}
 use Rattle.order.specs.Steps.{Passed}
-use Rattle.order.proofs.SharedLaws.{value_here, passed_none, passed_on}
-use Rattle.order.proofs.ValueLaws.{no_depth}
 use Rattle.order.proofs.pass_known.Given as goal
 
 abbrev pub invariant-loop-x : goal.invariant-loop-x

@@ -22,15 +22,15 @@ no_byte w = sym (shift 0 w (omega arith))
 pub returns-then-c-ge4 : goal.returns-then-c-ge4
 returns-then-c-ge4 c =
     let a = c.args in
-    c.store_4-then-c-ge4.ensures
-    ∙ ap (λ (l : List ℕ). sets l (a.p + (a.c - 4)) (le_bytes 4 (a.w / 4294967296))) c.store_4.ensures
+    c.store-then-c-ge4.ensures
+    ∙ ap (λ (l : List ℕ). sets l (a.p + (a.c - 4)) (le_bytes 4 (a.w / 4294967296))) c.store.ensures
     ∙ last-lap a.buf.now a.p a.w a.c 4 (omega arith) (omega arith) (omega arith)
 
 pub returns-then-c-ge2 : goal.returns-then-c-ge2
 returns-then-c-ge2 c =
     let a = c.args in
-    c.store_2-then-c-ge2.ensures
-    ∙ ap (λ (l : List ℕ). sets l (a.p + (a.c - 2)) (le_bytes 2 (a.w / 281474976710656))) c.store_2.ensures
+    c.store-then-c-ge2-2.ensures
+    ∙ ap (λ (l : List ℕ). sets l (a.p + (a.c - 2)) (le_bytes 2 (a.w / 281474976710656))) c.store-then-c-ge2.ensures
     ∙ last-lap a.buf.now a.p a.w a.c 2 (omega arith) (omega arith) (omega arith)
 
 pub returns-then-c-eq1 : goal.returns-then-c-eq1

@@ -11,15 +11,15 @@ use Rattle.output.proofs.store_low.Goals as goal
 pub returns-then-n-ge4 : goal.returns-then-n-ge4
 returns-then-n-ge4 c =
     let a = c.args in
-    c.store_4-then-n-ge4.ensures
-    ∙ ap (λ (b : List ℕ). sets b (a.pos + (a.n - 4)) (le_bytes 4 (a.w / 2 ^ (8 * (a.n - 4))))) c.store_4.ensures
+    c.store-then-n-ge4.ensures
+    ∙ ap (λ (b : List ℕ). sets b (a.pos + (a.n - 4)) (le_bytes 4 (a.w / 2 ^ (8 * (a.n - 4))))) c.store.ensures
     ∙ le-lap a.buf.now a.pos a.w a.n 4 (omega arith) (omega arith)
 
 pub returns-then-n-ge2 : goal.returns-then-n-ge2
 returns-then-n-ge2 c =
     let a = c.args in
-    c.store_2-then-n-ge2.ensures
-    ∙ ap (λ (b : List ℕ). sets b (a.pos + (a.n - 2)) (le_bytes 2 (a.w / 2 ^ (8 * (a.n - 2))))) c.store_2.ensures
+    c.store-then-n-ge2-2.ensures
+    ∙ ap (λ (b : List ℕ). sets b (a.pos + (a.n - 2)) (le_bytes 2 (a.w / 2 ^ (8 * (a.n - 2))))) c.store-then-n-ge2.ensures
     ∙ le-lap a.buf.now a.pos a.w a.n 2 (omega arith) (omega arith)
 
 pub returns-then-n-eq1 : goal.returns-then-n-eq1

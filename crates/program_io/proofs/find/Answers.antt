@@ -15,7 +15,7 @@ loop-i-preserved c =
     let a = c.args in
     let l = c.loop-i in
     let d = passed a.x a.input.now l.i c.loop-i-test.true c.if-input-i.false in
-    (omega arith, omega arith)
+    omega arith
 
 pub returns : goal.returns
 returns c =

@@ -24,16 +24,16 @@ returns-in_default c =
     let r = whole-none t b e.0 in
     record { answer = r.0; buffer = c.zero.ensures ∙ ap (λ (n : ℕ). replicate n 0) (length_front b w.new.buf c.limit_of-limit.result w.auto.buf) ∙ r.1 }
 
-pub returns-then-limit-n : goal.returns-then-limit-n
+pub returns-then-limit-made : goal.returns-then-limit-made
 unfolding raw_rule
-returns-then-limit-n c =
+returns-then-limit-made c =
     let b : List ℕ = c.args.out.now in
     let t : List ℕ = c.args.text.now in
     let l = c.limit_of-limit in
     let w = c.write_tape in
-    let e = rw c.in-Length.is at w.ensures in
-    let r = whole_long t b l.result _ _ e.0 l.ensures e.1 e.3 c.if-limit-n.true in
-    record { answer = r.0; buffer = c.zero-then-limit-n.ensures ∙ ap (λ (n : ℕ). replicate n 0) (length_front b w.new.buf l.result w.auto.buf) ∙ r.1 }
+    let e = rw c.in-Some.is at w.ensures in
+    let r = whole_long t b l.result _ _ e.0 l.ensures e.1 e.3 c.if-limit-made.true in
+    record { answer = r.0; buffer = c.zero-then-limit-made.ensures ∙ ap (λ (n : ℕ). replicate n 0) (length_front b w.new.buf l.result w.auto.buf) ∙ r.1 }
 
 pub returns : goal.returns
 unfolding raw_rule
@@ -42,6 +42,6 @@ returns c =
     let t : List ℕ = c.args.text.now in
     let l = c.limit_of-limit in
     let w = c.write_tape in
-    let e = rw c.in-Length.is at w.ensures in
-    let r = whole-fits t b l.result _ _ e.0 l.ensures e.1 e.3 c.if-limit-n.false in
+    let e = rw c.in-Some.is at w.ensures in
+    let r = whole-fits t b l.result _ _ e.0 l.ensures e.1 e.3 c.if-limit-made.false in
     record { answer = r.0; buffer = r.1 }

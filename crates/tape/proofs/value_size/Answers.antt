@@ -25,38 +25,38 @@ bounds-tape-at c =
     let h = before-end a.tape.now a.at a.end c.requires.end_in_bounds c.requires.nonzero in
     omega arith
 
-pub returns-then-k-lt2 : goal.returns-then-k-lt2
-returns-then-k-lt2 c =
+pub returns-in-0 : goal.returns-in-0
+returns-in-0 c =
     let a = c.args in
     let k = kind-is a.tape.now a.at a.end c.requires.end_in_bounds c.requires.nonzero in
     sym (size_two (part a.tape.now a.at a.end) c.requires.nonzero (omega arith)).size
 
-pub returns-then-k-lt4 : goal.returns-then-k-lt4
-returns-then-k-lt4 c =
+pub returns-in-2 : goal.returns-in-2
+returns-in-2 c =
     let a = c.args in
     let k = kind-is a.tape.now a.at a.end c.requires.end_in_bounds c.requires.nonzero in
     sym (size_nine (part a.tape.now a.at a.end) c.requires.nonzero (omega arith) (omega arith)).size
 
-pub returns-then-k-eq4 : goal.returns-then-k-eq4
-returns-then-k-eq4 c =
+pub returns-in-4 : goal.returns-in-4
+returns-in-4 c =
     let a = c.args in
     let k = kind-is a.tape.now a.at a.end c.requires.end_in_bounds c.requires.nonzero in
     sym (size_decimal (part a.tape.now a.at a.end) c.requires.nonzero (omega arith)).size
 
-pub returns-then-k-eq5 : goal.returns-then-k-eq5
-returns-then-k-eq5 c =
+pub returns-in-5 : goal.returns-in-5
+returns-in-5 c =
     let a = c.args in
     let k = kind-is a.tape.now a.at a.end c.requires.end_in_bounds c.requires.nonzero in
     sym (size-timestamp (part a.tape.now a.at a.end) c.requires.nonzero (omega arith)).size
 
-pub returns-then-k-eq7 : goal.returns-then-k-eq7
-returns-then-k-eq7 c =
+pub returns-in-7 : goal.returns-in-7
+returns-in-7 c =
     let a = c.args in
     let k = kind-is a.tape.now a.at a.end c.requires.end_in_bounds c.requires.nonzero in
     sym (size_id (part a.tape.now a.at a.end) c.requires.nonzero (omega arith)).size
 
-pub returns-then-k-eq14 : goal.returns-then-k-eq14
-returns-then-k-eq14 c =
+pub returns-in-14 : goal.returns-in-14
+returns-in-14 c =
     let a = c.args in
     let k = kind-is a.tape.now a.at a.end c.requires.end_in_bounds c.requires.nonzero in
     sym (size_marker (part a.tape.now a.at a.end) c.requires.nonzero (omega arith)).size
@@ -69,8 +69,8 @@ u32_at-requires c =
     let n = part_length a.tape.now a.at a.end c.requires.end_in_bounds in
     omega arith
 
-pub returns : goal.returns
-returns c =
+pub returns-in_default : goal.returns-in_default
+returns-in_default c =
     let a = c.args in
     let k = kind-is a.tape.now a.at a.end c.requires.end_in_bounds c.requires.nonzero in
     let r = (size_long (part a.tape.now a.at a.end) c.requires.nonzero (omega arith) (λ e. omega arith) (λ e. omega arith)).room in

@@ -4,69 +4,53 @@ use mathlib.Core.Path.{refl, sym, ◌∙◌}
 use native.Mathlib.Omega.{arith}
 use Rattle.tape.specs.Fine.{Bytes}
 use Rattle.tape.proofs.Walking.{verdict-told}
-use Rattle.tape.proofs.Verdicts.{verdict_most}
+use Rattle.tape.proofs.CodeWalk.{fault_some}
 use Rattle.measure.proofs.Verdicts.{sums-told}
 use Rattle.tree.proofs.Verdicts.{tape_bad, tape-many, tape_numbered, tape-marked, tape_good, length-refused, length_counted}
 use Rattle.tree.proofs.tree_length_with.Goals as goal
+use Rattle.tree.proofs.tree_length_with.Goals.{then-c-ne1-via-then-c-ne1, then-c-ne1-via-else-c-ne1+then-c, then-c-ne1-via-else-c-ne1+else-c+then-tape-eq14}
 
-pub measure_tape-c-requires : goal.measure_tape-c-requires
-measure_tape-c-requires c = refl
+pub measure_tape-requires : goal.measure_tape-requires
+measure_tape-requires c = refl
 
-pub refusal_of-requires : goal.refusal_of-requires
-refusal_of-requires c =
-    let m = verdict_most c.args.tape.now in
-    let e = c.measure_tape-c.ensures.checked.fault in
-    let nz = c.if-c-ne0.true in
-    (omega arith, omega arith)
+pub returns-in-Err : goal.returns-in-Err
+returns-in-Err c =
+    let f = c.in-Err.ensures.checked.fault in
+    let nz = fault_some c.in-Err.fault in
+    c.from.ensures ∙ length-refused _ _ _ nz (tape_bad _ (λ z. nz (f ∙ z)) ∙ sym f)
 
-pub returns-then-c-ne0 : goal.returns-then-c-ne0
-returns-then-c-ne0 c =
-    let f = c.measure_tape-c.ensures.checked.fault in
-    let nz = c.if-c-ne0.true in
-    c.refusal_of.ensures ∙ length-refused _ _ _ nz (tape_bad _ (λ z. nz (f ∙ z)) ∙ sym f)
+pub bounds-tape-0 : goal.bounds-tape-0
+bounds-tape-0 c = let a = (verdict-told c.args.tape.now (sym c.in-Ok.ensures.checked.fault)).least in omega arith
 
 pub returns-then-c-ne1 : goal.returns-then-c-ne1
 returns-then-c-ne1 c =
-    let k = c.measure_tape-c.ensures.checked in
-    let v = sym k.fault ∙ c.if-c-ne0.false in
-    let n = k.counts c.if-c-ne0.false in
-    length-refused _ _ 5 (λ z. omega arith) (tape-many _ v (λ z. c.if-c-ne1.true (n.count ∙ z)))
-
-pub returns-then-c : goal.returns-then-c
-returns-then-c c =
-    let k = c.measure_tape-c.ensures.checked in
-    let v = sym k.fault ∙ c.if-c-ne0.false in
-    let n = k.counts c.if-c-ne0.false in
-    length-refused _ _ 5 (λ z. omega arith) (tape_numbered _ v (sym n.numbered ∙ c.if-c.true))
-
-pub bounds-tape-0 : goal.bounds-tape-0
-bounds-tape-0 c = let a = (verdict-told c.args.tape.now (sym c.measure_tape-c.ensures.checked.fault ∙ c.if-c-ne0.false)).least in omega arith
-
-pub returns-then-tape-eq14 : goal.returns-then-tape-eq14
-returns-then-tape-eq14 c =
-    let k = c.measure_tape-c.ensures.checked in
-    let v = sym k.fault ∙ c.if-c-ne0.false in
-    let n = k.counts c.if-c-ne0.false in
-    length-refused _ _ 5 (λ z. omega arith) (tape-marked _ v (sym n.count ∙ c.if-c-ne1.false) (sym n.numbered ∙ c.if-c.false) c.if-tape-eq14.true)
+    let k = c.in-Ok.ensures.checked in
+    let v = sym k.fault in
+    let n = k.counts in
+    length-refused _ _ 5 (λ z. omega arith) (elim c.then-c-ne1.branch [
+      | then-c-ne1-via-then-c-ne1 w ↦ tape-many _ v (λ z. w.if-c-ne1.true (n.count ∙ z))
+      | then-c-ne1-via-else-c-ne1+then-c w ↦ tape_numbered _ v (sym n.numbered ∙ w.if-c.true)
+      | then-c-ne1-via-else-c-ne1+else-c+then-tape-eq14 w ↦ tape-marked _ v (sym n.count ∙ w.if-c-ne1.false) (sym n.numbered ∙ w.if-c.false) w.if-tape-eq14.true
+    ])
 
 pub overflow_sub-result : goal.overflow_sub-result
 overflow_sub-result c =
-    let k = c.measure_tape-c.ensures in
-    (sums-told c.args.quoted c.args.tape.now (λ i. (c.type_inv.tape i).fits) (sym k.checked.fault ∙ c.if-c-ne0.false) _ (k.sums c.if-c-ne0.false)).fewer
+    let k = c.in-Ok.ensures in
+    (sums-told c.args.quoted c.args.tape.now (λ i. (c.type_inv.tape i).fits) (sym k.checked.fault) _ (k.sums)).fewer
 
 pub overflow_add-result : goal.overflow_add-result
 overflow_add-result c =
-    let k = c.measure_tape-c.ensures in
-    let r = (sums-told c.args.quoted c.args.tape.now (λ i. (c.type_inv.tape i).fits) (sym k.checked.fault ∙ c.if-c-ne0.false) _ (k.sums c.if-c-ne0.false)).room in
+    let k = c.in-Ok.ensures in
+    let r = (sums-told c.args.quoted c.args.tape.now (λ i. (c.type_inv.tape i).fits) (sym k.checked.fault) _ (k.sums)).room in
     record { fits = omega arith }
 
 pub returns : goal.returns
 returns c =
     let t = c.args.tape.now in
-    let k = c.measure_tape-c.ensures in
-    let v = sym k.checked.fault ∙ c.if-c-ne0.false in
-    let n = k.checked.counts c.if-c-ne0.false in
+    let k = c.in-Ok.ensures in
+    let v = sym k.checked.fault in
+    let n = k.checked.counts in
     let o = sym n.count ∙ c.if-c-ne1.false in
     let m : Bytes t = λ i. (c.type_inv.tape i).fits in
     let e = tape_good t v o (sym n.numbered ∙ c.if-c.false) c.if-tape-eq14.false in
-    length_counted _ _ _ m v o e (sums-told c.args.quoted t m v _ (k.sums c.if-c-ne0.false))
+    length_counted _ _ _ m v o e (sums-told c.args.quoted t m v _ (k.sums))

@@ -4,14 +4,6 @@ use native.Mathlib.Omega.{arith}
 use Rattle.field_index.proofs.FieldLaws.{its_turn, its_size, body_next, one_less, next-by, none-size}
 use Rattle.field_index.proofs.fields.field_count.Goals as goal
 
-pub loop-at-init : goal.loop-at-init
-loop-at-init c = record { body = c.requires; count = omega arith; few = omega arith }
-
-pub value_place-inner-requires : goal.value_place-inner-requires
-value_place-inner-requires c =
-    let b = c.loop-at.invariant.body in
-    record { at_le_end = b.ordered; end_in_bounds = b.inside }
-
 pub value_size-requires : goal.value_size-requires
 value_size-requires c =
     let l = c.loop-at in
@@ -31,15 +23,6 @@ overflow_add-at c =
     let f = t.forth in
     let g = t.behind in
     let j = next-by s l.at e l.invariant.body h _ _ c.value_place-inner.ensures c.value_size.ensures in
-    omega arith
-
-pub overflow_add-n : goal.overflow_add-n
-overflow_add-n c =
-    let l = c.loop-at in
-    let s = c.args.tape.now in
-    let e = c.args.end in
-    let h = c.loop-at-test.true in
-    let f = l.invariant.few in
     omega arith
 
 pub loop-at-smaller : goal.loop-at-smaller

@@ -5,7 +5,7 @@ use mathlib.Core.Path.{◌≡◌, refl, sym, ap, subst, ◌∙◌}
 use mathlib.Core.List.{List}
 use mathlib.Core.Option.{none, some}
 use native.Mathlib.Omega.{arith}
-use borrow.Author.Tests.{eqb-true, eq-eqb, ne_eqb}
+use borrow.Author.Tests.{eqb-true, eq-eqb}
 use mathlib.Core.Bool.{Bool, true, false}
 use lib.Dec.{eqb}
 use Rattle.output.specs.Logic.{if}
@@ -23,7 +23,7 @@ use Rattle.tape.proofs.Parts.{part_length, part-first}
 use Rattle.tape.proofs.Walking.{walk_end, verdict-told}
 use Rattle.tape.proofs.Verdicts.{nodes_walked, fine_walked}
 use Rattle.field_index.specs.Structs.{structs, stands_at, struct_at}
-use Rattle.field_index.specs.IndexSteps.{children_in, Located}
+use Rattle.field_index.specs.IndexSteps.{children_in, EndsAt}
 use Rattle.field_index.proofs.StructLaws.{value, next, turning, size_there, passed, in_low, in_high, room, fine, here, in_body}
 use Rattle.field_index.proofs.fields.struct_end.Invariants.{Seeking}
 use Rattle.field_index.proofs.fields.struct_end.Goals as goal
@@ -31,10 +31,6 @@ use Rattle.field_index.proofs.fields.struct_end.Goals as goal
 -- what is said of places and a frame, of those that are equal to them
 along : (P : ℕ → ℕ → Frame → Type 0) {a a' c c' : ℕ} {j j' : Frame} → a ≡ a' → c ≡ c' → j ≡ j' → P a c j → P a' c' j'
 along P {a} {a'} {c} {c'} {j} {j'} p q r x = subst (λ (i : Frame). P a' c' i) r (subst (λ (i : ℕ). P a' i j) q (subst (λ (i : ℕ). P i c j) p x))
-
--- there is none
-none_found : (t : List ℕ) (at : ℕ) → struct_at t at ≡ none → Located t at 0
-none_found t at e = record { found = e; body = λ nz. absurd (nz refl) }
 
 -- at the start, among all nodes; at the end, among none
 start : (t : List ℕ) (at : ℕ) → struct_at t at ≡ stands_at at (structs 0 (walk 65 Top (part t 0 (length t - 8))).0)
@@ -96,11 +92,11 @@ module _ (t : List ℕ) (at from e : ℕ) (k : Frame) (s : Seeking t at from e k
     before-next : at < w
     before-next = let y = stop in omega arith
 
-    low : get_or t v 0 < 10 → Located t at 0
-    low c = none_found t at (s.told ∙ in_low k t from e b h s.inside s.fine at before-next (let y = byte_is in omega arith))
+    low : get_or t v 0 < 10 → struct_at t at ≡ none
+    low c = s.told ∙ in_low k t from e b h s.inside s.fine at before-next (let y = byte_is in omega arith)
 
-    high : 12 < get_or t v 0 → Located t at 0
-    high c = none_found t at (s.told ∙ in_high k t from e b h s.inside s.fine at before-next (let y = byte_is in omega arith))
+    high : 12 < get_or t v 0 → struct_at t at ≡ none
+    high c = s.told ∙ in_high k t from e b h s.inside s.fine at before-next (let y = byte_is in omega arith)
 
     module _ (l : 10 ≤ get_or t v 0) (m : get_or t v 0 ≤ 12) where
       low-kind : 10 ≤ kind (part t u e)
@@ -112,7 +108,7 @@ module _ (t : List ℕ) (at from e : ℕ) (k : Frame) (s : Seeking t at from e k
       room_there : v + 5 ≤ v + n
       room_there = let r = room k t from e b h s.inside s.fine low-kind high_kind in let y = stop in omega arith
 
-      finds : get_or t v 0 ≡ 12 → v ≡ at → Located t at (v + n)
+      finds : get_or t v 0 ≡ 12 → v ≡ at → EndsAt t at (v + n)
       unfolding frame_of
       finds c d =
           let o = onward in
@@ -120,8 +116,8 @@ module _ (t : List ℕ) (at from e : ℕ) (k : Frame) (s : Seeking t at from e k
           let y : u ≡ at = sym p ∙ d in
           let f : frame_of (kind (part t u e)) ≡ Struct = ap frame_of twelve in
           record {
-            found = s.told ∙ here k t from e b h s.inside s.fine low-kind high_kind at before-next y twelve ∙ ap (λ (x : ℕ). some (children_in t (at + 5) x)) (sym stop) ∙ rw (ne_eqb (v + n) 0 (λ z. omega arith)) refl;
-            body = λ _. record {
+            found = s.told ∙ here k t from e b h s.inside s.fine low-kind high_kind at before-next y twelve ∙ ap (λ (x : ℕ). some (children_in t (at + 5) x)) (sym stop);
+            body = record {
               bytes = b;
               ordered = let r = room_there in omega arith;
               inside = let i = s.inside in omega arith;
@@ -150,11 +146,6 @@ pub loop-from-init : goal.loop-from-init
 loop-from-init c =
     let t = c.args.tape.now in
     record { ordered = omega arith; inside = omega arith; fine = fine_walked t c.requires; told = start t c.args.at }
-
-pub value_place-inner-requires : goal.value_place-inner-requires
-value_place-inner-requires c =
-    let l = c.loop-from in
-    record { at_le_end = l.invariant.ordered; end_in_bounds = l.invariant.inside }
 
 pub value_size-requires : goal.value_size-requires
 value_size-requires c =
@@ -269,4 +260,4 @@ pub returns : goal.returns
 returns c =
     let l = c.loop-from in
     let a = c.args in
-    none_found a.tape.now a.at (over a.tape.now a.at l.from l.end l.frame l.invariant c.loop-from-test.false)
+    over a.tape.now a.at l.from l.end l.frame l.invariant c.loop-from-test.false

@@ -1,48 +1,28 @@
 -- `field_index::names::name_at` meets its contract. Assumes nothing.
-use mathlib.Core.Path.{sym, ap, ◌∙◌}
-use Prim.Native.Nat.{ℕ, ◌+◌}
-use native.Mathlib.Omega.{arith}
+use Rattle.std.proofs.Common.{◌≡◌, ◌+◌, ℕ, sym, ap, ◌∙◌, arith}
 use Rattle.text_rules.specs.Text.{Sym}
+use Rattle.field_index.specs.Names.{name_at}
 use Rattle.tape.specs.Bytes.{part}
-use Rattle.field_index.proofs.NameLaws.{cut_short, other-kind, a-number, too_long, a_text, no_name_lem}
+use Rattle.field_index.proofs.NameLaws.{cut_short, other-kind, a-number, too_long, a_text}
 use Rattle.field_index.proofs.names.name_at.Goals as goal
+use Rattle.field_index.proofs.names.name_at.Goals.{then-len-lt5-via-then-len-lt5, then-len-lt5-via-else-len-lt5+then-len-at, in_default-via-in-6+else-n-len, in_default-via-in_default-1}
 
-pub returns-then-tape-lt5 : goal.returns-then-tape-lt5
-returns-then-tape-lt5 c =
-    let tape = c.args.tape.now in
-    let at = c.args.at in
-    no_name_lem tape at _ c.no_name.ensures (cut_short tape at (omega arith))
+pub returns-then-len-lt5 : goal.returns-then-len-lt5
+returns-then-len-lt5 c = sym (cut_short c.args.tape.now c.args.at (elim c.then-len-lt5.branch [ then-len-lt5-via-then-len-lt5 w ↦ omega arith | then-len-lt5-via-else-len-lt5+then-len-at w ↦ omega arith ]))
 
-pub returns-then-tape-at : goal.returns-then-tape-at
-returns-then-tape-at c =
-    let tape = c.args.tape.now in
-    let at = c.args.at in
-    no_name_lem tape at _ c.no_name-then-tape-at.ensures (cut_short tape at (omega arith))
+pub returns-in-7 : goal.returns-in-7
+returns-in-7 c = ap Sym.id c.u32_at-n.ensures.0 ∙ sym (a-number c.args.tape.now c.args.at (omega arith) c.in-7.is)
 
-pub returns-then-k-eq7 : goal.returns-then-k-eq7
-returns-then-k-eq7 c =
-    let tape = c.args.tape.now in
-    let at = c.args.at in
-    record { meant = ap Sym.id c.u32_at-n.ensures.0 ∙ sym (a-number tape at (omega arith) c.if-k-eq7.true); fits = record { ordered = omega arith; inside = omega arith } }
-
-pub returns-then-k-ne6 : goal.returns-then-k-ne6
-returns-then-k-ne6 c =
-    let tape = c.args.tape.now in
-    let at = c.args.at in
-    no_name_lem tape at _ c.no_name-then-k-ne6.ensures (other-kind tape at c.if-k-ne6.true c.if-k-eq7.false)
-
-pub returns-then-tape-from : goal.returns-then-tape-from
-returns-then-tape-from c =
-    let tape = c.args.tape.now in
-    let at = c.args.at in
-    no_name_lem tape at _ c.no_name-then-tape-from.ensures (too_long tape at (omega (arith, c.u32_at-n.ensures.0)) c.if-k-ne6.false)
-
-pub returns : goal.returns
-returns c =
-    let tape = c.args.tape.now in
+pub returns-in-6 : goal.returns-in-6
+returns-in-6 c =
+    let t = c.args.tape.now in
     let at = c.args.at in
     let n = c.u32_at-n.ensures.0 in
-    record {
-      meant = ap (λ (k : ℕ). Sym.text (part tape (at + 5) (at + 5 + k))) n ∙ sym (a_text tape at (omega (arith, n)) c.if-k-ne6.false);
-      fits = record { ordered = omega arith; inside = omega arith };
-    }
+    ap (λ (k : ℕ). Sym.text (part t (at + 5) (at + 5 + k))) n ∙ sym (a_text t at (omega (arith, n)) c.in-6.is)
+
+pub returns-in_default : goal.returns-in_default
+returns-in_default c =
+    let t = c.args.tape.now in
+    let at = c.args.at in
+    let n = c.u32_at-n.ensures.0 in
+    elim c.in_default.branch as (λ _. Sym.text _ ≡ name_at t at) [ in_default-via-in-6+else-n-len w ↦ sym (too_long t at (omega (arith, n)) w.in-6.is) | in_default-via-in_default-1 w ↦ sym (other-kind t at (λ e. omega arith) (λ e. omega arith)) ]

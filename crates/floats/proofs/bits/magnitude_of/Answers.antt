@@ -4,26 +4,26 @@ use Prim.Native.Nat.{ℕ, ◌+◌, ◌-◌, ◌*◌, ◌/◌, ◌^◌, ◌≤◌
 use native.Mathlib.Omega.{arith}
 use native.Mathlib.Nat.{mul-div_cancel, div-mul-le_self}
 use lib.Pow.{pow_pos}
-use Rattle.floats.proofs.ValueBits.{exponent, fraction, zero-told, low_told, part-told, over_told, most_told, past_told, some-told, none_told}
+use Rattle.floats.proofs.ValueBits.{exponent, fraction, told_if, zero-told, low_told, part-told, over_told, most_told, past_told, some-told, none_told}
 use Rattle.floats.proofs.bits.magnitude_of.Goals as goal
-
-pub returns-then-t-eq0 : goal.returns-then-t-eq0
-returns-then-t-eq0 c = sym (zero-told c.args.bits (omega arith) (omega arith))
+use Rattle.floats.proofs.bits.magnitude_of.Goals.{then-e-lt1023-via-then-e-lt1023, then-e-lt1023-via-else-e-lt1023+then-e-gt1076}
 
 pub returns-then-e-eq0 : goal.returns-then-e-eq0
-returns-then-e-eq0 c = sym (low_told c.args.bits (omega arith) (omega arith))
+returns-then-e-eq0 c =
+    let b = c.args.bits in
+    rw c.then_some.ensures (told_if (fraction b) 0 0 _ (λ h. zero-told b (omega arith) h) (λ h. low_told b (omega arith) (omega (arith, h))))
 
 pub returns-then-e-lt1023 : goal.returns-then-e-lt1023
-returns-then-e-lt1023 c = sym (part-told c.args.bits (omega arith) (omega arith))
-
-pub returns-then-e-gt1076 : goal.returns-then-e-gt1076
-returns-then-e-gt1076 c = sym (over_told c.args.bits (omega arith))
-
-pub returns-then-t-eq0-2 : goal.returns-then-t-eq0-2
-returns-then-t-eq0-2 c = sym (most_told c.args.bits (omega arith) (omega arith))
+returns-then-e-lt1023 c =
+    elim c.then-e-lt1023.branch [
+      | then-e-lt1023-via-then-e-lt1023 w ↦ sym (part-told c.args.bits (omega arith) (omega (arith, w.if-e-lt1023.true)))
+      | then-e-lt1023-via-else-e-lt1023+then-e-gt1076 w ↦ sym (over_told c.args.bits (omega (arith, w.if-e-gt1076.true)))
+    ]
 
 pub returns-then-e-eq1076 : goal.returns-then-e-eq1076
-returns-then-e-eq1076 c = sym (past_told c.args.bits (omega arith) (omega arith))
+returns-then-e-eq1076 c =
+    let b = c.args.bits in
+    rw c.then_some-then-e-eq1076.ensures (told_if (fraction b) 0 9007199254740992 _ (λ h. most_told b (omega arith) h) (λ h. past_told b (omega arith) (omega (arith, h))))
 
 pub returns-then-n-i : goal.returns-then-n-i
 returns-then-n-i c =

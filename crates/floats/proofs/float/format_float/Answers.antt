@@ -17,7 +17,7 @@ float_to_bits-x c = self c.args.x c.if-x.false
 
 pub put_bits-requires : goal.put_bits-requires
 put_bits-requires c =
-    (c.requires, subst (λ (y : Float). T (not (is_nan y))) (sym (bits_of_it c.args.x c.well_formed.1.1.0.1)) (self c.args.x c.if-x.false))
+    (subst (λ (y : Float). T (not (is_nan y))) (sym (bits_of_it c.args.x c.well_formed.1.1.0.1)) (self c.args.x c.if-x.false))
 
 pub returns : goal.returns
 returns c = rw (bits_of_it c.args.x c.well_formed.1.1.0.1) at c.put_bits.ensures

@@ -1,12 +1,6 @@
 -- `floats::float::put_signed` meets its contract. Assumes nothing.
-use Rattle.output.proofs.Laws.{wrote_then}
-use Rattle.numbers.specs.Decimal.{sign}
+use Rattle.numbers.proofs.DecimalLaws.{signed}
 use Rattle.floats.proofs.float.put_signed.Goals as goal
 
-pub returns-then-neg : goal.returns-then-neg
-unfolding sign
-returns-then-neg c = rw c.if-neg.true (wrote_then c.put-p.ensures c.format_whole.ensures)
-
 pub returns : goal.returns
-unfolding sign
-returns c = rw c.if-neg.false c.format_whole-2.ensures
+returns c = signed c.args.neg c.put_sign-p.ensures.minus c.put_sign-p.ensures.nothing c.format_whole.ensures

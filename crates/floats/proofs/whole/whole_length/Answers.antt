@@ -16,7 +16,7 @@ returns-then-w-eq1 c =
     let x = c.args in
     let m = c.significant_of in
     let d = c.digit_count-w.ensures.0 in
-    let e = c.digit_count-x.ensures.0 ∙ ap (count 19) (c.far-e.ensures ∙ ap (λ k. k - 1) c.digit_count.ensures.0) in
+    let e = c.digit_count-x.ensures.0 ∙ ap (count 19) (ap (λ k. k - 1) c.digit_count.ensures.0) in
     ap (λ k. 2 + k) e ∙ sym (length_one x.n m.result (omega (arith, c.if-n-eq0.false)) m.ensures (sym d ∙ c.if-w-eq1.true))
 
 pub returns : goal.returns
@@ -24,5 +24,5 @@ returns c =
     let x = c.args in
     let m = c.significant_of in
     let d = c.digit_count-w.ensures in
-    let e = c.digit_count-x.ensures.0 ∙ ap (count 19) (c.far-e.ensures ∙ ap (λ k. k - 1) c.digit_count.ensures.0) in
+    let e = c.digit_count-x.ensures.0 ∙ ap (count 19) (ap (λ k. k - 1) c.digit_count.ensures.0) in
     rw (d.0, e) (sym (length_more x.n m.result (omega (arith, c.if-n-eq0.false)) m.ensures (omega (arith, d, c.if-w-eq1.false))))

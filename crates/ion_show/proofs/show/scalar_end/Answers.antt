@@ -19,20 +19,20 @@ fits t at h e = (place-within encode_scalar t at (length t) _ (scalar_of (part t
 
 pub size_of-requires : goal.size_of-requires
 size_of-requires c =
-    let e = rw c.in-Is.is at c.scalar_at.ensures in
+    let e = rw c.in-Some.is at c.scalar_at.ensures in
     let h = fits c.args.body.now c.args.at c.requires e in
     omega arith
 
 pub overflow_add-result : goal.overflow_add-result
 overflow_add-result c =
-    let e = rw c.in-Is.is at c.scalar_at.ensures in
+    let e = rw c.in-Some.is at c.scalar_at.ensures in
     let h = fits c.args.body.now c.args.at c.requires e in
     let n = c.size_of.ensures in
     omega arith
 
 pub returns : goal.returns
 returns c =
-    let e = rw c.in-Is.is at c.scalar_at.ensures in
+    let e = rw c.in-Some.is at c.scalar_at.ensures in
     let h = fits c.args.body.now c.args.at c.requires e in
     let n = c.size_of.ensures in
     (omega arith, omega arith)

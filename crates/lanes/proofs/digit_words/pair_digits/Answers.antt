@@ -3,7 +3,7 @@ use mathlib.Core.Path.{◌≡◌, refl}
 use Prim.Native.Nat.{ℕ, ◌+◌, ◌-◌, ◌*◌, ◌/◌, ◌%◌, ◌≤◌, ◌<◌}
 use native.Mathlib.Omega.{arith}
 use Rattle.lanes.specs.DigitLanes.{packed, digit_word}
-use Rattle.lanes.proofs.DigitArith.{tens_of, remainders, lanes_word, word_small}
+use Rattle.lanes.proofs.DigitArith.{tens_of, lanes_word, word_small}
 use Rattle.lanes.proofs.digit_words.pair_digits.Goals as goal
 
 abbrev tens : ℕ → ℕ
@@ -20,13 +20,6 @@ whole h a b c d ha hb hc hd e = lanes_word a b c d h (tens (h * 103 / 1024)) e (
 
 under : (h t m : ℕ) → h ≡ 10 * t + m → 10 * t ≤ h
 under h t m e = omega arith
-
-pub overflow_sub-result : goal.overflow_sub-result
-overflow_sub-result c =
-    let h = c.args.h in
-    let p = c.requires in
-    let t = tens-is h p.a p.b p.c p.d p.small.0 p.small.1 p.small.2 p.small.3 p.whole in
-    under h (tens (h * 103 / 1024)) _ (remainders p.a p.b p.c p.d h (tens (h * 103 / 1024)) p.whole t)
 
 pub returns : goal.returns
 returns c =

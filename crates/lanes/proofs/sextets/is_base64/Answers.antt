@@ -4,30 +4,6 @@ use Rattle.lanes.specs.Lanes.{rep}
 use Rattle.lanes.proofs.LaneLaws.{lane_self, lane_and, lane_or, lane_not, lane_lt, low_add, other_add, unmarked}
 use Rattle.lanes.proofs.sextets.is_base64.Goals as goal
 
-pub overflow_add-m : goal.overflow_add-m
-unfolding rep
-overflow_add-m c = record { fits = lane_lt (low_add 0x3F c.args.x (omega arith) c.ranges.x.fits) }
-
-pub overflow_add-m-2 : goal.overflow_add-m-2
-unfolding rep
-overflow_add-m-2 c = record { fits = lane_lt (low_add 0x25 c.args.x (omega arith) c.ranges.x.fits) }
-
-pub overflow_add-m-3 : goal.overflow_add-m-3
-unfolding rep
-overflow_add-m-3 c = record { fits = lane_lt (low_add 0x1F c.args.x (omega arith) c.ranges.x.fits) }
-
-pub overflow_add-m-4 : goal.overflow_add-m-4
-unfolding rep
-overflow_add-m-4 c = record { fits = lane_lt (low_add 0x05 c.args.x (omega arith) c.ranges.x.fits) }
-
-pub overflow_add-m-5 : goal.overflow_add-m-5
-unfolding rep
-overflow_add-m-5 c = record { fits = lane_lt (low_add 0x50 c.args.x (omega arith) c.ranges.x.fits) }
-
-pub overflow_add-m-6 : goal.overflow_add-m-6
-unfolding rep
-overflow_add-m-6 c = record { fits = lane_lt (low_add 0x46 c.args.x (omega arith) c.ranges.x.fits) }
-
 pub overflow_add-m-7 : goal.overflow_add-m-7
 unfolding rep
 overflow_add-m-7 c = record { fits = lane_lt (other_add 0x2B c.args.x (omega arith) c.ranges.x.fits) }

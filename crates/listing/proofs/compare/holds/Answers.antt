@@ -16,5 +16,5 @@ loop-i-preserved c =
     let f = filled (length o) a.bytes.now a.rest in
     let h = c.loop-i-test.true in
     let n = filled-length (length o) a.bytes.now a.rest in
-    let e : get_or o l.i 0 ≡ get_or f l.i 0 = c.if-out-i.false ∙ c.due_at.ensures ∙ sym (filled_byte (length o) a.bytes.now a.rest l.i h) in
-    (omega arith, rw (add-one l.i, take-suc o l.i 0 h, take-suc f l.i 0 (omega arith), l.invariant.1, e))
+    let e : get_or o l.i 0 ≡ get_or f l.i 0 = c.if-b-due_at.false ∙ c.due_at.ensures ∙ sym (filled_byte (length o) a.bytes.now a.rest l.i h) in
+    rw (add-one l.i, take-suc o l.i 0 h, take-suc f l.i 0 (omega arith), l.invariant, e)

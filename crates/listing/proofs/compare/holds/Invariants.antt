@@ -1,12 +1,8 @@
 -- `listing::compare::holds` meets its contract. The invariant: so far the two are the same. Assumes nothing.
-use Prim.Native.Nat.{◌-◌, ◌≤◌}
 use mathlib.Core.Path.{◌≡◌}
 use lib.ListN.{length, take}
 use Rattle.listing.specs.Due.{filled}
 use Rattle.listing.proofs.compare.holds.Given as goal
 
 abbrev pub invariant-loop-i : goal.invariant-loop-i
-invariant-loop-i l = (l.i ≤ length l.out) × (take l.i l.out ≡ take l.i (filled (length l.out) l.bytes l.rest))
-
-abbrev pub decreases-loop-i : goal.decreases-loop-i
-decreases-loop-i l = length l.out - l.i
+invariant-loop-i l = take l.i l.out ≡ take l.i (filled (length l.out) l.bytes l.rest)

@@ -1,9 +1,12 @@
 -- `listing::report::count` meets its contract. Assumes nothing.
-use Rattle.listing.proofs.Counting.{counts, stays}
+use borrow.Author.Tests.{lt-ltb, le-ltb}
+use Rattle.listing.specs.Seen.{one_more}
 use Rattle.listing.proofs.report.count.Goals as goal
 
-pub returns-then-seen-which-lt4294967295-clause-seen_after : goal.returns-then-seen-which-lt4294967295-clause-seen_after
-returns-then-seen-which-lt4294967295-clause-seen_after c = counts c.args.seen.now c.args.which c.if-seen-which-lt4294967295.true
+pub returns-then-n-lt4294967295-clause-value : goal.returns-then-n-lt4294967295-clause-value
+unfolding one_more
+returns-then-n-lt4294967295-clause-value c = rw (lt-ltb _ _ c.if-n-lt4294967295.true)
 
-pub returns-else-seen-which-lt4294967295-clause-seen_after : goal.returns-else-seen-which-lt4294967295-clause-seen_after
-returns-else-seen-which-lt4294967295-clause-seen_after c = stays c.args.seen.now c.args.which c.if-seen-which-lt4294967295.false
+pub returns-else-n-lt4294967295-clause-value : goal.returns-else-n-lt4294967295-clause-value
+unfolding one_more
+returns-else-n-lt4294967295-clause-value c = rw (le-ltb _ _ c.if-n-lt4294967295.false)

@@ -8,21 +8,20 @@ use Rattle.text_rules.specs.Escapes.{clob_escape, clob_body}
 use Rattle.text_rules.proofs.ClobLaws.{clob-step}
 use Rattle.measure.proofs.clobs.clob_escapes.Goals as goal
 
-pub loop-i-init : goal.loop-i-init
-loop-i-init c = (omega arith, omega arith, omega arith)
-
-pub loop-i-preserved : goal.loop-i-preserved
-loop-i-preserved c =
-    let l = c.loop-i in
+pub loop-b-preserved : goal.loop-b-preserved
+loop-b-preserved c =
+    let l = c.loop-b in
+    let i = l.b-index in
     let s = c.args.s.now in
-    let e = ap length (clob-step s l.i c.loop-i-test.true) in
-    let p = length-append (clob_escape (get_or s l.i 0)) (clob_body (drop (l.i + 1) s)) in
-    (omega arith, omega (arith, c.clob_escape-c.ensures.1), omega (arith, e, p, c.clob_escape-c.ensures.0, l.invariant.2))
+    let e = ap length (clob-step s i (omega arith)) in
+    let p = length-append (clob_escape (get_or s i 0)) (clob_body (drop (i + 1) s)) in
+    let h = c.clob_escape-c.ensures in
+    record { most = omega (arith, h.1); sum = omega (arith, e, p, h.0, l.invariant.sum) }
 
 pub returns : goal.returns
 unfolding clob_body
 returns c =
-    let l = c.loop-i in
+    let l = c.loop-b in
     let s = c.args.s.now in
-    let e : drop l.i s ≡ [] = drop_of_length-le s {i = l.i} (omega arith) in
-    omega (arith, rw e at l.invariant.2, l.invariant.0)
+    let e : drop l.b-index s ≡ [] = drop_of_length-le s {i = l.b-index} (omega arith) in
+    omega (arith, rw e at l.invariant.sum)

@@ -27,7 +27,7 @@ returns-then-k-l-2 c =
     let h : x.w ≤ x.k = omega (arith, c.if-k-l.false) in
     let g : x.k ≤ x.w + 5 = omega (arith, c.if-k-l-2.true) in
     rw (form-zeros (digits x.n) x.w x.k h g)
-    (omega (arith, c.near.ensures, length-zeros x.n x.w x.k q.0 h), omega (arith, c.near.ensures, q.1))
+    (omega (arith, length-zeros x.n x.w x.k q.0 h), omega (arith, q.1))
 
 pub returns : goal.returns
 returns c =

@@ -9,20 +9,17 @@ use Rattle.lanes.proofs.LaneLaws.{or_left, or_right}
 use Rattle.text_rules.proofs.EscapesLaws.{body_raw}
 use Rattle.measure.proofs.escapes.any_suspect.Goals as goal
 
-pub loop-i-init : goal.loop-i-init
-loop-i-init c = (omega arith, λ e h. h)
-
-pub loop-i-preserved : goal.loop-i-preserved
-loop-i-preserved c =
-    let l = c.loop-i in
+pub loop-b-preserved : goal.loop-b-preserved
+loop-b-preserved c =
+    let l = c.loop-b in
     let s = c.args.s.now in
     let x = c.suspect-n in
-    (omega arith, λ e h. l.invariant.1 (omega (arith, or_left l.n x.result)) (body_raw s l.i c.loop-i-test.true (x.ensures (omega (arith, or_right l.n x.result))) h))
+    λ e h. l.invariant (omega (arith, or_left l.n x.result)) (body_raw s l.b-index (omega arith) (x.ensures (omega (arith, or_right l.n x.result))) h)
 
 pub returns : goal.returns
 unfolding text_body
 returns c =
-    let l = c.loop-i in
+    let l = c.loop-b in
     let s = c.args.s.now in
-    let e : drop l.i s ≡ [] = drop_of_length-le s {i = l.i} (omega arith) in
-    λ z. l.invariant.1 z (rw e)
+    let e : drop l.b-index s ≡ [] = drop_of_length-le s {i = l.b-index} (omega arith) in
+    λ z. l.invariant z (rw e)

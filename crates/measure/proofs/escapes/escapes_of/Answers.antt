@@ -19,7 +19,7 @@ loop-i-init c =
 pub overflow_add-c : goal.overflow_add-c
 overflow_add-c c =
     let a = c.args in
-    record { fits = omega (arith, escapes_most a.s.now (min c.loop-i.i a.n) c.loop-i.c c.loop-i.invariant.1, c.escapes_add-c.ensures, word_body_most c.at_most_8.result c.word_at.result, c.at_most_8.ensures, c.requires) }
+    record { fits = omega (arith, escapes_most a.s.now (min c.loop-i.i a.n) c.loop-i.c c.loop-i.invariant.1, c.escapes_add-c.ensures, word_body_most c.min.result c.word_at.result, c.min.ensures, c.requires) }
 
 pub loop-i-preserved : goal.loop-i-preserved
 loop-i-preserved c =
@@ -27,10 +27,10 @@ loop-i-preserved c =
     let a = c.args in
     let s = a.s.now in
     let w = c.word_at in
-    let k = c.at_most_8.result in
+    let k = c.min.result in
     let m : min l.i a.n ≡ l.i = omega (arith, c.loop-i-test.true) in
-    let p : min (l.i + 8) a.n ≡ l.i + k = omega (arith, c.at_most_8.ensures, c.loop-i-test.true) in
-    let e : le_bytes k w.result ≡ take k (drop l.i s) = word-part s l.i k w.result (omega (arith, c.at_most_8.ensures)) w.ensures in
+    let p : min (l.i + 8) a.n ≡ l.i + k = omega (arith, c.min.ensures, c.loop-i-test.true) in
+    let e : le_bytes k w.result ≡ take k (drop l.i s) = word-part s l.i k w.result (omega (arith, c.min.ensures)) w.ensures in
     (omega (arith, c.loop-i-test.true), rw p (body_more s l.i k l.c c.escapes_add-c.result w.result (rw m at l.invariant.1) e c.escapes_add-c.ensures))
 
 pub returns : goal.returns

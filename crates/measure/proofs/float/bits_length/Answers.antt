@@ -32,24 +32,24 @@ signed b n w h m e = rw (e, bits_text b n h m) (sym (length-append (sign (leb 0x
 
 pub overflow_add-result : goal.overflow_add-result
 overflow_add-result c =
-    let m : magnitude (of_bits binary64 c.args.b) ≡ some c.in-Is.n = sym (rw c.in-Is.is at c.magnitude_of.ensures) in
+    let m : magnitude (of_bits binary64 c.args.b) ≡ some c.in-Some.n = sym c.in-Some.ensures in
     let l = whole-length_most _ (magnitude_most _ _ m) in
     let e = c.whole_length-w.ensures in
     record { fits = omega arith }
 
 pub returns-then-b-lt9223372036854775808 : goal.returns-then-b-lt9223372036854775808
 unfolding sign
-returns-then-b-lt9223372036854775808 c = let e = rw (lt-leb _ _ c.if-b-lt9223372036854775808.true) at (signed c.args.b c.in-Is.n _ c.ranges.b.fits (sym (rw c.in-Is.is at c.magnitude_of.ensures)) c.whole_length-w.ensures) in omega arith
+returns-then-b-lt9223372036854775808 c = let e = rw (lt-leb _ _ c.if-b-lt9223372036854775808.true) at (signed c.args.b c.in-Some.n _ c.ranges.b.fits (sym c.in-Some.ensures) c.whole_length-w.ensures) in omega arith
 
 pub returns-else-b-lt9223372036854775808 : goal.returns-else-b-lt9223372036854775808
 unfolding sign
-returns-else-b-lt9223372036854775808 c = rw (le-leb _ _ c.if-b-lt9223372036854775808.false) at (signed c.args.b c.in-Is.n _ c.ranges.b.fits (sym (rw c.in-Is.is at c.magnitude_of.ensures)) c.whole_length-w.ensures)
+returns-else-b-lt9223372036854775808 c = rw (le-leb _ _ c.if-b-lt9223372036854775808.false) at (signed c.args.b c.in-Some.n _ c.ranges.b.fits (sym c.in-Some.ensures) c.whole_length-w.ensures)
 
 pub returns-then-b-eq9218868437227405312 : goal.returns-then-b-eq9218868437227405312
 returns-then-b-eq9218868437227405312 c = infinity c.args.b c.ranges.b.fits c.if-b-eq9218868437227405312.true
 
 pub returns-else-b-eq9218868437227405312 : goal.returns-else-b-eq9218868437227405312
 returns-else-b-eq9218868437227405312 c =
-    let v = rw c.in-No.is at c.magnitude_of.ensures in
+    let v = c.in-None.ensures in
     let n = c.if-b-eq9218868437227405312.false in
     rw (no_text c.args.b c.ranges.b.fits c.requires (sym v) (λ i. omega arith) (λ i. omega arith))

@@ -2,7 +2,7 @@
 -- Assumes nothing.
 use mathlib.Core.Path.{◌≡◌}
 use mathlib.Core.Bool.{false}
-use Prim.Native.Nat.{◌+◌, ◌*◌, ◌≤◌}
+use Prim.Native.Nat.{◌*◌, ◌-◌, ◌≤◌}
 use Rattle.tape.specs.Bytes.{part}
 use Rattle.tape.specs.Tape.{syms_of}
 use Rattle.tape.specs.CheckSteps.{syms_front}
@@ -10,10 +10,10 @@ use Rattle.measure.specs.Steps.{quoting}
 use Rattle.measure.proofs.PartLaws.{noted_from}
 use Rattle.measure.proofs.parts.notes_from.Given as goal
 
-abbrev pub invariant-loop-left : goal.invariant-loop-left
-invariant-loop-left l = ((1 ≤ l.p) × (l.p ≤ l.end) × (l.left ≤ l.n) × (l.length + 4200000 * l.left ≤ 4200000 * l.n))
-    × (syms_front l.p l.numbered (syms_of l.left (part l.tape l.p l.end)) ≡ syms_front l.at false (syms_of l.n (part l.tape l.at l.end)))
-    × (noted_from (quoting l.quotes) l.length (syms_of l.left (part l.tape l.p l.end)) ≡ noted_from (quoting l.quotes) 0 (syms_of l.n (part l.tape l.at l.end)))
-
-abbrev pub decreases-loop-left : goal.decreases-loop-left
-decreases-loop-left l = l.left
+abbrev pub invariant-loop : goal.invariant-loop
+invariant-loop l = record {
+  within : l.p ≤ l.end;
+  most : l.length ≤ 4200000 * l.counter;
+  front : syms_front l.p l.numbered (syms_of (l.n - l.counter) (part l.tape l.p l.end)) ≡ syms_front l.at false (syms_of l.n (part l.tape l.at l.end));
+  length : noted_from (quoting l.quotes) l.length (syms_of (l.n - l.counter) (part l.tape l.p l.end)) ≡ noted_from (quoting l.quotes) 0 (syms_of l.n (part l.tape l.at l.end));
+}

@@ -50,15 +50,15 @@ pub returns-in_default-s : goal.returns-in_default-s
 returns-in_default-s c =
     let a = c.args in
     let l = part a.tape.now a.at a.end in
-    let e = rw c.in-Is.is at (c.float_of.ensures l) in
+    let e = rw c.in-Some.is at (c.float_of.ensures l) in
     let all : Bytes a.tape.now = λ i. (c.type_inv.tape i).fits in
     let k = kind-is a.tape.now a.at a.end c.requires.at_le_end (trailed c.requires.end_in_bounds) c.requires.bound all _ _ ((float_read c.args.tape.now c.args.at c.args.end c.requires.at_le_end (trailed c.requires.end_in_bounds) c.requires.bound c.if-k-eq3.true).1 ∙ ap float_as (sym c.u64_at.ensures) ∙ sym e) in
-    absurd (unreached c.in-Is.s _ _ c.if-k-eq3.true k c.in_default-s.not-Float)
+    absurd (unreached c.in-Some.s _ _ c.if-k-eq3.true k c.in_default-s.not-Float)
 
 pub returns-then-k-eq3 : goal.returns-then-k-eq3
 unfolding scalar_text
 returns-then-k-eq3 c =
-    let e = rw c.in-Float.is at (rw c.in-Is.is at (c.float_of.ensures [])) in
+    let e = rw c.in-Float.is at (rw c.in-Some.is at (c.float_of.ensures [])) in
     rw ((float_read c.args.tape.now c.args.at c.args.end c.requires.at_le_end (trailed c.requires.end_in_bounds) c.requires.bound c.if-k-eq3.true).1 ∙ ap float_as (sym c.u64_at.ensures) ∙ sym e) c.float_length.ensures
 
 pub symbol_length_at-requires : goal.symbol_length_at-requires

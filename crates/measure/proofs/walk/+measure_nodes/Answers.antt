@@ -12,6 +12,8 @@ use Rattle.tape.specs.CheckSteps.{end_of, scalar_code, name_number_in, frame_of,
 use Rattle.tape.specs.declared.Frame.{Frame}
 use Rattle.tape.proofs.Parts.{part-first, trailed}
 use Rattle.tape.proofs.CodeFacts.{end_read}
+use Rattle.tape.proofs.CodeWalk.{fault_some}
+use Rattle.std.proofs.lemmas.Result.{err_from_is_err_and}
 use Rattle.tape.proofs.Turns.{Refused, TreeTurn, name-refused, notes-refused, end_refused, size-refused, span-turn, blob-refused, other-refused, marker_refused}
 use Rattle.tape.proofs.check.behind_name.Reads as behind-name
 use Rattle.tape.proofs.check.frame_of.Reads as frame-of
@@ -32,8 +34,9 @@ use Rattle.measure.proofs.parts.untold_length.Reads as untold-length
 use Rattle.measure.proofs.walk.add_body.Reads as add_body
 use Rattle.measure.proofs.walk.measure_nodes.Reads as own
 use Rattle.measure.proofs.walk.+measure_nodes.Lts-measure_nodes as lts
+use Rattle.measure.proofs.walk.+measure_nodes.Tie as tie
 use Rattle.measure.proofs.walk.+measure_nodes.Goals as goal
-use Rattle.measure.proofs.walk.+measure_nodes.Goals.{then-name_number, else-name_number, then-tape-q-eq13+else-f-eq0+else-f-end+then-f, then-tape-q-eq13+else-f-eq0+else-f-end+else-f, else-tape-q-eq13, then-l-eq0, else-l-eq0, then-is_number, else-is_number, then-k-eq9, else-k-eq9+else-r-ne0}
+use Rattle.measure.proofs.walk.+measure_nodes.Goals.{then-name_number, else-name_number, then-tape-q-eq13+in-Some+else-notes-end+then-notes, then-tape-q-eq13+in-Some+else-notes-end+else-notes, else-tape-q-eq13, then-l-eq0, else-l-eq0, then-is_number, else-is_number, then-k-eq9, else-k-eq9+in_ok-measure_nodes}
 
 abbrev callees : ℕ → lts.Claims
 callees t = (
@@ -59,6 +62,10 @@ callees t = (
   frame-of.Learnt,
   goal.measure_nodes-below t,
   own.Post,
+  tie.Asked-measure_nodes-11,
+  tie.Learnt-measure_nodes-11,
+  tie.Asked-measure_nodes-12,
+  tie.Learnt-measure_nodes-12,
   blob-length.Asked,
   blob-length.Learnt,
   is_free.Asked,
@@ -83,14 +90,10 @@ module _ {quoted : Bool} {s : List ℕ} {from e : ℕ} {k : Frame} {d : ℕ} {su
 
   -- an answer that is a problem
   fails : {r g : ℕ} → r ≡ g → Refused d k s at e g → r ≡ (walk d k (part s from e)).1
-  fails q u = (refuse v {A = ℕ} {B = ℕ} {C = ℕ} q u).0
+  fails q u = refuse v q u
 
 before-end : {d : ℕ} {k : Frame} {s : List ℕ} {at e q : ℕ} → Named d k s at e q → (q ≡ e → ⊥) → q < e
 before-end u n = let w = (name-within u).1 in omega arith
-
--- the length of annotations that are not refused
-notes-text : {p n m : ℕ} → (0 < p → n ≡ m) → (p ≡ 0 → ⊥) → n ≡ m
-notes-text f z = f (omega arith)
 
 -- ---- a child behind its front
 
@@ -150,18 +153,18 @@ module _ (t : ℕ) (c : At-Joined-tape-q-eq13 t) (b : Bytes c.args.tape.now) whe
       let l = with-name in
       let more = before-end l c.if-q-end.false in
       elim c.if-tape-q-eq13.branch [
-        | then-tape-q-eq13+else-f-eq0+else-f-end+then-f w ↦ (
-            let o : Noted (part tape behind end) behind w.notes_at-f.result.at w.notes_at-f.result.numbered = notes-told _ _ _ _ w.if-f-eq0.false w.notes_at-f.ensures.front in
+        | then-tape-q-eq13+in-Some+else-notes-end+then-notes w ↦ (
+            let o : Noted (part tape behind end) behind w.in-Some.notes.end w.in-Some.notes.numbered = notes-told _ _ _ _ w.in-Some.ensures.front in
             let x = w.n-is in
-            let y = notes-text w.notes_at-f.ensures.length w.if-f-eq0.false in
+            let y = w.in-Some.ensures.length in
             let g = note-set c.if-name_number.seen name-met.long (noted_here l o more w.if-tape-q-eq13.true) in
-            fronted l o quoted w.p-is w.if-f-end.false a (omega arith) name-met (number-set g w.if-f.true w.seen-is))
-        | then-tape-q-eq13+else-f-eq0+else-f-end+else-f w ↦ (
-            let o : Noted (part tape behind end) behind w.notes_at-f.result.at w.notes_at-f.result.numbered = notes-told _ _ _ _ w.if-f-eq0.false w.notes_at-f.ensures.front in
+            fronted l o quoted w.p-is w.if-notes-end.false a (omega arith) name-met (number-set g w.if-notes.true w.seen-is))
+        | then-tape-q-eq13+in-Some+else-notes-end+else-notes w ↦ (
+            let o : Noted (part tape behind end) behind w.in-Some.notes.end w.in-Some.notes.numbered = notes-told _ _ _ _ w.in-Some.ensures.front in
             let x = w.n-is in
-            let y = notes-text w.notes_at-f.ensures.length w.if-f-eq0.false in
+            let y = w.in-Some.ensures.length in
             let g = note-set c.if-name_number.seen name-met.long (noted_here l o more w.if-tape-q-eq13.true) in
-            fronted l o quoted w.p-is w.if-f-end.false a (omega arith) name-met (number-left g w.if-f.false w.seen-is))
+            fronted l o quoted w.p-is w.if-notes-end.false a (omega arith) name-met (number-left g w.if-notes.false w.seen-is))
         | else-tape-q-eq13 w ↦ bare_fronted l quoted w.p-is more w.if-tape-q-eq13.false a w.n-is name-met w.seen-is
       ]
 
@@ -222,36 +225,36 @@ bounds-tape-q t c =
     let m = before-end u c.if-q-end.false in
     omega arith
 
-pub notes_at-f-requires-clause-at_lt_end : goal.notes_at-f-requires-clause-at_lt_end
-notes_at-f-requires-clause-at_lt_end t c =
+pub notes_at-requires-clause-at_lt_end : goal.notes_at-requires-clause-at_lt_end
+notes_at-requires-clause-at_lt_end t c =
     let v = child c.loop-at.invariant (λ i. (c.type_inv.tape i).fits) c.requires.end_in_bounds c.requires.tape_len_bound c.if-depth-eq0.false c.requires.depth_bound c.requires.grown_2 c.loop-at-test.true in
     let u = named v _ c.behind_name-q.ensures c.if-q-end.false in
     before-end u c.if-q-end.false
 
-pub returns-then-f-eq0-clause-fault : goal.returns-then-f-eq0-clause-fault
-returns-then-f-eq0-clause-fault t c =
+pub returns-in_default-clause-fault : goal.returns-in_default-clause-fault
+returns-in_default-clause-fault t c =
     let a = c.args in
     let v = child c.loop-at.invariant (λ i. (c.type_inv.tape i).fits) c.requires.end_in_bounds c.requires.tape_len_bound c.if-depth-eq0.false c.requires.depth_bound c.requires.grown_2 c.loop-at-test.true in
     let u = named v _ c.behind_name-q.ensures c.if-q-end.false in
     let q = c.behind_name-q.result in
     fails v refl (notes-refused a.depth a.frame a.tape.now c.loop-at.at a.end v.body.opened v.left (trailed v.body.trails) false false q u.name
-    (notes_bad q false (name_number_in a.frame (part a.tape.now c.loop-at.at a.end)) (notes_of (part a.tape.now q a.end)) _ _ c.if-f-eq0.true c.notes_at-f.ensures.front))
+    (notes_bad q false (name_number_in a.frame (part a.tape.now c.loop-at.at a.end)) (notes_of (part a.tape.now q a.end)) c.in_default.ensures.front))
 
-pub returns-then-f-end-clause-fault : goal.returns-then-f-end-clause-fault
-returns-then-f-end-clause-fault t c =
+pub returns-then-notes-end-clause-fault : goal.returns-then-notes-end-clause-fault
+returns-then-notes-end-clause-fault t c =
     let a = c.args in
     let v = child c.loop-at.invariant (λ i. (c.type_inv.tape i).fits) c.requires.end_in_bounds c.requires.tape_len_bound c.if-depth-eq0.false c.requires.depth_bound c.requires.grown_2 c.loop-at-test.true in
     let u = named v _ c.behind_name-q.ensures c.if-q-end.false in
-    let o = notes-told _ _ _ _ c.if-f-eq0.false c.notes_at-f.ensures.front in
-    fails v refl (end_refused a.depth a.frame a.tape.now c.loop-at.at a.end v.body.opened v.left (trailed v.body.trails) (head-seen u o) c.if-f-end.true)
+    let o = notes-told _ _ _ _ c.in-Some.ensures.front in
+    fails v refl (end_refused a.depth a.frame a.tape.now c.loop-at.at a.end v.body.opened v.left (trailed v.body.trails) (head-seen u o) c.if-notes-end.true)
 
 pub overflow_add-n-then-tape-q-eq13 : goal.overflow_add-n-then-tape-q-eq13
 overflow_add-n-then-tape-q-eq13 t c =
     let q = quoting c.args.quotes in
     let v = child c.loop-at.invariant (λ i. (c.type_inv.tape i).fits) c.requires.end_in_bounds c.requires.tape_len_bound c.if-depth-eq0.false c.requires.depth_bound c.requires.grown_2 c.loop-at-test.true in
     let u = named v _ c.behind_name-q.ensures c.if-q-end.false in
-    let o = notes-told _ _ _ _ c.if-f-eq0.false c.notes_at-f.ensures.front in
-    let y = notes-text c.notes_at-f.ensures.length c.if-f-eq0.false in
+    let o = notes-told _ _ _ _ c.in-Some.ensures.front in
+    let y = c.in-Some.ensures.length in
     record { fits = omega (arith, texts_most v, end_most v, name_short u q, name-within u, notes_short u o q, o.read.place, (head-seen u o).within, c.field_name_length-n.ensures, y) }
 
 pub overflow_add-count : goal.overflow_add-count
@@ -419,8 +422,8 @@ pub overflow_sub-depth : goal.overflow_sub-depth
 overflow_sub-depth t c =
     let o = c.if-depth-eq0.false in omega arith
 
-pub measure_nodes-r-requires : goal.measure_nodes-r-requires
-measure_nodes-r-requires t c =
+pub measure_nodes-requires : goal.measure_nodes-requires
+measure_nodes-requires t c =
     let b : Bytes c.args.tape.now = (λ i. (c.type_inv.tape i).fits) in
     let j : At-Joined-tape-q-eq13 t = c.before.before.before.before.before.before.before.before.before.before.before in
     let v = this t j b in
@@ -434,19 +437,20 @@ measure_nodes-r-requires t c =
     let i = h.head.behind in
     (omega arith, (u.inner, (omega arith, (v.body.most, (omega arith, (v.walking.left.long, (h.flags.long, (c.requires.quotes_value, sums_most v (omega arith)))))))))
 
-pub returns-then-r-ne0-clause-fault : goal.returns-then-r-ne0-clause-fault
-returns-then-r-ne0-clause-fault t c =
+pub returns-in_err-measure_nodes-clause-fault : goal.returns-in_err-measure_nodes-clause-fault
+returns-in_err-measure_nodes-clause-fault t c =
     let b : Bytes c.args.tape.now = (λ i. (c.type_inv.tape i).fits) in
-    let j : At-Joined-tape-q-eq13 t = c.before.before.before.before.before.before.before.before.before.before.before.before.before in
+    let j : At-Joined-tape-q-eq13 t = c.before.before.before.before.before.before.before.before.before.before.before.before.before.before.before in
     let v = this t j b in
     let h = headed t j b in
-    let r = c.measure_nodes-r.ensures.fault in
-    fails v r (container_refused v h (opens t j b c.span-size.result c.if-k-lt9.false c.if-k-lt13.true c.if-k-eq9.false c.span-size.ensures c.if-size-eq0.false _ c.frame_of.ensures) (λ z. c.if-r-ne0.true (r ∙ z)))
+    let r = c.in_err-measure_nodes.ensures.fault in
+    let p = err_from_is_err_and c.from_residual.result c.from_residual.ensures.1 in
+    rw (p.1, p.2) (fails v r (container_refused v h (opens t j b c.span-size.result c.if-k-lt9.false c.if-k-lt13.true c.if-k-eq9.false c.span-size.ensures c.if-size-eq0.false _ c.frame_of.ensures) (λ z. fault_some c.in_err-measure_nodes.field-0.0 (r ∙ z))))
 
 pub overflow_add-n-else-k-eq9 : goal.overflow_add-n-else-k-eq9
 overflow_add-n-else-k-eq9 t c =
     let b : Bytes c.args.tape.now = (λ i. (c.type_inv.tape i).fits) in
-    let j : At-Joined-tape-q-eq13 t = c.before.before.before.before.before.before.before.before.before.before.before.before.before.before in
+    let j : At-Joined-tape-q-eq13 t = c.before.before.before.before.before.before.before.before.before.before.before.before.before.before.before in
     let v = this t j b in
     let h = headed t j b in
     record { fits = omega (arith, front_most v h, end_most v, h.more) }
@@ -458,11 +462,11 @@ overflow_add-sums t c =
 pub overflow_add-sums-else-k-eq9 : goal.overflow_add-sums-else-k-eq9
 overflow_add-sums-else-k-eq9 t c =
     let b : Bytes c.args.tape.now = (λ i. (c.type_inv.tape i).fits) in
-    let j : At-Joined-tape-q-eq13 t = c.before.before.before.before.before.before.before.before.before.before.before.before.before.before.before.before in
+    let j : At-Joined-tape-q-eq13 t = c.before.before.before.before.before.before.before.before.before.before.before.before.before.before.before.before.before in
     let v = this t j b in
     let h = headed t j b in
     let u = opens t j b c.span-size.result c.if-k-lt9.false c.if-k-lt13.true c.if-k-eq9.false c.span-size.ensures c.if-size-eq0.false _ c.frame_of.ensures in
-    let g = container_most v h u (c.measure_nodes-r.ensures.grown c.if-r-ne0.false) in
+    let g = container_most v h u (c.in_ok-measure_nodes.ensures.grown) in
     record { fits = omega (arith, g, u.within, end_most v, v.body.low) }
 
 pub overflow_add-at-then-k-lt13 : goal.overflow_add-at-then-k-lt13
@@ -495,11 +499,10 @@ loop-at-preserved-then-k-lt13 t c =
           let r = w.untold_length-n-then-k-eq9.ensures in
           let n = w.n-is in
           rw (w.seen-is, w.sums-is) (sized_on v h (omega arith) (λ i. omega arith) c.span-size.ensures c.if-size-eq0.false (omega arith)))
-      | else-k-eq9+else-r-ne0 w ↦ (
+      | else-k-eq9+in_ok-measure_nodes w ↦ (
           let u = opens t j b c.span-size.result c.if-k-lt9.false c.if-k-lt13.true w.if-k-eq9.false c.span-size.ensures c.if-size-eq0.false _ w.frame_of.ensures in
-          let r = w.measure_nodes-r.ensures in
-          let z = w.if-r-ne0.false in
-          rw (w.n-is, w.seen-is, w.sums-is) (container_on v h u w.frame_of.ensures (sym r.fault ∙ z) (r.sums z) (r.seen z) (r.grown z)))
+          let r = w.in_ok-measure_nodes.ensures in
+          rw (w.n-is, w.seen-is, w.sums-is) (container_on v h u w.frame_of.ensures (sym r.fault) r.sums r.seen r.grown))
     ]
 
 pub span-size-requires-then-k-eq15-clause-at_le_end : goal.span-size-requires-then-k-eq15-clause-at_le_end
@@ -638,4 +641,4 @@ add_body-requires-clause-sums_len t c =
 pub returns : goal.returns
 returns t c =
     let e = ended (body c.loop-at.invariant (λ i. (c.type_inv.tape i).fits) c.requires.end_in_bounds c.requires.tape_len_bound c.if-depth-eq0.false c.requires.depth_bound c.requires.grown_2) c.loop-at.invariant c.loop-at-test.false _ c.add_body.ensures in
-    record { fault = e.0; sums = e.1.0; seen = e.1.1.0; grown = e.1.1.1 }
+    record { fault = e.0; sums = e.1; seen = e.2; grown = e.3 }

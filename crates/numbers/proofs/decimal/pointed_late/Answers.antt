@@ -15,8 +15,8 @@ returns c =
     let q = c.requires in
     let d = c.eight_digits in
     let e = c.eight_digits-l in
-    let f = c.store_8 in
-    let g = c.store_8-2 in
+    let f = c.store in
+    let g = c.store-2 in
     let h = c.store_last in
     point_late x.buf.now f.new.buf g.new.buf h.new.buf x.pos x.n d.result e.result x.w x.k (omega arith) q.0 q.1 q.2 q.3 q.4 d.ensures e.ensures f.ensures g.ensures h.ensures
 

@@ -15,7 +15,7 @@ returns c =
     let q = c.requires in
     let d = c.eight_digits in
     let e = c.eight_digits-2 in
-    point_long x.buf.now c.store_8.new.buf c.store_8-2.new.buf c.store_low.new.buf x.pos x.n d.result e.result x.w x.k (omega arith) q.0 q.1 q.2 q.4 d.ensures e.ensures c.store_8.ensures c.store_8-2.ensures c.store_low.ensures
+    point_long x.buf.now c.store.new.buf c.store-2.new.buf c.store_low.new.buf x.pos x.n d.result e.result x.w x.k (omega arith) q.0 q.1 q.2 q.4 d.ensures e.ensures c.store.ensures c.store-2.ensures c.store_low.ensures
 
 pub shape_of-buf : goal.shape_of-buf
 shape_of-buf c = ap length (returns c) ∙ simp length-sets

@@ -1,22 +1,17 @@
 -- `numbers::decimal::put_above` meets its contract: each form has its law in DecimalLaws. Assumes nothing.
 use Prim.Native.Nat.{◌-◌}
-use mathlib.Core.Path.{◌≡◌, ap, ◌∙◌}
 use native.Mathlib.Omega.{arith}
-use lib.IntN.{pos}
 use mir.Syntax.{w64}
-use mir.Val.{SFits}
+use mir.ValLaws.{to_z_pos}
 use Rattle.output.proofs.Laws.{wrote_then}
 use Rattle.text_rules.specs.Digits.{digits}
-use Rattle.numbers.proofs.Signed.{read_back}
 use Rattle.numbers.proofs.DecimalLaws.{form_long, form-point, form-above}
 use Rattle.numbers.proofs.decimal.put_above.Goals as goal
 
 pub returns-then-w-gt6 : goal.returns-then-w-gt6
 returns-then-w-gt6 c =
     let x = c.args in
-    let e : c.plus.result ≡ pos (x.w - 1) = c.plus.ensures ∙ ap pos c.far.ensures in
-    let f : SFits w64 (pos (x.w - 1)) = record { sfits = omega (arith, c.requires.2) } in
-    rw (form_long (digits x.n) x.w x.e c.if-e-eq0.true c.if-w-gt6.true) (rw (read_back w64 c.plus.result (pos (x.w - 1)) e f) at c.write_scientific.ensures)
+    rw (form_long (digits x.n) x.w x.e c.if-e-eq0.true c.if-w-gt6.true) (rw (to_z_pos w64 (x.w - 1) (omega (arith, c.requires))) at c.write_scientific.ensures)
 
 pub returns-then-e-eq0 : goal.returns-then-e-eq0
 returns-then-e-eq0 c =

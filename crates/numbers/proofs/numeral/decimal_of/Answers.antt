@@ -10,14 +10,12 @@ use Rattle.numbers.proofs.NumeralLaws.{decimal_some, decimal_none}
 use Rattle.text_rules.proofs.ReadingLaws.{refused}
 use Rattle.numbers.proofs.numeral.decimal_of.Goals as goal
 
-pub returns-in-By : goal.returns-in-By
+pub returns-in_err-x : goal.returns-in_err-x
+returns-in_err-x c = rw c.from_residual.ensures (λ t h. refused (decimal_none _ _ _ _ _ (omega arith) (sym c.in_err-x.ensures)))
+
+pub returns : goal.returns
 unfolding shifted
-returns-in-By c =
-    let s = rw c.in-By.is at c.exponent_of.ensures in
+returns c =
+    let s = c.in_ok-x.ensures in
     let f = i32_some _ _ (sym s) in
     λ t h. record { is = decimal_some _ _ _ _ _ _ (omega arith) (sym s ∙ ap some (sym (to_z-of_z w32 _ f))); place = (omega arith, h) }
-
-pub returns-in-Out : goal.returns-in-Out
-returns-in-Out c =
-    let s = rw c.in-Out.is at c.exponent_of.ensures in
-    λ t h. refused (decimal_none _ _ _ _ _ (omega arith) (sym s))

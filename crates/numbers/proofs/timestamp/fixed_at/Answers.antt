@@ -1,88 +1,61 @@
--- `timestamp::fixed_at` meets its contract. The loop's invariant: what the digits left over say decides the whole. Assumes nothing.
-use mathlib.Core.Path.{◌≡◌, ap, ◌∙◌}
-use mathlib.Core.Bool.{true}
-use Prim.Native.Nat.{ℕ, suc, ◌+◌, ◌-◌, ◌*◌, ◌^◌, ◌≤◌, ◌<◌}
-use native.Mathlib.Nat.{pow-suc, pow-le-pow_right, add-zero, sub-zero, add_assoc}
-use native.Mathlib.Numerals.{add-one}
+-- `timestamp::fixed_at` meets its contract. Assumes nothing.
+use mathlib.Core.Path.{◌≡◌, sym, ap, ◌∙◌}
+use Prim.Native.Nat.{ℕ, suc, ◌+◌, ◌-◌, ◌^◌, ◌≤◌}
+use native.Mathlib.Nat.{pow-suc, pow-le-pow_right}
 use native.Mathlib.Omega.{arith}
 use lib.Dec.{lit<}
-use lib.ListN.{length, drop, get_or}
-use borrow.Author.Tests.{le-leb, lt-leb}
-use Rattle.text_rules.specs.Digits.{is_digit}
+use lib.ListN.{drop}
+use Rattle.text_rules.proofs.DigitLaws.{digit_range}
 use Rattle.numbers.specs.TimestampRead.{joined}
-use Rattle.numbers.proofs.TimestampPlaces.{joined-out, joined-stop, joined-turn}
+use Rattle.numbers.proofs.TimestampPlaces.{joined-stop, joined-turn, digit_here}
 use Rattle.text_rules.proofs.ReadingLaws.{refused}
-use borrow.Author.Rules.{rules}
 use Rattle.numbers.proofs.timestamp.fixed_at.Goals as goal
 
-pub loop-j-init : goal.loop-j-init
-loop-j-init c =
+pub returns-then-not-stands_digit : goal.returns-then-not-stands_digit
+returns-then-not-stands_digit c =
+    let l = c.loop-i in
     let x = c.args in
-    (omega arith, search rules, lit< tt, rw (add-zero x.at, sub-zero x.w))
+    let e : x.at + x.w - l.i ≡ suc (x.at + x.w - l.i - 1) = omega (arith, c.loop-i-test.true) in
+    refused (l.invariant.2 ∙ ap (λ (k : ℕ). joined l.n k (drop l.i x.text.now)) e ∙ joined-stop _ l.n _ (sym c.stands_digit.ensures ∙ c.if-not-stands_digit.true))
 
-pub returns-then-i-text : goal.returns-then-i-text
-returns-then-i-text c =
-    let l = c.loop-j in
-    let x = c.args in
-    let e : x.w - l.j ≡ suc (x.w - l.j - 1) = omega (arith, c.loop-j-test.true) in
-    refused (l.invariant.3 ∙ ap (λ (k : ℕ). joined l.n k (drop (x.at + l.j) x.text.now)) e ∙ joined-out x.text.now (x.at + l.j) l.n _ c.if-i-text.true)
+pub bounds-text-i : goal.bounds-text-i
+bounds-text-i c = (digit_here c.args.text.now c.loop-i.i (sym c.stands_digit.ensures ∙ c.if-not-stands_digit.false)).0
 
-pub returns-then-b-lt48 : goal.returns-then-b-lt48
-unfolding is_digit
-returns-then-b-lt48 c =
-    let l = c.loop-j in
-    let x = c.args in
-    let t = x.text.now in
-    let i = x.at + l.j in
-    let e : x.w - l.j ≡ suc (x.w - l.j - 1) = omega (arith, c.loop-j-test.true) in
-    let lt : i < length t = omega (arith, c.if-i-text.false) in
-    refused (l.invariant.3 ∙ ap (λ (k : ℕ). joined l.n k (drop i t)) e ∙ joined-stop t i l.n _ lt (simp (lt-leb 48 (get_or t i 0) c.if-b-lt48.true)))
-
-pub returns-then-b-gt57 : goal.returns-then-b-gt57
-unfolding is_digit
-returns-then-b-gt57 c =
-    let l = c.loop-j in
-    let x = c.args in
-    let t = x.text.now in
-    let i = x.at + l.j in
-    let e : x.w - l.j ≡ suc (x.w - l.j - 1) = omega (arith, c.loop-j-test.true) in
-    let lt : i < length t = omega (arith, c.if-i-text.false) in
-    refused (l.invariant.3 ∙ ap (λ (k : ℕ). joined l.n k (drop i t)) e ∙ joined-stop t i l.n _ lt (simp (le-leb 48 (get_or t i 0) c.if-b-lt48.false, lt-leb (get_or t i 0) 57 c.if-b-gt57.true)))
+pub overflow_sub-n : goal.overflow_sub-n
+overflow_sub-n c = (digit_range _ (digit_here c.args.text.now c.loop-i.i (sym c.stands_digit.ensures ∙ c.if-not-stands_digit.false)).1).0
 
 pub overflow_mul-n : goal.overflow_mul-n
 overflow_mul-n c =
-    let l = c.loop-j in
-    let m : l.j ≤ 9 = omega arith in
-    let p : 10 ^ l.j ≤ 10 ^ 9 = pow-le-pow_right (lit< tt) m in
-    record { fits = omega (arith, l.invariant.2) }
+    let l = c.loop-i in
+    let k : l.i - c.args.at ≤ 9 = omega (arith, c.loop-i-test.true, c.requires.1) in
+    let p : 10 ^ (l.i - c.args.at) ≤ 10 ^ 9 = pow-le-pow_right (lit< tt) k in
+    record { fits = omega (arith, l.invariant.1) }
 
 pub overflow_add-n : goal.overflow_add-n
 overflow_add-n c =
-    let l = c.loop-j in
-    let m : l.j ≤ 9 = omega arith in
-    let p : 10 ^ l.j ≤ 10 ^ 9 = pow-le-pow_right (lit< tt) m in
-    record { fits = omega (arith, l.invariant.2, c.if-b-gt57.false) }
+    let l = c.loop-i in
+    let k : l.i - c.args.at ≤ 9 = omega (arith, c.loop-i-test.true, c.requires.1) in
+    let p : 10 ^ (l.i - c.args.at) ≤ 10 ^ 9 = pow-le-pow_right (lit< tt) k in
+    let r = digit_range _ (digit_here c.args.text.now c.loop-i.i (sym c.stands_digit.ensures ∙ c.if-not-stands_digit.false)).1 in
+    record { fits = omega (arith, l.invariant.1, r) }
 
-pub loop-j-preserved : goal.loop-j-preserved
-unfolding is_digit
-loop-j-preserved c =
-    let l = c.loop-j in
+pub loop-i-preserved : goal.loop-i-preserved
+loop-i-preserved c =
+    let l = c.loop-i in
     let x = c.args in
     let t = x.text.now in
-    let i = x.at + l.j in
-    let b = get_or t i 0 in
-    let lo : 48 ≤ b = c.if-b-lt48.false in
-    let hi : b ≤ 57 = c.if-b-gt57.false in
-    let k = x.w - (l.j + 1) in
-    let e : x.w - l.j ≡ suc k = omega (arith, c.loop-j-test.true) in
-    let lt : i < length t = omega (arith, c.if-i-text.false) in
-    let d : is_digit b ≡ true = simp (le-leb 48 b lo, le-leb b 57 hi) in
-    (omega arith, omega arith, rw (add-one l.j, pow-suc 10 l.j) (omega (arith, l.invariant.2)), l.invariant.3 ∙ ap (λ (k : ℕ). joined l.n k (drop i t)) e ∙ joined-turn t i l.n k lt d ∙ ap (λ (m : ℕ). joined (l.n * 10 + (b - 48)) k (drop m t)) (add_assoc x.at l.j 1))
+    let k = x.at + x.w - (l.i + 1) in
+    let e : x.at + x.w - l.i ≡ suc k = omega (arith, c.loop-i-test.true) in
+    let j : l.i + 1 - x.at ≡ suc (l.i - x.at) = omega (arith, l.auto.i) in
+    let d = digit_here t l.i (sym c.stands_digit.ensures ∙ c.if-not-stands_digit.false) in
+    let r = digit_range _ d.1 in
+    (omega (arith, d.0), rw (j, pow-suc 10 (l.i - x.at)) (omega (arith, l.invariant.1, r)), l.invariant.2 ∙ ap (λ (k : ℕ). joined l.n k (drop l.i t)) e ∙ joined-turn t l.i l.n k d.0 d.1)
 
 pub returns : goal.returns
 unfolding joined
 returns c =
-    let l = c.loop-j in
+    let l = c.loop-i in
     let x = c.args in
-    let e : x.w - l.j ≡ 0 = omega (arith, c.loop-j-test.false) in
-    record { is = l.invariant.3 ∙ ap (λ (k : ℕ). joined l.n k (drop (x.at + l.j) x.text.now)) e; place = (omega (arith, c.loop-j-test.false), l.invariant.1) }
+    let i : l.i ≡ x.at + x.w = omega (arith, c.loop-i-test.false, l.auto.i-end) in
+    let e : x.at + x.w - l.i ≡ 0 = omega (arith, c.loop-i-test.false) in
+    record { is = l.invariant.2 ∙ rw (e, i); place = (omega arith, omega (arith, i, l.invariant.0)) }

@@ -7,8 +7,8 @@ use Rattle.numbers.proofs.TimestampStores.{date_stores, length-date}
 use borrow.Author.Rules.{rules}
 use Rattle.numbers.proofs.timestamp.format_date.Goals as goal
 
-pub returns-then-pos-buf : goal.returns-then-pos-buf
-returns-then-pos-buf c =
+pub returns-then-pos-saturating_sub : goal.returns-then-pos-saturating_sub
+returns-then-pos-saturating_sub c =
     let x = c.args in
     let w = c.four_pairs in
     wrote_here 10 (date_stores x.buf.now c.date_here.new.buf x.pos x.year x.month x.day w.result w.ensures c.date_here.ensures) (length-date x.year x.month x.day) (omega arith) (search rules)

@@ -7,8 +7,8 @@ use Rattle.numbers.proofs.TimestampStores.{length-clock}
 use borrow.Author.Rules.{rules}
 use Rattle.numbers.proofs.timestamp.format_hour_and_minute.Goals as goal
 
-pub returns-then-pos-buf : goal.returns-then-pos-buf
-returns-then-pos-buf c =
+pub returns-then-pos-saturating_sub : goal.returns-then-pos-saturating_sub
+returns-then-pos-saturating_sub c =
     let x = c.args in
     wrote_here 5 c.clock_here.ensures (length-clock x.hour x.minute) (omega arith) (search rules)
 

@@ -11,8 +11,8 @@ second_here-requires c =
     let s = c.is_short.ensures c.if-is_short.true in
     (search rules, s.0, s.1, s.2, s.3, s.4, s.5)
 
-pub returns-then-pos-buf : goal.returns-then-pos-buf
-returns-then-pos-buf c =
+pub returns-then-pos-saturating_sub : goal.returns-then-pos-saturating_sub
+returns-then-pos-saturating_sub c =
     let t = c.args.t in
     wrote_here 19 c.second_here.ensures (length-second t.year t.month t.day t.hour t.minute t.second) (omega arith) (search rules)
 

@@ -1,8 +1,6 @@
 -- `timestamp::is_short` meets its contract. Assumes nothing.
 use native.Mathlib.Omega.{arith}
 use borrow.Author.Tests.{ltb-true}
-use Rattle.text_rules.proofs.DigitLaws.{never}
-use mathlib.Core.Path.{sym}
 use Rattle.numbers.proofs.TimestampStores.{five-small}
 use Rattle.numbers.proofs.timestamp.is_short.Goals as goal
 
@@ -12,6 +10,3 @@ returns-then-t-lt10000 c =
     λ h.
     let s = five-small t.month t.day t.hour t.minute t.second (ltb-true _ _ h) in
     (omega arith, s.0, s.1, s.2, s.3, s.4)
-
-pub returns : goal.returns
-returns c = λ h. never (sym h)

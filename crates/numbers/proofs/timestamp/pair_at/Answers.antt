@@ -1,33 +1,26 @@
 -- `timestamp::pair_at` meets its contract. Assumes nothing.
-use mathlib.Core.Path.{◌≡◌}
-use mathlib.Core.Bool.{true}
-use Prim.Native.Nat.{◌+◌}
+use mathlib.Core.Path.{sym, ◌∙◌}
 use native.Mathlib.Omega.{arith}
-use lib.ListN.{get_or}
-use borrow.Author.Tests.{le-leb}
-use Rattle.text_rules.specs.Digits.{is_digit}
+use Rattle.text_rules.proofs.DigitLaws.{digit_range}
 use Rattle.numbers.proofs.TimestampUsual.{pair_read}
 use Rattle.numbers.proofs.timestamp.pair_at.Goals as goal
 
-pub returns-then-a-lt48 : goal.returns-then-a-lt48
-returns-then-a-lt48 c = λ h. let bad : ⊥ = omega arith in absurd bad
+pub overflow_sub-result : goal.overflow_sub-result
+overflow_sub-result c = (digit_range _ (sym c.is_digit.ensures ∙ c.if-not-is_digit.false)).0
 
-pub returns-then-a-gt57 : goal.returns-then-a-gt57
-returns-then-a-gt57 c = λ h. let bad : ⊥ = omega arith in absurd bad
+pub overflow_mul-result : goal.overflow_mul-result
+overflow_mul-result c = record { fits = omega (arith, digit_range _ (sym c.is_digit.ensures ∙ c.if-not-is_digit.false)) }
 
-pub returns-then-b-lt48 : goal.returns-then-b-lt48
-returns-then-b-lt48 c = λ h. let bad : ⊥ = omega arith in absurd bad
+pub overflow_sub-result-2 : goal.overflow_sub-result-2
+overflow_sub-result-2 c = (digit_range _ (sym c.is_digit-else-not-is_digit.ensures ∙ c.if-not-is_digit-2.false)).0
 
-pub returns-then-b-gt57 : goal.returns-then-b-gt57
-returns-then-b-gt57 c = λ h. let bad : ⊥ = omega arith in absurd bad
+pub overflow_add-result : goal.overflow_add-result
+overflow_add-result c =
+    let a = digit_range _ (sym c.is_digit.ensures ∙ c.if-not-is_digit.false) in
+    let b = digit_range _ (sym c.is_digit-else-not-is_digit.ensures ∙ c.if-not-is_digit-2.false) in
+    record { fits = omega (arith, a, b) }
 
 pub returns : goal.returns
-unfolding is_digit
 returns c =
     let x = c.args in
-    let t = x.text.now in
-    let a = get_or t x.at 0 in
-    let b = get_or t (x.at + 1) 0 in
-    let d : is_digit a ≡ true = simp (le-leb 48 a (omega arith), le-leb a 57 (omega arith)) in
-    let e : is_digit b ≡ true = simp (le-leb 48 b (omega arith), le-leb b 57 (omega arith)) in
-    λ h. pair_read t x.at (omega arith) d e
+    pair_read x.text.now x.at (omega arith) (sym c.is_digit.ensures ∙ c.if-not-is_digit.false) (sym c.is_digit-else-not-is_digit.ensures ∙ c.if-not-is_digit-2.false)

@@ -1,5 +1,5 @@
 -- `timestamp::timestamp_at` meets its contract. Assumes nothing.
-use mathlib.Core.Path.{sym, ◌∙◌}
+use mathlib.Core.Path.{refl, sym}
 use native.Mathlib.Omega.{arith}
 use Rattle.text_rules.proofs.Places.{next}
 use Rattle.numbers.specs.TimestampRead.{timestamp}
@@ -8,64 +8,64 @@ use Rattle.text_rules.proofs.ReadingLaws.{reads_from, refused}
 use borrow.Author.Rules.{rules}
 use Rattle.numbers.proofs.timestamp.timestamp_at.Goals as goal
 
-pub returns-in_default : goal.returns-in_default
+pub returns-in_err-y : goal.returns-in_err-y
 unfolding timestamp
-returns-in_default c =
-    let v = rw c.in_default.is at c.fixed_at.ensures in
-    refused (rw v.is)
+returns-in_err-y c =
+    let v = c.in_err-y.ensures in
+    rw c.from_residual.ensures (refused (rw v.is))
 
 pub stands-requires : goal.stands-requires
 stands-requires c =
-    let v = rw c.in-Is.is at c.fixed_at.ensures in
+    let v = c.in_ok-y.ensures in
     v.place.1
 
 pub overflow_cast-y : goal.overflow_cast-y
 overflow_cast-y c =
-    let v = rw c.in-Is.is at c.fixed_at.ensures in
+    let v = c.in_ok-y.ensures in
     record { fits = omega (arith, joined_bound 0 4 _ _ _ v.is) }
 
 pub overflow_add-a : goal.overflow_add-a
 overflow_add-a c =
-    let i = c.stands.ensures.inside c.if-stands.true in
+    let i = c.if-stands.ensures.inside refl in
     search rules
 
 pub returns-then-stands : goal.returns-then-stands
 unfolding timestamp
 returns-then-stands c =
     let x = c.args in
-    let v = rw c.in-Is.is at c.fixed_at.ensures in
-    let i = c.stands.ensures.inside c.if-stands.true in
+    let v = c.in_ok-y.ensures in
+    let i = c.if-stands.ensures.inside refl in
     let w = rw c.with_date.ensures at (c.checked_at.ensures x.text.now (omega arith)) in
-    rw (v.is, sym c.stands.ensures.is ∙ c.if-stands.true, next) (reads_from w (omega (arith, v.place.0)))
+    rw (v.is, sym c.if-stands.ensures.is, next) (reads_from w (omega (arith, v.place.0)))
 
 pub stands-requires-2 : goal.stands-requires-2
 stands-requires-2 c =
-    let v = rw c.in-Is.is at c.fixed_at.ensures in
+    let v = c.in_ok-y.ensures in
     v.place.1
 
 pub overflow_add-a-then-stands-2 : goal.overflow_add-a-then-stands-2
 overflow_add-a-then-stands-2 c =
-    let i = c.stands-2.ensures.inside c.if-stands-2.true in
+    let i = c.if-stands-2.ensures.inside refl in
     search rules
 
 pub overflow_cast-y-then-stands-2 : goal.overflow_cast-y-then-stands-2
 overflow_cast-y-then-stands-2 c =
-    let v = rw c.in-Is.is at c.fixed_at.ensures in
+    let v = c.in_ok-y.ensures in
     record { fits = omega (arith, joined_bound 0 4 _ _ _ v.is) }
 
 pub behind_year-requires : goal.behind_year-requires
 behind_year-requires c =
-    let i = c.stands-2.ensures.inside c.if-stands-2.true in
+    let i = c.if-stands-2.ensures.inside refl in
     omega arith
 
 pub returns-then-stands-2 : goal.returns-then-stands-2
 unfolding timestamp
 returns-then-stands-2 c =
-    let v = rw c.in-Is.is at c.fixed_at.ensures in
-    rw (v.is, sym c.stands.ensures.is ∙ c.if-stands.false, sym c.stands-2.ensures.is ∙ c.if-stands-2.true, next) (reads_from c.behind_year.ensures (omega (arith, v.place.0)))
+    let v = c.in_ok-y.ensures in
+    rw (v.is, sym c.if-stands.ensures.is, sym c.if-stands-2.ensures.is, next) (reads_from c.behind_year.ensures (omega (arith, v.place.0)))
 
 pub returns : goal.returns
 unfolding timestamp
 returns c =
-    let v = rw c.in-Is.is at c.fixed_at.ensures in
-    refused (rw (v.is, sym c.stands.ensures.is ∙ c.if-stands.false, sym c.stands-2.ensures.is ∙ c.if-stands-2.false))
+    let v = c.in_ok-y.ensures in
+    refused (rw (v.is, sym c.if-stands.ensures.is, sym c.if-stands-2.ensures.is))

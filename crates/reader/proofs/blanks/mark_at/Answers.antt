@@ -13,7 +13,7 @@ returns-then-stands c =
     let s = c.stands.ensures in
     (mark_here x.text.now x.at x.b (sym s.is ∙ c.if-stands.true), omega arith, omega (arith, s.inside c.if-stands.true))
 
-pub returns : goal.returns
-returns c =
+pub returns-else-stands : goal.returns-else-stands
+returns-else-stands c =
     let x = c.args in
     mark_none x.text.now x.at x.b (sym c.stands.ensures.is ∙ c.if-stands.false)

@@ -12,17 +12,17 @@ returns-then-at-text c =
     let x = c.args in
     rw (end-at x.text.now x.at c.if-at-text.true)
 
-pub returns-then-b-eq41 : goal.returns-then-b-eq41
-returns-then-b-eq41 c =
+pub returns-in-41 : goal.returns-in-41
+returns-in-41 c =
     let x = c.args in
-    (gap_close x.text.now x.at (omega arith) c.if-b-eq41.true, omega arith, omega arith)
+    (gap_close x.text.now x.at (omega arith) c.in-41.is, omega arith, omega arith)
 
 pub returns-then-is_blank : goal.returns-then-is_blank
 returns-then-is_blank c =
     let x = c.args in
     (gap-blank x.text.now x.at (omega arith) (sym c.is_blank.ensures ∙ c.if-is_blank.true), omega arith, omega arith)
 
-pub returns : goal.returns
-returns c =
+pub returns-else-is_blank : goal.returns-else-is_blank
+returns-else-is_blank c =
     let x = c.args in
-    gap_other x.text.now x.at (omega arith) c.if-b-eq41.false (sym c.is_blank.ensures ∙ c.if-is_blank.false)
+    gap_other x.text.now x.at (omega arith) (omega arith) (sym c.is_blank.ensures ∙ c.if-is_blank.false)

@@ -13,37 +13,37 @@ returns-then-not-may_note c =
 pub returns-in_default : goal.returns-in_default
 returns-in_default c =
     let x = c.args in
-    let v = rw c.in_default.is at c.note_at.ensures in
+    let v = c.in_default.ensures in
     notes_no _ x.text.now x.at x.pos x.buf.now _ v.1 v.0 c.requires.0 c.requires.1
 
 pub marks_at-requires : goal.marks_at-requires
 marks_at-requires c =
-    let v = rw c.in-Next.is at c.note_at.ensures in
+    let v = c.in-Some.ensures in
     (v.3, laid_bound v.4)
 
-pub returns-in_default-marks_at : goal.returns-in_default-marks_at
-returns-in_default-marks_at c =
+pub returns-in_err-run : goal.returns-in_err-run
+returns-in_err-run c =
     let x = c.args in
-    let v = rw c.in-Next.is at c.note_at.ensures in
-    notes-broken _ x.text.now x.at _ x.pos v.0 v.1 v.2 v.4 (omega (arith, c.requires.1, c.ahead-s.ensures)) (omega (arith, c.ahead-s.ensures)) (rw c.in_default-marks_at.is at c.marks_at.ensures)
+    let v = c.in-Some.ensures in
+    rw c.from_residual.ensures (notes-broken _ x.text.now x.at _ x.pos v.0 v.1 v.2 v.4 (omega (arith, c.requires.1, c.ahead-s.ensures)) (omega (arith, c.ahead-s.ensures)) c.in_err-run.ensures)
 
-pub overflow_cast-count : goal.overflow_cast-count
-overflow_cast-count c =
-    let k = rw c.in-Whole.is at c.marks_at.ensures in
+pub overflow_cast-run : goal.overflow_cast-run
+overflow_cast-run c =
+    let k = c.in_ok-run.ensures in
     omega (arith, k.few)
 
-pub overflow_add-count : goal.overflow_add-count
-overflow_add-count c =
-    let k = rw c.in-Whole.is at c.marks_at.ensures in
+pub overflow_add-run : goal.overflow_add-run
+overflow_add-run c =
+    let k = c.in_ok-run.ensures in
     omega (arith, k.few)
 
 pub overflow_add-result : goal.overflow_add-result
 overflow_add-result c =
-    let k = rw c.in-Whole.is at c.marks_at.ensures in
+    let k = c.in_ok-run.ensures in
     omega (arith, k.few)
 
 pub returns : goal.returns
 returns c =
     let x = c.args in
-    let v = rw c.in-Next.is at c.note_at.ensures in
-    notes-some _ x.text.now x.at _ x.pos v.0 v.1 v.2 v.4 c.ahead-s.ensures (rw c.in-Whole.is at c.marks_at.ensures) c.put2.ensures
+    let v = c.in-Some.ensures in
+    notes-some _ x.text.now x.at _ x.pos v.0 v.1 v.2 v.4 c.ahead-s.ensures c.in_ok-run.ensures c.put2.ensures

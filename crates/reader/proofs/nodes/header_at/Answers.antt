@@ -5,11 +5,11 @@ use native.Mathlib.Omega.{arith}
 use lib.ListN.{length-set}
 use Rattle.reader.proofs.nodes.header_at.Goals as goal
 
-pub store_4-requires : goal.store_4-requires
-store_4-requires c = simp length-set (omega arith)
+pub store-requires : goal.store-requires
+store-requires c = simp length-set (omega arith)
 
 pub shape_of-buf : goal.shape_of-buf
-shape_of-buf c = c.store_4.auto.buf ∙ simp length-set
+shape_of-buf c = c.store.auto.buf ∙ simp length-set
 
 pub returns : goal.returns
-returns c = rw (add-one, c.far.ensures) at c.store_4.ensures
+returns c = rw (add-one, c.far.ensures) at c.store.ensures

@@ -5,11 +5,11 @@ use native.Mathlib.Omega.{arith}
 use lib.ListN.{length-set}
 use Rattle.reader.proofs.nodes.wide_at.Goals as goal
 
-pub store_8-requires : goal.store_8-requires
-store_8-requires c = simp length-set (omega arith)
+pub store-requires : goal.store-requires
+store-requires c = simp length-set (omega arith)
 
 pub shape_of-buf : goal.shape_of-buf
-shape_of-buf c = c.store_8.auto.buf ∙ simp length-set
+shape_of-buf c = c.store.auto.buf ∙ simp length-set
 
 pub returns : goal.returns
-returns c = rw add-one at c.store_8.ensures
+returns c = rw add-one at c.store.ensures

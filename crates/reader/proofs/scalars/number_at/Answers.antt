@@ -6,11 +6,11 @@ use Rattle.reader.proofs.scalars.number_at.Goals as goal
 
 pub returns-in_default : goal.returns-in_default
 returns-in_default c =
-    let k = rw c.in_default.is at c.timestamp_at.ensures in
+    let k = c.in_default.ensures in
     rw (number_untimed _ k.is) c.untimed_at.ensures
 
 pub returns : goal.returns
 unfolding encode
 returns c =
-    let k = rw c.in-Is.is at c.timestamp_at.ensures in
+    let k = c.in-Some.ensures in
     (timestamp_node _, number-timed _ _ _ k.is, k.place.0, k.place.1, laid c.put_timestamp-p.ensures)

@@ -30,12 +30,12 @@ unfolding encode encode_scalar
 returns-in-Nan c =
     word_here c.word_at-w.ensures c.args.m _ (Node.scalar (Scalar.float nan)) c.in-Nan.is refl refl (rw float-bits-nan c.put_wide-p.ensures)
 
-pub returns-then-m : goal.returns-then-m
+pub returns-else-not-m : goal.returns-else-not-m
 unfolding encode encode_scalar
-returns-then-m c = word_here c.word_at-w.ensures c.args.m _ Node.marker c.in-Marker.is refl (rw c.if-m.true) c.put-p.ensures
+returns-else-not-m c = word_here c.word_at-w.ensures c.args.m _ Node.marker c.in-Marker.is refl (rw c.if-not-m.false) c.put-p.ensures
 
-pub returns-else-m : goal.returns-else-m
-returns-else-m c = (word_none c.word_at-w.ensures c.args.m _ c.in-Marker.is (rw c.if-m.false), kept_all)
+pub returns-then-not-m : goal.returns-then-not-m
+returns-then-not-m c = (word_none c.word_at-w.ensures c.args.m _ c.in-Marker.is (rw c.if-not-m.true), kept_all)
 
 pub returns-in-Number : goal.returns-in-Number
 unfolding encode encode_scalar encode_sym

@@ -2,7 +2,7 @@
 -- bracket before it calls `sequence`, and `sequence` calls `value` at the same place or behind it.
 -- The invariant of the loop is what is left to show: whatever holds of the rest of the sequence from the present place gives what the contract says of the whole.
 -- Assumes nothing.
-use mathlib.Core.Path.{refl, ◌∙◌}
+use mathlib.Core.Path.{refl, sym, ◌∙◌}
 use native.Mathlib.Nat.{le_refl}
 use native.Mathlib.Omega.{arith}
 use Rattle.reader.proofs.Laying.{laid_bound}
@@ -21,50 +21,50 @@ pub sequence-close_at-requires : goal.sequence-close_at-requires
 sequence-close_at-requires t c =
     omega arith
 
-pub sequence-shape_of-buf-in-At : goal.sequence-shape_of-buf-in-At
-sequence-shape_of-buf-in-At t c =
+pub sequence-shape_of-buf-in-Some : goal.sequence-shape_of-buf-in-Some
+sequence-shape_of-buf-in-Some t c =
     c.loop-end.invariant.4
 
-pub sequence-returns-in-At : goal.sequence-returns-in-At
-sequence-returns-in-At t c =
+pub sequence-returns-in-Some : goal.sequence-returns-in-Some
+sequence-returns-in-Some t c =
     let l = c.loop-end in
     let s = c.skip_blanks-first in
-    let e = rw c.in-At.is at c.close_at.ensures in
+    let e = rw c.in-Some.is at c.close_at.ensures in
     l.invariant.5 _ _ (run_end _ s.ensures l.invariant.3 e.0 e.1 e.2)
 
 pub sequence-value-requires : goal.sequence-value-requires
 sequence-value-requires t c =
     omega arith
 
-pub sequence-shape_of-buf-in_default-value : goal.sequence-shape_of-buf-in_default-value
-sequence-shape_of-buf-in_default-value t c =
+pub sequence-shape_of-buf-in_err-child : goal.sequence-shape_of-buf-in_err-child
+sequence-shape_of-buf-in_err-child t c =
     c.value.auto.buf ∙ c.loop-end.invariant.4
 
-pub sequence-returns-in_default-value : goal.sequence-returns-in_default-value
-sequence-returns-in_default-value t c =
+pub sequence-returns-in_err-child : goal.sequence-returns-in_err-child
+sequence-returns-in_err-child t c =
     let l = c.loop-end in
     let s = c.skip_blanks-first in
     let e = rw c.in_default.is at c.close_at.ensures in
     let v = c.value in
-    l.invariant.5 _ _ (run_no_child _ s.ensures e (rw c.in_default-value.is at v.ensures))
+    rw c.from_residual.ensures (l.invariant.5 _ _ (run_no_child _ s.ensures e c.in_err-child.ensures))
 
 pub sequence-gap_at-requires : goal.sequence-gap_at-requires
 sequence-gap_at-requires t c =
-    let v = rw c.in-Next.is at c.value.ensures in
+    let v = c.in_ok-child.ensures in
     (v.told _ (le_refl _)).3
 
-pub sequence-shape_of-buf-in_default-gap_at : goal.sequence-shape_of-buf-in_default-gap_at
-sequence-shape_of-buf-in_default-gap_at t c =
+pub sequence-shape_of-buf-in_err-at : goal.sequence-shape_of-buf-in_err-at
+sequence-shape_of-buf-in_err-at t c =
     c.value.auto.buf ∙ c.loop-end.invariant.4
 
-pub sequence-returns-in_default-gap_at : goal.sequence-returns-in_default-gap_at
-sequence-returns-in_default-gap_at t c =
+pub sequence-returns-in_err-at : goal.sequence-returns-in_err-at
+sequence-returns-in_err-at t c =
     let l = c.loop-end in
     let s = c.skip_blanks-first in
     let e = rw c.in_default.is at c.close_at.ensures in
-    let v = rw c.in-Next.is at c.value.ensures in
-    let g = rw c.in_default-gap_at.is at c.gap_at.ensures in
-    l.invariant.5 _ _ (run_no_gap _ s.ensures e v g)
+    let v = c.in_ok-child.ensures in
+    let g = c.in_err-at.ensures in
+    rw c.from_residual-in_err-at.ensures (l.invariant.5 _ _ (run_no_gap _ s.ensures e v g))
 
 pub sequence-overflow_add-count : goal.sequence-overflow_add-count
 sequence-overflow_add-count t c =
@@ -72,8 +72,8 @@ sequence-overflow_add-count t c =
 
 pub sequence-loop-end-smaller : goal.sequence-loop-end-smaller
 sequence-loop-end-smaller t c =
-    let v = rw c.in-Next.is at c.value.ensures in
-    let g = rw c.in-At-gap_at.is at c.gap_at.ensures in
+    let v = c.in_ok-child.ensures in
+    let g = c.in_ok-at.ensures in
     omega (arith, (v.told _ (le_refl _)).2, c.skip_blanks-first.ensures.ahead)
 
 pub sequence-loop-end-preserved : goal.sequence-loop-end-preserved
@@ -81,8 +81,8 @@ sequence-loop-end-preserved t c =
     let l = c.loop-end in
     let s = c.skip_blanks-first in
     let e = rw c.in_default.is at c.close_at.ensures in
-    let v = rw c.in-Next.is at c.value.ensures in
-    let g = rw c.in-At-gap_at.is at c.gap_at.ensures in
+    let v = c.in_ok-child.ensures in
+    let g = c.in_ok-at.ensures in
     let w = v.told _ (le_refl _) in (
       omega (arith, w.2),
       g.2,
@@ -96,33 +96,33 @@ pub value-head_at-requires : goal.value-head_at-requires
 value-head_at-requires t c =
     c.requires
 
-pub value-shape_of-buf-in_default : goal.value-shape_of-buf-in_default
-value-shape_of-buf-in_default t c =
+pub value-shape_of-buf-in_err-head : goal.value-shape_of-buf-in_err-head
+value-shape_of-buf-in_err-head t c =
     c.head_at.auto.buf
 
-pub value-returns-in_default : goal.value-returns-in_default
-value-returns-in_default t c =
-    let h = rw c.in_default.is at c.head_at.ensures in
-    value-at_headless _ h.0 h.1
+pub value-returns-in_err-head : goal.value-returns-in_err-head
+value-returns-in_err-head t c =
+    let h = c.in_err-head.ensures in
+    rw c.from_residual.ensures (value-at_headless _ h.0 h.1)
 
 pub value-opener_at-requires : goal.value-opener_at-requires
 value-opener_at-requires t c =
-    let h = rw c.in-Whole.is at c.head_at.ensures in
+    let h = c.in_ok-head.ensures in
     h.4
 
 pub value-scalar_at-requires : goal.value-scalar_at-requires
 value-scalar_at-requires t c =
-    let h = rw c.in-Whole.is at c.head_at.ensures in
+    let h = c.in_ok-head.ensures in
     (h.4, laid_bound h.5)
 
-pub value-shape_of-buf-in_default-opener_at : goal.value-shape_of-buf-in_default-opener_at
-value-shape_of-buf-in_default-opener_at t c =
+pub value-shape_of-buf-in_default : goal.value-shape_of-buf-in_default
+value-shape_of-buf-in_default t c =
     c.scalar_at.auto.buf ∙ c.head_at.auto.buf
 
-pub value-returns-in_default-opener_at : goal.value-returns-in_default-opener_at
-value-returns-in_default-opener_at t c =
-    let h = rw c.in-Whole.is at c.head_at.ensures in
-    value-at-head _ _ c.requires.1 h c.free_of.ensures (body_at-scalar _ _ h.4 (rw c.in_default-opener_at.is at c.opener_at.ensures) c.scalar_at.ensures)
+pub value-returns-in_default : goal.value-returns-in_default
+value-returns-in_default t c =
+    let h = c.in_ok-head.ensures in
+    value-at-head _ _ c.requires.1 h c.free_of-m.ensures (body_at-scalar _ _ h.4 (sym (rw c.in_default.is at c.opener_at.ensures)) c.scalar_at.ensures)
 
 pub value-shape_of-buf-then-left-eq0 : goal.value-shape_of-buf-then-left-eq0
 value-shape_of-buf-then-left-eq0 t c =
@@ -130,18 +130,18 @@ value-shape_of-buf-then-left-eq0 t c =
 
 pub value-returns-then-left-eq0 : goal.value-returns-then-left-eq0
 value-returns-then-left-eq0 t c =
-    let h = rw c.in-Whole.is at c.head_at.ensures in
-    let o = rw c.in-Opens.is at c.opener_at.ensures in
+    let h = c.in_ok-head.ensures in
+    let o = sym (rw c.in-Some.is at c.opener_at.ensures) in
     value-at-head _ _ c.requires.1 h refl (body_at_deep _ h.4 o c.if-left-eq0.true)
 
 pub value-ahead-s-requires : goal.value-ahead-s-requires
 value-ahead-s-requires t c =
     tt
 
-pub value-overflow_add-a : goal.value-overflow_add-a
-value-overflow_add-a t c =
-    let h = rw c.in-Whole.is at c.head_at.ensures in
-    let o = rw c.in-Opens.is at c.opener_at.ensures in
+pub value-overflow_add-head : goal.value-overflow_add-head
+value-overflow_add-head t c =
+    let h = c.in_ok-head.ensures in
+    let o = sym (rw c.in-Some.is at c.opener_at.ensures) in
     omega (arith, opens-inside _ _ _ h.4 o, c.well_formed.0.0)
 
 pub value-overflow_sub-left : goal.value-overflow_sub-left
@@ -150,23 +150,23 @@ value-overflow_sub-left t c =
 
 pub value-sequence-requires : goal.value-sequence-requires
 value-sequence-requires t c =
-    let h = rw c.in-Whole.is at c.head_at.ensures in
-    let o = rw c.in-Opens.is at c.opener_at.ensures in
+    let h = c.in_ok-head.ensures in
+    let o = sym (rw c.in-Some.is at c.opener_at.ensures) in
     omega (arith, opens-inside _ _ _ h.4 o, c.decreases, h.3, h.4, c.ahead-s.ensures)
 
-pub value-shape_of-buf-in_default-sequence : goal.value-shape_of-buf-in_default-sequence
-value-shape_of-buf-in_default-sequence t c =
+pub value-shape_of-buf-in_err-run : goal.value-shape_of-buf-in_err-run
+value-shape_of-buf-in_err-run t c =
     c.sequence.auto.buf ∙ c.head_at.auto.buf
 
-pub value-returns-in_default-sequence : goal.value-returns-in_default-sequence
-value-returns-in_default-sequence t c =
-    let h = rw c.in-Whole.is at c.head_at.ensures in
-    let o = rw c.in-Opens.is at c.opener_at.ensures in
-    value-at-head _ _ c.requires.1 h refl (body_at-broken _ h.4 o c.if-left-eq0.false (omega (arith, laid_bound h.5, c.ahead-s.ensures)) (rw c.in_default-sequence.is at c.sequence.ensures))
+pub value-returns-in_err-run : goal.value-returns-in_err-run
+value-returns-in_err-run t c =
+    let h = c.in_ok-head.ensures in
+    let o = sym (rw c.in-Some.is at c.opener_at.ensures) in
+    rw c.from_residual-in_err-run.ensures (value-at-head _ _ c.requires.1 h refl (body_at-broken _ h.4 o c.if-left-eq0.false (omega (arith, laid_bound h.5, c.ahead-s.ensures)) c.in_err-run.ensures))
 
-pub value-overflow_sub-e : goal.value-overflow_sub-e
-value-overflow_sub-e t c =
-    let r = rw c.in-Whole-sequence.is at c.sequence.ensures in
+pub value-overflow_sub-run : goal.value-overflow_sub-run
+value-overflow_sub-run t c =
+    let r = c.in_ok-run.ensures in
     omega (arith, (r.told _ (le_refl _)).5.count, c.ahead-s.ensures)
 
 pub value-shape_of-buf : goal.value-shape_of-buf
@@ -175,6 +175,6 @@ value-shape_of-buf t c =
 
 pub value-returns : goal.value-returns
 value-returns t c =
-    let h = rw c.in-Whole.is at c.head_at.ensures in
-    let o = rw c.in-Opens.is at c.opener_at.ensures in
-    value-at-head _ _ c.requires.1 h refl (body_at_nest _ h.4 o c.if-left-eq0.false c.ahead-s.ensures (rw c.in-Whole-sequence.is at c.sequence.ensures) (rw c.tag_of.ensures at c.put_header.ensures))
+    let h = c.in_ok-head.ensures in
+    let o = sym (rw c.in-Some.is at c.opener_at.ensures) in
+    value-at-head _ _ c.requires.1 h refl (body_at_nest _ h.4 o c.if-left-eq0.false c.ahead-s.ensures c.in_ok-run.ensures (rw c.tag_of.ensures at c.put_header.ensures))

@@ -1,7 +1,7 @@
 -- With n bytes of text left, `value` measures 2n and `sequence` 2n + 1: `value` passes the bracket before it calls `sequence`, and `sequence` calls
 -- `value` at the same place or behind it. The invariant of the loop is what is left to show: whatever holds of the rest of the sequence from the present
 -- place gives what the contract says of the whole. Assumes nothing.
-use Rattle.std.proofs.Common.{ℕ, suc, ◌-◌, ◌*◌, ◌≡◌, ◌≤◌, List, length}
+use Rattle.std.proofs.Common.{ℕ, suc, ◌-◌, ◌*◌, ◌≡◌, ◌≤◌, List, length, Option}
 use Rattle.output.specs.Wrote.{limit}
 use Rattle.tokens.specs.Quoted.{raw_rule}
 use Rattle.reader.specs.Steps.{RunAt}
@@ -21,7 +21,7 @@ invariant-sequence-loop-end l =
     × (l.count ≤ l.at)
     × (l.pos ≤ limit)
     × (length l.buf ≡ length l.initial.buf)
-    × ((r : Run) (b' : List ℕ) → RunAt (raw_rule l.old) l.text l.at l.frame l.left l.buf b' l.pos l.count r → RunAt (raw_rule l.old) l.text l.from l.frame l.left l.initial.buf b' l.start 0 r)
+    × ((r : Option Run) (b' : List ℕ) → RunAt (raw_rule l.old) l.text l.at l.frame l.left l.buf b' l.pos l.count r → RunAt (raw_rule l.old) l.text l.from l.frame l.left l.initial.buf b' l.start 0 r)
 
 abbrev pub decreases-sequence-loop-end : goal.decreases-sequence-loop-end
 decreases-sequence-loop-end l = length l.text - l.at

@@ -1,5 +1,5 @@
 -- `tape::check::check_nodes` meets its contract. The invariant: the nodes from `at` on are left, and what was gathered of those before. Assumes nothing.
-use mathlib.Core.Path.{◌≡◌, refl, sym, ap, subst, ◌∙◌}
+use mathlib.Core.Path.{◌≡◌, sym, ap, subst, ◌∙◌}
 use mathlib.Core.List.{List}
 use mathlib.Core.Bool.{Bool, false, ◌||◌, or-false}
 use native.Mathlib.Omega.{arith}
@@ -10,9 +10,10 @@ use Rattle.tape.specs.Tree.{encode_name}
 use Rattle.tape.specs.Tape.{kind, name_of, notes_of, name_fault, walk}
 use Rattle.tape.specs.Refusal.{annotated, noted, head_numbered, numbered}
 use Rattle.tape.specs.Steps.{head_at}
-use Rattle.tape.specs.CheckSteps.{number_in, name_number_in, frame_of, notes_front}
+use Rattle.tape.specs.CheckSteps.{whole, number_in, name_number_in, frame_of, notes_front}
 use Rattle.tape.specs.declared.Frame.{Frame}
-use Rattle.tape.specs.declared.check.Front.TheVariants as F
+use Rattle.tape.specs.declared.answer.Fault.TheVariants as F
+use Rattle.std.proofs.lemmas.Result.{err_from_is_err_and}
 use Rattle.tape.proofs.Walking.{walk_end}
 use Rattle.tape.proofs.Parts.{part_length, part-first}
 use Rattle.tape.proofs.Reading.{name_sound}
@@ -23,10 +24,9 @@ use Rattle.tape.proofs.CodeWalk.{Passed, passed_none, refuse, refuse_node, refus
 use Rattle.tape.proofs.Parts.{trailed}
 use Rattle.tape.proofs.check.check_nodes.Reads as own
 use Rattle.tape.proofs.check.+check_nodes.Lts-check_nodes as lts
-use Rattle.tape.proofs.check.refused.Reads as refused
+use Rattle.tape.proofs.check.+check_nodes.Tie as tie
 use Rattle.tape.proofs.check.behind_name.Reads as behind-name
 use Rattle.tape.proofs.check.name_number.Reads as name-number
-use Rattle.tape.proofs.check.either.Reads as either
 use Rattle.tape.proofs.check.notes_seen.Reads as notes-seen
 use Rattle.tape.proofs.check.scalar_size.Reads as scalar_size
 use Rattle.tape.proofs.check.size_fault.Reads as size-fault
@@ -35,18 +35,14 @@ use Rattle.tape.proofs.check.span.Reads as span
 use Rattle.tape.proofs.check.frame_of.Reads as frame-of
 use Rattle.tape.proofs.check.is_free.Reads as is_free
 use Rattle.tape.proofs.check.+check_nodes.Goals as goal
-use Rattle.tape.proofs.check.+check_nodes.Goals.{then-tape-q-eq13+in-Whole+else-r-end, else-tape-q-eq13}
+use Rattle.tape.proofs.check.+check_nodes.Goals.{then-tape-q-eq13+in-Some+else-front-end, else-tape-q-eq13}
 
 abbrev callees : ℕ → lts.Claims
 callees t = (
-  refused.Asked,
-  refused.Learnt,
   behind-name.Asked,
   behind-name.Learnt,
   name-number.Asked,
   name-number.Learnt,
-  either.Asked,
-  either.Learnt,
   notes-seen.Asked,
   notes-seen.Learnt,
   scalar_size.Asked,
@@ -61,12 +57,16 @@ callees t = (
   frame-of.Learnt,
   goal.check_nodes-below t,
   own.Post,
+  tie.Asked-check_nodes-9,
+  tie.Learnt-check_nodes-9,
+  tie.Asked-check_nodes-10,
+  tie.Learnt-check_nodes-10,
   is_free.Asked,
   is_free.Learnt,
 )
 
-abbrev At-After-either-numbered : ℕ → Type 0
-At-After-either-numbered t = lts.After-either (callees t) (goal.check_nodes-at t) own.Post goal.the-check_nodes-invariant-loop-at goal.the-check_nodes-decreases-loop-at (goal.the-clauses-check_nodes t)
+abbrev At-After-name_number : ℕ → Type 0
+At-After-name_number t = lts.After-name_number (callees t) (goal.check_nodes-at t) own.Post goal.the-check_nodes-invariant-loop-at goal.the-check_nodes-decreases-loop-at (goal.the-clauses-check_nodes t)
 
 abbrev At-Joined-tape-q-eq13 : ℕ → Type 0
 At-Joined-tape-q-eq13 t = lts.Joined3 (callees t) (goal.check_nodes-at t) own.Post goal.the-check_nodes-invariant-loop-at goal.the-check_nodes-decreases-loop-at (goal.the-clauses-check_nodes t)
@@ -81,17 +81,17 @@ abbrev At-After-frame_of : ℕ → Type 0
 At-After-frame_of t = lts.After-frame_of (callees t) (goal.check_nodes-at t) own.Post goal.the-check_nodes-invariant-loop-at goal.the-check_nodes-decreases-loop-at (goal.the-clauses-check_nodes t)
 
 abbrev At-Else-n-eq0-2 : ℕ → Type 0
-At-Else-n-eq0-2 t = lts.Else11 (callees t) (goal.check_nodes-at t) own.Post goal.the-check_nodes-invariant-loop-at goal.the-check_nodes-decreases-loop-at (goal.the-clauses-check_nodes t)
+At-Else-n-eq0-2 t = lts.Else10 (callees t) (goal.check_nodes-at t) own.Post goal.the-check_nodes-invariant-loop-at goal.the-check_nodes-decreases-loop-at (goal.the-clauses-check_nodes t)
 
 abbrev At-Then-is_free : ℕ → Type 0
-At-Then-is_free t = lts.Then13 (callees t) (goal.check_nodes-at t) own.Post goal.the-check_nodes-invariant-loop-at goal.the-check_nodes-decreases-loop-at (goal.the-clauses-check_nodes t)
+At-Then-is_free t = lts.Then12 (callees t) (goal.check_nodes-at t) own.Post goal.the-check_nodes-invariant-loop-at goal.the-check_nodes-decreases-loop-at (goal.the-clauses-check_nodes t)
 
-whole_is : {p q : ℕ} {m n b d : Bool} → m ≡ n → b ≡ d → p ≡ q → F.Whole p m b ≡ F.Whole q n d
+whole_is : {p q : ℕ} {m n b d : Bool} → m ≡ n → b ≡ d → p ≡ q → whole p m b ≡ whole q n d
 whole_is x y z = cc
 
 -- ---- behind a name, or where there is none
 
-module _ (t : ℕ) (c : At-After-either-numbered t) where
+module _ (t : ℕ) (c : At-After-name_number t) where
   abbrev depth : ℕ
   depth = c.args.depth
 
@@ -143,8 +143,12 @@ module _ (t : ℕ) (c : At-After-either-numbered t) where
       omega arith
 
   -- the annotations behind it, by what was gathered with the name
-  named : notes_front behind notes₀ c.either-numbered.result (notes_of (part tape behind end)) ≡ notes_front behind notes₀ (numbers₀ || name_number_in frame (part tape place end)) (notes_of (part tape behind end))
-  named = ap (λ (b : Bool). notes_front behind notes₀ b (notes_of (part tape behind end))) (c.either-numbered.ensures ∙ ap (λ (b : Bool). numbers₀ || b) c.name_number.ensures)
+  -- whether there was an identifier but 0 yet, the name included
+  abbrev numbers₁ : Bool
+  numbers₁ = numbers₀ || c.name_number-numbered.result
+
+  named : notes_front behind notes₀ numbers₁ (notes_of (part tape behind end)) ≡ notes_front behind notes₀ (numbers₀ || name_number_in frame (part tape place end)) (notes_of (part tape behind end))
+  named = ap (λ (b : Bool). notes_front behind notes₀ b (notes_of (part tape behind end))) (ap (λ (b : Bool). numbers₀ || b) c.name_number-numbered.ensures)
 
 -- ---- behind a head
 
@@ -153,7 +157,7 @@ pub record Headed (k : Frame) (s : List ℕ) (at e : ℕ) (a b : Bool) (p : ℕ)
   more : p < e
 
 module _ (t : ℕ) (c : At-Joined-tape-q-eq13 t) where
-  abbrev it : At-After-either-numbered t
+  abbrev it : At-After-name_number t
   it = c.before.before
 
   abbrev value : ℕ
@@ -162,20 +166,20 @@ module _ (t : ℕ) (c : At-Joined-tape-q-eq13 t) where
   headed : Headed (frame t it) (tape t it) (place t it) (end t it) (notes₀ t it) (numbers₀ t it) value c.if-tape-q-eq13.noted c.if-tape-q-eq13.numbered
   headed =
       elim c.if-tape-q-eq13.branch [
-        | then-tape-q-eq13+in-Whole+else-r-end w ↦ (
-            let h = seen (whole_is w.noted-is w.numbered-is w.p-is ∙ sym w.in-Whole.is ∙ w.notes_seen.ensures) in
+        | then-tape-q-eq13+in-Some+else-front-end w ↦ (
+            let h = seen (whole_is w.noted-is w.numbered-is w.p-is ∙ sym w.in-Some.is ∙ w.notes_seen.ensures) in
             let i = h.within in
             let e = w.p-is in
-            let n = w.if-r-end.false in
+            let n = w.if-front-end.false in
             record { head = h; more = omega arith })
         | else-tape-q-eq13 w ↦ (
             let f = part-first (tape t it) (behind t it) (end t it) (more t it) in
             let e = w.p-is in
             let g = more t it in
-            record { head = seen (whole_is w.noted-is w.numbered-is w.p-is ∙ front-none (part (tape t it) (behind t it) (end t it)) (behind t it) (notes₀ t it) it.either-numbered.result (notes-none _ (λ e. w.if-tape-q-eq13.false (sym f ∙ e)))); more = omega arith })
+            record { head = seen (whole_is w.noted-is w.numbered-is w.p-is ∙ front-none (part (tape t it) (behind t it) (end t it)) (behind t it) (notes₀ t it) (numbers₁ t it) (notes-none _ (λ e. w.if-tape-q-eq13.false (sym f ∙ e)))); more = omega arith })
       ]
     where
-      seen : F.Whole value c.if-tape-q-eq13.noted c.if-tape-q-eq13.numbered ≡ notes_front (behind t it) (notes₀ t it) it.either-numbered.result (notes_of (part (tape t it) (behind t it) (end t it)))
+      seen : whole value c.if-tape-q-eq13.noted c.if-tape-q-eq13.numbered ≡ notes_front (behind t it) (notes₀ t it) (numbers₁ t it) (notes_of (part (tape t it) (behind t it) (end t it)))
           → HeadSeen (frame t it) (tape t it) (place t it) (end t it) (notes₀ t it) (numbers₀ t it) value c.if-tape-q-eq13.noted c.if-tape-q-eq13.numbered
       seen z = notes-turn (depth t it) (frame t it) (tape t it) (place t it) (end t it) (opened t it) (left t it) (fits t it) (notes₀ t it) (numbers₀ t it) (behind t it) (name t it) _ _ _ (z ∙ named t it)
 
@@ -258,7 +262,7 @@ module _ (t : ℕ) (c : At-Joined-tape-q-eq13 t) (r : ℕ) (u : LeafSeen (depth 
 
 pub returns-then-depth-eq0 : goal.returns-then-depth-eq0
 returns-then-depth-eq0 t c =
-    rw c.if-depth-eq0.true (refuse_deep _ _ _ c.refused.ensures.fault)
+    rw c.if-depth-eq0.true (refuse_deep _ _)
 
 pub loop-at-init : goal.loop-at-init
 loop-at-init t c =
@@ -273,10 +277,10 @@ returns-then-q-end t c =
     let a = c.args in
     let l = c.loop-at in
     let u = name-refused a.depth a.frame a.tape.now l.at a.end c.if-depth-eq0.false c.loop-at-test.true (trailed c.requires.end_in_bounds) l.noted l.numbered _ c.behind_name-q.ensures c.if-q-end.true in
-    refuse l.invariant.2 _ 2 u.fault u.some c.refused-then-q-end.ensures.fault
+    refuse l.invariant.2 F.BadNode u.fault
 
-pub name_number-requires : goal.name_number-requires
-name_number-requires t c =
+pub name_number-numbered-requires : goal.name_number-numbered-requires
+name_number-numbered-requires t c =
     record { at_lt_end = c.loop-at-test.true; end_in_bounds = trailed c.requires.end_in_bounds }
 
 pub bounds-tape-q : goal.bounds-tape-q
@@ -289,16 +293,16 @@ notes_seen-requires t c =
 
 pub returns-in_default : goal.returns-in_default
 returns-in_default t c =
-    let i = c.before.before.before.before.before.before in
+    let i = c.before.before.before.before.before in
     let u = notes-refused (depth t i) (frame t i) (tape t i) (place t i) (end t i) (opened t i) (left t i) (fits t i) (notes₀ t i) (numbers₀ t i) (behind t i) (name t i) (sym c.in_default.is ∙ c.notes_seen.ensures ∙ named t i) in
-    refuse (passed t i) _ 2 u.fault u.some c.refused-in_default.ensures.fault
+    refuse (passed t i) F.BadNode u.fault
 
-pub returns-then-r-end : goal.returns-then-r-end
-returns-then-r-end t c =
+pub returns-then-front-end : goal.returns-then-front-end
+returns-then-front-end t c =
     let i = c.before.before.before.before.before.before.before in
-    let h = notes-turn (depth t i) (frame t i) (tape t i) (place t i) (end t i) (opened t i) (left t i) (fits t i) (notes₀ t i) (numbers₀ t i) (behind t i) (name t i) _ _ _ (sym c.in-Whole.is ∙ c.notes_seen.ensures ∙ named t i) in
-    let u = end_refused (depth t i) (frame t i) (tape t i) (place t i) (end t i) (opened t i) (left t i) (fits t i) h c.if-r-end.true in
-    refuse (passed t i) _ 2 u.fault u.some c.refused-then-r-end.ensures.fault
+    let h = notes-turn (depth t i) (frame t i) (tape t i) (place t i) (end t i) (opened t i) (left t i) (fits t i) (notes₀ t i) (numbers₀ t i) (behind t i) (name t i) _ _ _ (sym c.in-Some.is ∙ c.notes_seen.ensures ∙ named t i) in
+    let u = end_refused (depth t i) (frame t i) (tape t i) (place t i) (end t i) (opened t i) (left t i) (fits t i) h c.if-front-end.true in
+    refuse (passed t i) F.BadNode u.fault
 
 pub bounds-tape-p : goal.bounds-tape-p
 bounds-tape-p t c =
@@ -310,19 +314,20 @@ scalar_size-n-requires t c =
 
 pub returns-then-n-lt2 : goal.returns-then-n-lt2
 returns-then-n-lt2 t c =
-    let i = c.before.before.before.before.before.before.before.before.before in
-    let f = kind-is t c.before.before.before.before.before.before.before in
+    let j = c.before.before.before.before.before.before in
+    let i = it t j in
+    let f = kind-is t j in
     let k = c.if-k-lt10.true in
-    let u = size-refused (depth t i) (frame t i) (tape t i) (place t i) (end t i) (opened t i) (left t i) (fits t i) (headed t c.before.before.before.before.before.before.before).head (omega arith) _ c.scalar_size-n.ensures c.if-n-lt2.true in
-    refuse (passed t i) _ _ u.fault u.some (c.refused-then-n-lt2.ensures.fault ∙ c.size_fault.ensures)
+    let u = size-refused (depth t i) (frame t i) (tape t i) (place t i) (end t i) (opened t i) (left t i) (fits t i) (headed t j).head (omega arith) _ c.scalar_size-n.ensures c.if-n-lt2.true in
+    refuse (passed t i) _ (u.fault ∙ sym c.size_fault.ensures)
 
-pub is_number-requires : goal.is_number-requires
-is_number-requires t c =
+pub is_number-numbered-requires : goal.is_number-numbered-requires
+is_number-numbered-requires t c =
     record { at_lt_end = (headed t c.before.before.before.before.before).more; end_in_bounds = fits t c.before.before.before.before.before.before.before }
 
 pub overflow_add-count : goal.overflow_add-count
 overflow_add-count t c =
-    let u = leaf t c.before.before.before in
+    let u = leaf t c.before.before in
     let f = u.forth in
     let w = u.within in
     let g = c.loop-at.invariant.1 in
@@ -330,32 +335,33 @@ overflow_add-count t c =
 
 pub overflow_add-at : goal.overflow_add-at
 overflow_add-at t c =
-    let u = leaf t c.before.before.before.before in
+    let u = leaf t c.before.before.before in
     let w = u.within in
     let g = u.forth in
     record { fits = omega arith }
 
 pub loop-at-smaller-then-k-lt10 : goal.loop-at-smaller-then-k-lt10
 loop-at-smaller-then-k-lt10 t c =
-    let u = leaf t c.before.before.before.before in
+    let u = leaf t c.before.before.before in
     let f = u.forth in
     let w = u.within in
     omega arith
 
 pub loop-at-preserved-then-k-lt10 : goal.loop-at-preserved-then-k-lt10
 loop-at-preserved-then-k-lt10 t c =
-    let i = c.before.before.before.before.before.before.before.before.before.before in
-    let h = (headed t c.before.before.before.before.before.before.before.before).head in
+    let j = c.before.before.before.before.before.before.before in
+    let i = it t j in
+    let h = (headed t j).head in
     let hd = head_at (frame t i) (part (tape t i) (place t i) (end t i)) in
-    let l = part (tape t i) (value t c.before.before.before.before.before.before.before.before) (end t i) in
-    let u = leaf t c.before.before.before.before in
+    let l = part (tape t i) (value t j) (end t i) in
+    let u = leaf t c.before.before.before in
     let f = u.forth in
     let g = c.loop-at.invariant.1 in (
       u.within,
       omega arith,
       pass (passed t i) _ _ _ _ u.step _ _ h.sound u.sound
           (h.notes ∙ sym (ap (λ (b : Bool). notes₀ t i || annotated hd.1 || b) u.notes ∙ or-false _))
-          (c.either-numbered-then-k-lt10.ensures ∙ ap (λ (b : Bool). c.if-tape-q-eq13.numbered || b) c.is_number.ensures ∙ ap (λ (b : Bool). b || number_in l) h.numbers ∙ ap (λ (b : Bool). numbers₀ t i || head_numbered hd || b) (sym u.numbers)),
+          (ap (λ (b : Bool). c.if-tape-q-eq13.numbered || b) c.is_number-numbered.ensures ∙ ap (λ (b : Bool). b || number_in l) h.numbers ∙ ap (λ (b : Bool). numbers₀ t i || head_numbered hd || b) (sym u.numbers)),
     )
 
 pub span-n-requires : goal.span-n-requires
@@ -364,12 +370,13 @@ span-n-requires t c =
 
 pub returns-then-n-eq0 : goal.returns-then-n-eq0
 returns-then-n-eq0 t c =
-    let i = c.before.before.before.before.before.before.before.before.before in
-    let f = kind-is t c.before.before.before.before.before.before.before in
+    let here = c.before.before.before.before.before.before in
+    let i = it t here in
+    let f = kind-is t here in
     let k = c.if-k-lt13.true in
     let j = c.if-k-lt10.false in
-    let u = span-refused (depth t i) (frame t i) (tape t i) (place t i) (end t i) (opened t i) (left t i) (fits t i) (headed t c.before.before.before.before.before.before.before).head (omega arith) (omega arith) (sym c.if-n-eq0.true ∙ c.span-n.ensures) in
-    refuse (passed t i) _ 2 u.fault u.some c.refused-then-n-eq0.ensures.fault
+    let u = span-refused (depth t i) (frame t i) (tape t i) (place t i) (end t i) (opened t i) (left t i) (fits t i) (headed t here).head (omega arith) (omega arith) (sym c.if-n-eq0.true ∙ c.span-n.ensures) in
+    refuse (passed t i) F.BadNode u.fault
 
 pub overflow_add-p : goal.overflow_add-p
 overflow_add-p t c =
@@ -385,8 +392,8 @@ overflow_add-p-then-k-lt13 t c =
     let g = u.inner in
     record { fits = omega arith }
 
-pub check_nodes-r-requires : goal.check_nodes-r-requires
-check_nodes-r-requires t c =
+pub check_nodes-requires : goal.check_nodes-requires
+check_nodes-requires t c =
     let u = opens t c.before in
     let w = u.within in
     let z = c.decreases in
@@ -394,13 +401,15 @@ check_nodes-r-requires t c =
     let y = c.requires.end_in_bounds in
     (omega arith, (u.inner, omega arith))
 
-pub returns-then-r-ne0 : goal.returns-then-r-ne0
-returns-then-r-ne0 t c =
-    let i = c.before.before.before.before.before.before.before.before.before.before.before.before.before.before in
-    let h = (headed t c.before.before.before.before.before.before.before.before.before.before.before.before).head in
+pub returns-in_err-inner : goal.returns-in_err-inner
+returns-in_err-inner t c =
+    let j = c.before.before.before.before.before.before.before.before.before.before.before.before in
+    let i = it t j in
+    let h = (headed t j).head in
     let u = opens t c.before.before.before.before.before in
-    let r = c.check_nodes-r.ensures in
-    refuse_node (passed t i) _ _ _ _ u.step _ h.sound (λ z. c.if-r-ne0.true (r.fault ∙ z)) (c.refused-then-r-ne0.ensures.fault ∙ r.fault)
+    let r = c.in_err-inner.ensures in
+    let p = err_from_is_err_and c.from_residual.result c.from_residual.ensures.1 in
+    rw (p.1, p.2) (refuse_node (passed t i) _ _ _ _ u.step _ h.sound r.fault)
 
 pub overflow_add-count-then-k-lt13 : goal.overflow_add-count-then-k-lt13
 overflow_add-count-then-k-lt13 t c =
@@ -427,20 +436,21 @@ loop-at-smaller-then-k-lt13 t c =
 pub loop-at-preserved-then-k-lt13 : goal.loop-at-preserved-then-k-lt13
 unfolding noted numbered
 loop-at-preserved-then-k-lt13 t c =
-    let i = c.before.before.before.before.before.before.before.before.before.before.before.before.before.before.before in
-    let h = (headed t c.before.before.before.before.before.before.before.before.before.before.before.before.before).head in
+    let j = c.before.before.before.before.before.before.before.before.before.before.before.before.before in
+    let i = it t j in
+    let h = (headed t j).head in
     let hd = head_at (frame t i) (part (tape t i) (place t i) (end t i)) in
     let u = opens t c.before.before.before.before.before.before in
     let f = u.forth in
     let g = c.loop-at.invariant.1 in
-    let x = c.check_nodes-r.result in
-    let r = c.check_nodes-r.ensures in
-    let k = r.counts c.if-r-ne0.false in (
+    let x = c.in_ok-inner.inner in
+    let r = c.in_ok-inner.ensures in
+    let k = r.counts in (
       u.within,
       omega arith,
-      pass (passed t i) _ _ _ _ u.step _ _ h.sound (sym r.fault ∙ c.if-r-ne0.false)
-          (c.either-noted.ensures ∙ ap (λ (b : Bool). b || x.noted) h.notes ∙ ap (λ (b : Bool). notes₀ t i || annotated hd.1 || b) k.noted)
-          (c.either-numbered-then-k-lt13.ensures ∙ ap (λ (b : Bool). b || x.numbered) h.numbers ∙ ap (λ (b : Bool). numbers₀ t i || head_numbered hd || b) k.numbered),
+      pass (passed t i) _ _ _ _ u.step _ _ h.sound (sym r.fault)
+          (ap (λ (b : Bool). b || x.noted) h.notes ∙ ap (λ (b : Bool). notes₀ t i || annotated hd.1 || b) k.noted)
+          (ap (λ (b : Bool). b || x.numbered) h.numbers ∙ ap (λ (b : Bool). numbers₀ t i || head_numbered hd || b) k.numbered),
     )
 
 pub span-n-requires-then-k-eq15 : goal.span-n-requires-then-k-eq15
@@ -449,10 +459,10 @@ span-n-requires-then-k-eq15 t c =
 
 pub returns-then-n-eq0-2 : goal.returns-then-n-eq0-2
 returns-then-n-eq0-2 t c =
-    let j = c.before.before.before.before.before.before.before.before in
+    let j = c.before.before.before.before.before.before.before in
     let i = it t j in
     let u = blob-refused (depth t i) (frame t i) (tape t i) (place t i) (end t i) (opened t i) (left t i) (fits t i) (headed t j).head (kind-is t j ∙ c.if-k-eq15.true) (sym c.if-n-eq0-2.true ∙ c.span-n-then-k-eq15.ensures) in
-    refuse (passed t i) _ 2 u.fault u.some c.refused-then-n-eq0-2.ensures.fault
+    refuse (passed t i) F.BadNode u.fault
 
 pub overflow_add-count-then-k-eq15 : goal.overflow_add-count-then-k-eq15
 overflow_add-count-then-k-eq15 t c =
@@ -480,11 +490,12 @@ loop-at-preserved-then-k-eq15 t c =
 
 pub returns-then-k-ne14 : goal.returns-then-k-ne14
 returns-then-k-ne14 t c =
-    let i = c.before.before.before.before.before.before.before.before.before in
-    let f = kind-is t c.before.before.before.before.before.before.before in
+    let here = c.before.before.before.before.before.before in
+    let i = it t here in
+    let f = kind-is t here in
     let j = c.if-k-lt13.false in
-    let u = other-refused (depth t i) (frame t i) (tape t i) (place t i) (end t i) (opened t i) (left t i) (fits t i) (headed t c.before.before.before.before.before.before.before).head (omega arith) (λ e. c.if-k-ne14.true (sym f ∙ e)) (λ e. c.if-k-eq15.false (sym f ∙ e)) in
-    refuse (passed t i) _ 2 u.fault u.some c.refused-then-k-ne14.ensures.fault
+    let u = other-refused (depth t i) (frame t i) (tape t i) (place t i) (end t i) (opened t i) (left t i) (fits t i) (headed t here).head (omega arith) (λ e. c.if-k-ne14.true (sym f ∙ e)) (λ e. c.if-k-eq15.false (sym f ∙ e)) in
+    refuse (passed t i) F.BadNode u.fault
 
 pub is_free-requires : goal.is_free-requires
 is_free-requires t c =
@@ -516,10 +527,10 @@ loop-at-preserved t c =
 
 pub returns-else-is_free : goal.returns-else-is_free
 returns-else-is_free t c =
-    let j = c.before.before.before.before.before.before.before.before.before in
+    let j = c.before.before.before.before.before.before.before.before in
     let i = it t j in
     let u = marker_refused (depth t i) (frame t i) (tape t i) (place t i) (end t i) (opened t i) (left t i) (fits t i) (headed t j).head (kind-is t j ∙ c.if-k-ne14.false) (sym c.is_free.ensures ∙ c.if-is_free.false) in
-    refuse (passed t i) _ 2 u.fault u.some c.refused-else-is_free.ensures.fault
+    refuse (passed t i) F.BadNode u.fault
 
 pub returns : goal.returns
 returns t c =
@@ -527,4 +538,4 @@ returns t c =
     let l = c.loop-at in
     let n = part_length a.tape.now l.at a.end (trailed c.requires.end_in_bounds) in
     let z = c.loop-at-test.false in
-    passed-all l.invariant.2 (walk_end a.frame a.depth _ c.if-depth-eq0.false (omega arith)) _ refl refl refl refl
+    passed-all l.invariant.2 (walk_end a.frame a.depth _ c.if-depth-eq0.false (omega arith))

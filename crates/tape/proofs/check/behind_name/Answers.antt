@@ -1,4 +1,5 @@
 -- `tape::check::behind_name` meets its contract. Assumes nothing.
+use mathlib.Core.Logic.{inl, inr}
 use mathlib.Core.Path.{sym, ◌∙◌}
 use native.Mathlib.Omega.{arith}
 use Rattle.tape.specs.Bytes.{part}
@@ -30,12 +31,7 @@ returns-else-n-eq0 c =
 
 pub returns-in-Top : goal.returns-in-Top
 unfolding name_of
-returns-in-Top c = rw c.in-Top.is (omega arith)
-
-pub returns-in-List : goal.returns-in-List
-unfolding name_of
-returns-in-List c = rw c.in-List.is (omega arith)
-
-pub returns-in-Sexp : goal.returns-in-Sexp
-unfolding name_of
-returns-in-Sexp c = rw c.in-Sexp.is (omega arith)
+returns-in-Top c = elim c.in-Top.is [
+  | inl e ↦ rw e (omega arith)
+  | inr g ↦ elim g [ inl e ↦ rw e (omega arith) | inr e ↦ rw e (omega arith) ]
+]

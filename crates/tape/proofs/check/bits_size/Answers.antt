@@ -22,11 +22,11 @@ pub returns-then-m-gt9218868437227405312 : goal.returns-then-m-gt921886843722740
 unfolding float_as
 returns-then-m-gt9218868437227405312 c = simp (ne_eqb _ _ c.if-b-eq9221120237041090560.false, lt-ltb _ _ c.if-m-gt9218868437227405312.true)
 
-pub returns-in-Is : goal.returns-in-Is
+pub returns-in-Some : goal.returns-in-Some
 unfolding float_as scalar_fault
-returns-in-Is c =
+returns-in-Some c =
     let b = c.args.b in
-    let e = sym (rw c.in-Is.is at c.magnitude_of.ensures) in
+    let e = sym c.in-Some.ensures in
     let l = whole-low b _ e in
     simp (ne_eqb b 0x7FF8_0000_0000_0000 (λ z. omega arith), le-ltb _ _ l, whole-fault (of_bits binary64 b) _ e)
 
@@ -34,5 +34,5 @@ pub returns-else-m-gt9218868437227405312 : goal.returns-else-m-gt921886843722740
 unfolding float_as scalar_fault
 returns-else-m-gt9218868437227405312 c =
     let b = c.args.b in
-    let e = sym (rw c.in-No.is at c.magnitude_of.ensures) in
+    let e = sym c.in-None.ensures in
     simp (ne_eqb _ _ c.if-b-eq9221120237041090560.false, le-ltb _ _ c.if-m-gt9218868437227405312.false, other-fault b (omega arith) (omega arith) e)

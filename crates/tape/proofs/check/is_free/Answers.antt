@@ -1,4 +1,5 @@
 -- `tape::check::is_free` meets its contract. Assumes nothing.
+use mathlib.Core.Logic.{inl, inr}
 use lib.Dec.{eqb}
 use lib.ListN.{get_or}
 use Rattle.tape.proofs.Parts.{part-first}
@@ -15,12 +16,4 @@ returns-in-Top c =
 
 pub returns-in-List : goal.returns-in-List
 unfolding free_at
-returns-in-List c = rw c.in-List.is
-
-pub returns-in-Sexp : goal.returns-in-Sexp
-unfolding free_at
-returns-in-Sexp c = rw c.in-Sexp.is
-
-pub returns-in-Struct : goal.returns-in-Struct
-unfolding free_at
-returns-in-Struct c = rw c.in-Struct.is
+returns-in-List c = elim c.in-List.is [ inl e ↦ rw e | inr g ↦ elim g [ inl e ↦ rw e | inr e ↦ rw e ] ]

@@ -1,4 +1,5 @@
 -- `tape::check::name_number` meets its contract. Assumes nothing.
+use mathlib.Core.Logic.{inl, inr}
 use mathlib.Core.Path.{◌∙◌}
 use Rattle.tape.specs.Tape.{name_of}
 use Rattle.tape.specs.CheckSteps.{name_number_in}
@@ -10,12 +11,4 @@ returns-in-Struct c = rw c.in-Struct.is (c.is_number.ensures ∙ number-name _)
 
 pub returns-in-Top : goal.returns-in-Top
 unfolding name_number_in name_of
-returns-in-Top c = rw c.in-Top.is
-
-pub returns-in-List : goal.returns-in-List
-unfolding name_number_in name_of
-returns-in-List c = rw c.in-List.is
-
-pub returns-in-Sexp : goal.returns-in-Sexp
-unfolding name_number_in name_of
-returns-in-Sexp c = rw c.in-Sexp.is
+returns-in-Top c = elim c.in-Top.is [ inl e ↦ rw e | inr g ↦ elim g [ inl e ↦ rw e | inr e ↦ rw e ] ]

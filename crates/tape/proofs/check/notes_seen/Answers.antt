@@ -8,20 +8,19 @@ use Rattle.tape.proofs.CodeReading.{notes-empty, notes-none, notes_short, notes_
 use Rattle.tape.proofs.CodeFacts.{front-none, front-notes}
 use Rattle.tape.proofs.Parts.{trailed}
 use Rattle.tape.proofs.check.notes_seen.Goals as goal
+use Rattle.tape.proofs.check.notes_seen.Goals.{then-at-end-via-then-at-end, then-at-end-via-else-at-end+then-tape-at-ne13, then-n-lt1-via-then-n-lt1, then-n-lt1-via-else-n-lt1+then-n-gt16}
 
 pub returns-then-at-end : goal.returns-then-at-end
 returns-then-at-end c =
     let a = c.args in
     let l = part a.tape.now a.at a.end in
     let n = part_length a.tape.now a.at a.end (trailed c.requires.end_in_bounds) in
-    front-none l a.at a.noted a.numbered (notes-empty l (omega arith))
-
-pub returns-then-tape-at-ne13 : goal.returns-then-tape-at-ne13
-returns-then-tape-at-ne13 c =
-    let a = c.args in
-    let l = part a.tape.now a.at a.end in
-    let f = part-first a.tape.now a.at a.end (omega arith) in
-    front-none l a.at a.noted a.numbered (notes-none l (λ e. c.if-tape-at-ne13.true (sym f ∙ e)))
+    front-none l a.at a.noted a.numbered (elim c.then-at-end.branch [
+      | then-at-end-via-then-at-end w ↦ notes-empty l (omega arith)
+      | then-at-end-via-else-at-end+then-tape-at-ne13 w ↦
+          let f = part-first a.tape.now a.at a.end (omega arith) in
+          notes-none l (λ e. w.if-tape-at-ne13.true (sym f ∙ e))
+    ])
 
 pub returns-then-end-at-lt2 : goal.returns-then-end-at-lt2
 returns-then-end-at-lt2 c =
@@ -37,15 +36,10 @@ returns-then-n-lt1 c =
     let l = part a.tape.now a.at a.end in
     let f = part-first a.tape.now a.at a.end (omega arith) in
     let b = part_byte a.tape.now a.at a.end 1 (omega arith) in
-    sym (ap (notes_front a.at a.noted a.numbered) (notes_few l (f ∙ c.if-tape-at-ne13.false) (omega arith)))
-
-pub returns-then-n-gt16 : goal.returns-then-n-gt16
-returns-then-n-gt16 c =
-    let a = c.args in
-    let l = part a.tape.now a.at a.end in
-    let f = part-first a.tape.now a.at a.end (omega arith) in
-    let b = part_byte a.tape.now a.at a.end 1 (omega arith) in
-    sym (ap (notes_front a.at a.noted a.numbered) (notes-many l (f ∙ c.if-tape-at-ne13.false) (omega arith)))
+    sym (ap (notes_front a.at a.noted a.numbered) (elim c.then-n-lt1.branch [
+      | then-n-lt1-via-then-n-lt1 w ↦ notes_few l (f ∙ c.if-tape-at-ne13.false) (omega arith)
+      | then-n-lt1-via-else-n-lt1+then-n-gt16 w ↦ notes-many l (f ∙ c.if-tape-at-ne13.false) (omega arith)
+    ]))
 
 pub returns : goal.returns
 returns c =

@@ -3,7 +3,7 @@ use Prim.Native.Nat.{◌+◌, ◌-◌}
 use mathlib.Core.Path.{◌≡◌, refl, sym, ◌∙◌}
 use mathlib.Core.List.{append-nil}
 use native.Mathlib.Omega.{arith}
-use Rattle.output.proofs.Laws.{start, more, finish, wrote-length, wrote-bound}
+use Rattle.output.proofs.Laws.{begin, more, finish, wrote-length}
 use Rattle.text_rules.proofs.Base64Laws.{base64-next}
 use borrow.Author.Rules.{rules}
 use Rattle.text_rules.proofs.blobs.format_base64.Goals as goal
@@ -13,10 +13,7 @@ loop-i-init c =
     let a = c.args in
     let e : a.n - 0 ≡ a.n = omega arith in
     let f : a.from + 0 ≡ a.from = omega arith in
-    (omega arith, rw (e, f) (start _ _ _ (search rules) (search rules)))
-
-pub put_base64-p-requires : goal.put_base64-p-requires
-put_base64-p-requires c = record { n_in_bounds = omega arith; pos_le_limit = wrote-bound c.loop-i.invariant.1.wrote }
+    (omega arith, rw (e, f) (begin _ _ _ _ c.bounded-p.ensures (search rules)))
 
 pub loop-i-preserved : goal.loop-i-preserved
 loop-i-preserved c =
@@ -24,9 +21,6 @@ loop-i-preserved c =
     let l = c.loop-i in
     let f : a.from + (l.i + 3072) ≡ a.from + l.i + 3072 = omega arith in
     (omega arith, rw f (more l.invariant.1 c.put_base64-p.ensures (base64-next a.s.now (a.from + l.i) (a.n - l.i) 3072 (a.n - (l.i + 3072)) (omega arith) refl (omega arith))))
-
-pub put_base64-requires : goal.put_base64-requires
-put_base64-requires c = record { n_in_bounds = omega arith; pos_le_limit = wrote-bound c.loop-i.invariant.1.wrote }
 
 pub shape_of-buf : goal.shape_of-buf
 shape_of-buf c = wrote-length c.put_base64.ensures ∙ wrote-length c.loop-i.invariant.1.wrote

@@ -8,6 +8,3 @@ use Rattle.text_rules.proofs.blobs.print_sextets.Given as goal
 
 abbrev pub invariant-loop-i : goal.invariant-loop-i
 invariant-loop-i l = (l.from ≤ l.i) × (l.i ≤ l.to) × (length l.buf ≡ length l.initial.buf) × (sets l.initial.buf l.from (printed (take (l.to - l.from) (drop l.from l.initial.buf))) ≡ sets l.buf l.i (printed (take (l.to - l.i) (drop l.i l.buf))))
-
-abbrev pub decreases-loop-i : goal.decreases-loop-i
-decreases-loop-i l = l.to - l.i

@@ -1,5 +1,5 @@
 -- `blobs::put_sextets` meets its contract. The invariant of both loops: what is left to store decides the whole. Assumes nothing.
-use mathlib.Core.Path.{◌≡◌, refl, sym, ap, ◌∙◌}
+use mathlib.Core.Path.{◌≡◌, refl, sym, ◌∙◌}
 use Prim.Native.Nat.{◌+◌, ◌-◌, ◌≤◌}
 use native.Mathlib.Omega.{arith}
 use lib.ListN.{length, take, drop}
@@ -26,7 +26,7 @@ loop-i-preserved c =
       omega arith,
       omega arith,
       search rules,
-      l.invariant.4 ∙ sextets-turn s l.buf _ _ l.p l.i 6 (a.from + a.n) refl (omega arith) (omega arith) (spread-8 w.result r.result (drop l.i s) w.ensures r.ensures) c.store_8.ensures,
+      l.invariant.4 ∙ sextets-turn s l.buf _ _ l.p l.i 6 (a.from + a.n) refl (omega arith) (omega arith) (spread-8 w.result r.result (drop l.i s) w.ensures r.ensures) c.store.ensures,
     )
 
 pub loop-i-2-init : goal.loop-i-2-init
@@ -38,19 +38,17 @@ pub loop-i-2-preserved : goal.loop-i-2-preserved
 loop-i-2-preserved c =
     let a = c.args in
     let l = c.loop-i-2 in
-    let x = c.wide.ensures in
-    let y = c.wide-in-loop-i-2.ensures in
-    let z = c.wide-in-loop-i-2-2.ensures in
     let r = c.spread-in-loop-i-2 in
+    let k = c.type_inv.s in
     let s = a.s.now in
     let h : l.i + 3 ≤ a.from + a.n = omega arith in
     let q : a.from + a.n ≤ length s = omega arith in
-    let u : le_bytes 4 r.result ≡ sextets (take 3 (drop l.i s)) = spread-4 _ _ _ r.result x.1 y.1 z.1 r.ensures ∙ rw (x.0, y.0, z.0) (ap sextets (sym (part-3 s l.i (omega arith)))) in (
+    let u : le_bytes 4 r.result ≡ sextets (take 3 (drop l.i s)) = rw (part-3 s l.i (omega arith)) (spread-4 _ _ _ r.result (k l.i).fits (k (l.i + 1)).fits (k (l.i + 2)).fits (rw (c.from.ensures, c.from-in-loop-i-2.ensures, c.from-in-loop-i-2-2.ensures) at r.ensures)) in (
       h,
       omega arith,
       omega arith,
       search rules,
-      l.invariant.4 ∙ sextets-turn s l.buf _ _ l.p l.i 3 (a.from + a.n) refl h q u c.store_4.ensures,
+      l.invariant.4 ∙ sextets-turn s l.buf _ _ l.p l.i 3 (a.from + a.n) refl h q u c.store-in-loop-i-2.ensures,
     )
 
 pub shape_of-buf : goal.shape_of-buf

@@ -1,28 +1,24 @@
--- `clobs::any_clob_suspect` meets its contract. The invariant: where no flag is set yet, the whole needs no escape if what is left needs none.
+-- `clobs::any_clob_suspect` meets its contract. The invariant: where none was found, the whole needs no escape if what is left needs none.
 -- Assumes nothing.
 use mathlib.Core.Path.{◌≡◌}
 use mathlib.Core.List.{[]}
 use native.Mathlib.Omega.{arith}
 use lib.ListN.{drop, drop_of_length-le}
+use Rattle.std.proofs.lemmas.Bool.{or_parts}
 use Rattle.text_rules.specs.Escapes.{clob_body}
-use Rattle.lanes.proofs.LaneLaws.{or_left, or_right}
 use Rattle.text_rules.proofs.ClobLaws.{clob-raw}
 use Rattle.text_rules.proofs.clobs.any_clob_suspect.Goals as goal
 
-pub loop-i-init : goal.loop-i-init
-loop-i-init c = (omega arith, λ e h. h)
-
-pub loop-i-preserved : goal.loop-i-preserved
-loop-i-preserved c =
-    let l = c.loop-i in
+pub loop-b-preserved : goal.loop-b-preserved
+loop-b-preserved c =
+    let l = c.loop-b in
     let s = c.args.s.now in
-    let x = c.clob_suspect-n in
-    (omega arith, λ e h. l.invariant.1 (omega (arith, or_left l.n x.result)) (clob-raw s l.i c.loop-i-test.true (x.ensures (omega (arith, or_right l.n x.result))) h))
+    (omega arith, λ e h. let o = or_parts _ _ e in l.invariant.1 o.0 (clob-raw s l.b-index c.loop-b-test.true (c.clob_suspect-any.ensures o.1) h))
 
 pub returns : goal.returns
 unfolding clob_body
 returns c =
-    let l = c.loop-i in
+    let l = c.loop-b in
     let s = c.args.s.now in
-    let e : drop l.i s ≡ [] = drop_of_length-le s {i = l.i} (omega arith) in
+    let e : drop l.b-index s ≡ [] = drop_of_length-le s {i = l.b-index} (omega arith) in
     λ z. l.invariant.1 z (rw e)

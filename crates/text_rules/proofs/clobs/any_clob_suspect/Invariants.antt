@@ -1,13 +1,11 @@
 -- `clobs::any_clob_suspect` meets its contract. The invariant: where no flag is set yet, the whole needs no escape if what is left needs none.
 -- Assumes nothing.
-use Prim.Native.Nat.{◌-◌, ◌≤◌}
+use Prim.Native.Nat.{◌≤◌}
 use mathlib.Core.Path.{◌≡◌}
+use mathlib.Core.Bool.{false}
 use lib.ListN.{length, drop}
 use Rattle.text_rules.specs.Escapes.{clob_body}
 use Rattle.text_rules.proofs.clobs.any_clob_suspect.Given as goal
 
-abbrev pub invariant-loop-i : goal.invariant-loop-i
-invariant-loop-i l = (l.i ≤ length l.s) × (l.n ≡ 0 → clob_body (drop l.i l.s) ≡ drop l.i l.s → clob_body l.s ≡ l.s)
-
-abbrev pub decreases-loop-i : goal.decreases-loop-i
-decreases-loop-i l = length l.s - l.i
+abbrev pub invariant-loop-b : goal.invariant-loop-b
+invariant-loop-b l = (l.b-index ≤ length l.s) × (l.any ≡ false → clob_body (drop l.b-index l.s) ≡ drop l.b-index l.s → clob_body l.s ≡ l.s)

@@ -3,14 +3,14 @@ use mathlib.Core.Path.{◌≡◌}
 use mathlib.Core.List.{[]}
 use native.Mathlib.Omega.{arith}
 use lib.ListN.{drop, drop_of_length-le}
-use Rattle.output.proofs.Laws.{start, more, finish, wrote-length, wrote-bound}
+use Rattle.output.proofs.Laws.{begin, more, finish, wrote-length}
 use Rattle.text_rules.specs.Escapes.{clob_body}
 use Rattle.text_rules.proofs.ClobLaws.{clob-step}
 use borrow.Author.Rules.{rules}
 use Rattle.text_rules.proofs.clobs.put_clob_by.Goals as goal
 
 pub loop-i-init : goal.loop-i-init
-loop-i-init c = (omega arith, start _ _ _ (search rules) (search rules))
+loop-i-init c = (omega arith, begin _ _ _ _ c.bounded-p.ensures (search rules))
 
 pub overflow_cast-b : goal.overflow_cast-b
 overflow_cast-b c = omega (arith, c.shared_slice_known-in-loop-i-1.given c.loop-i.i)
@@ -20,7 +20,7 @@ bounds-t-b c = omega (arith, c.shared_slice_known-in-loop-i-1.given c.loop-i.i)
 
 pub put_clob_byte-p-requires : goal.put_clob_byte-p-requires
 put_clob_byte-p-requires c =
-    (wrote-bound c.loop-i.invariant.1.wrote, c.requires.1.at _ (omega (arith, c.shared_slice_known-in-loop-i-1.given c.loop-i.i)))
+    c.requires.at _ (omega (arith, c.shared_slice_known-in-loop-i-1.given c.loop-i.i))
 
 pub loop-i-preserved : goal.loop-i-preserved
 loop-i-preserved c =

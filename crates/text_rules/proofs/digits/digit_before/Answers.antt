@@ -7,13 +7,13 @@ use lib.Dec.{lit<}
 use Rattle.text_rules.specs.Digits.{digit}
 use Rattle.text_rules.proofs.digits.digit_before.Goals as goal
 
-pub returns-then-k-ge20 : goal.returns-then-k-ge20
-returns-then-k-ge20 c =
+pub returns-else-k-lt20 : goal.returns-else-k-lt20
+returns-else-k-lt20 c =
     let n = c.args.n in
     let k = c.args.k in
-    let t : 10 ^ 20 ≤ 10 ^ k = pow-le-pow_right (lit< tt) c.if-k-ge20.true in
+    let t : 10 ^ 20 ≤ 10 ^ k = pow-le-pow_right (lit< tt) c.if-k-lt20.false in
     let z : n / 10 ^ k ≡ 0 = div-eq_of_lt (omega arith) in
     rw z
 
-pub returns : goal.returns
-returns c = c.digit_of.ensures ∙ ap digit (c.wide.ensures ∙ ap (λ (p : ℕ). c.args.n / p % 10) c.pow10.ensures.0)
+pub returns-then-k-lt20 : goal.returns-then-k-lt20
+returns-then-k-lt20 c = c.digit_of.ensures ∙ ap (λ (p : ℕ). digit (c.args.n / p % 10)) c.pow10.ensures.0

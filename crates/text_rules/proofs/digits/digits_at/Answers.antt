@@ -1,65 +1,44 @@
--- `digits::digits_at` meets its contract. The loop's invariant: what the digits from the present place give is what those from the first give. Assumes nothing.
+-- `digits::digits_at` meets its contract. Assumes nothing.
 use native.Mathlib.Omega.{arith}
-use Prim.Native.Nat.{◌+◌, ◌-◌, ◌*◌, ◌^◌, ◌≤◌, ◌<◌}
-use mathlib.Core.Path.{◌≡◌}
-use mathlib.Core.Bool.{true}
-use borrow.Author.Tests.{le-leb, lt-leb}
-use lib.ListN.{length, get_or}
+use Rattle.std.proofs.Common.{◌≡◌, ℕ, ◌+◌, ◌-◌, ◌*◌, ◌^◌, ◌≤◌, ◌<◌, true, length, get_or, Some, None, sym, subst, ◌∙◌}
 use Rattle.text_rules.specs.Digits.{is_digit}
-use Rattle.text_rules.specs.declared.digits.Joined.TheVariants.{Digits as DigitsV, Over}
+use Rattle.text_rules.specs.DigitSteps.{RunJoined}
+use Rattle.text_rules.proofs.DigitLaws.{digit_range}
 use Rattle.text_rules.proofs.DigitReading.{ran_stop, ran_more, ran_over, no_digit_lem, no_byte}
 use Rattle.text_rules.proofs.digits.digits_at.Goals as goal
 
-pub loop-i-init : goal.loop-i-init
-loop-i-init c = (omega arith, omega arith, omega arith, λ r h. h)
-
-pub returns-then-b-lt48 : goal.returns-then-b-lt48
-unfolding is_digit
-returns-then-b-lt48 c =
+pub returns-then-not-is_digit : goal.returns-then-not-is_digit
+returns-then-not-is_digit c =
     let l = c.loop-i in
     let t = c.args.text.now in
-    let lt : l.i < length t = c.loop-i-test.true in
-    l.invariant.3 (DigitsV l.n l.i) (ran_stop t l.i l.n (no_digit_lem t l.i lt (simp (lt-leb 48 (get_or t l.i 0) c.if-b-lt48.true))) (omega arith) l.invariant.2)
+    l.invariant.1 (Some (l.n, l.i)) (ran_stop t l.i l.n (no_digit_lem t l.i c.loop-i-test.true (sym c.is_digit.ensures ∙ c.if-not-is_digit.true)) (omega arith) l.invariant.0)
 
-pub returns-then-b-gt57 : goal.returns-then-b-gt57
-unfolding is_digit
-returns-then-b-gt57 c =
+pub returns-in_err-checked_mul : goal.returns-in_err-checked_mul
+returns-in_err-checked_mul c =
     let l = c.loop-i in
-    let t = c.args.text.now in
-    let lt : l.i < length t = c.loop-i-test.true in
-    l.invariant.3 (DigitsV l.n l.i) (ran_stop t l.i l.n (no_digit_lem t l.i lt (simp (le-leb 48 (get_or t l.i 0) c.if-b-lt48.false, lt-leb (get_or t l.i 0) 57 c.if-b-gt57.true))) (omega arith) l.invariant.2)
+    let d : is_digit (get_or c.args.text.now l.i 0) ≡ true = sym c.is_digit.ensures ∙ c.if-not-is_digit.false in
+    rw c.from_residual.ensures (l.invariant.1 None (ran_over c.args.text.now l.i l.n c.loop-i-test.true d (omega (arith, c.in_err-checked_mul.ensures))))
 
-pub returns-then-n-gt1844674407370955161 : goal.returns-then-n-gt1844674407370955161
-unfolding is_digit
-returns-then-n-gt1844674407370955161 c =
-    let l = c.loop-i in
-    let t = c.args.text.now in
-    let lt : l.i < length t = c.loop-i-test.true in
-    let d : is_digit (get_or t l.i 0) ≡ true = simp (le-leb 48 (get_or t l.i 0) c.if-b-lt48.false, le-leb (get_or t l.i 0) 57 c.if-b-gt57.false) in
-    let o : 2 ^ 64 ≤ l.n * 10 + (get_or t l.i 0 - 48) = omega (arith, c.if-n-gt1844674407370955161.true) in
-    l.invariant.3 Over (ran_over t l.i l.n lt d o)
+pub overflow_sub-b : goal.overflow_sub-b
+overflow_sub-b c = (digit_range _ (sym c.is_digit.ensures ∙ c.if-not-is_digit.false)).0
 
-pub returns-then-d-t : goal.returns-then-d-t
-unfolding is_digit
-returns-then-d-t c =
+pub returns-in_err-n : goal.returns-in_err-n
+returns-in_err-n c =
     let l = c.loop-i in
-    let t = c.args.text.now in
-    let lt : l.i < length t = c.loop-i-test.true in
-    let d : is_digit (get_or t l.i 0) ≡ true = simp (le-leb 48 (get_or t l.i 0) c.if-b-lt48.false, le-leb (get_or t l.i 0) 57 c.if-b-gt57.false) in
-    let o : 2 ^ 64 ≤ l.n * 10 + (get_or t l.i 0 - 48) = omega (arith, c.if-d-t.true) in
-    l.invariant.3 Over (ran_over t l.i l.n lt d o)
+    let d : is_digit (get_or c.args.text.now l.i 0) ≡ true = sym c.is_digit.ensures ∙ c.if-not-is_digit.false in
+    rw c.from_residual-in_err-n.ensures (l.invariant.1 None (ran_over c.args.text.now l.i l.n c.loop-i-test.true d (omega (arith, c.in_err-n.ensures, c.in_ok-checked_mul.ensures))))
 
 pub loop-i-preserved : goal.loop-i-preserved
-unfolding is_digit
 loop-i-preserved c =
     let l = c.loop-i in
-    let t = c.args.text.now in
-    let lt : l.i < length t = c.loop-i-test.true in
-    let d : is_digit (get_or t l.i 0) ≡ true = simp (le-leb 48 (get_or t l.i 0) c.if-b-lt48.false, le-leb (get_or t l.i 0) 57 c.if-b-gt57.false) in
-    (omega arith, omega arith, omega (arith, c.if-d-t.false), λ r h. l.invariant.3 r (ran_more t l.i l.n r lt d h))
+    let d : is_digit (get_or c.args.text.now l.i 0) ≡ true = sym c.is_digit.ensures ∙ c.if-not-is_digit.false in
+    let m = c.in_ok-checked_mul.ensures in
+    let n = c.in_ok-n.ensures in
+    (omega (arith, n), λ r h. l.invariant.1 r (ran_more c.args.text.now l.i l.n r c.loop-i-test.true d (rw (n.1, m.1) at h)))
 
 pub returns : goal.returns
 returns c =
     let l = c.loop-i in
     let t = c.args.text.now in
-    l.invariant.3 (DigitsV l.n l.i) (ran_stop t l.i l.n (no_byte t l.i (omega arith)) (omega arith) l.invariant.2)
+    let e : l.i ≡ length t = omega arith in
+    l.invariant.1 (Some (l.n, length t)) (subst (λ k. RunJoined t l.i l.n (Some (l.n, k))) e (ran_stop t l.i l.n (no_byte t l.i e) (omega arith) l.invariant.0))

@@ -6,4 +6,4 @@ use Rattle.text_rules.proofs.digits.eight.Goals as goal
 pub returns : goal.returns
 returns c =
     let a = c.args in
-    c.store_8.ensures ∙ ap (sets a.buf.now a.p) c.eight_digits.ensures
+    c.store.ensures ∙ ap (sets a.buf.now a.p) c.eight_digits.ensures

@@ -31,4 +31,4 @@ returns c =
     let z = c.zeros8-k.ensures.of x (omega arith) c.word8-d.ensures.0 in
     let d = c.word8-d in
     let e = ap (λ (w : ℕ). le_bytes 8 (w + zeros)) d.ensures.0 ∙ word_of_lem x (omega arith) in
-    ahead_of c.zeros8-k.result (d.result + zeros) x z e c.store_8.ensures
+    ahead_of c.zeros8-k.result (d.result + zeros) x z e c.store.ensures

@@ -1,23 +1,31 @@
 -- `digits::put_blocks` meets its contract. Assumes nothing.
 use mathlib.Core.Path.{◌≡◌}
-use Prim.Native.Nat.{◌+◌, ◌/◌}
+use Prim.Native.Nat.{ℕ, ◌<◌, ◌%◌, ◌+◌, ◌/◌}
 use native.Mathlib.Nat.{add_assoc}
 use native.Mathlib.Omega.{arith}
+use mathlib.Core.List.{List}
+use lib.ListN.{set}
+use lib.Seq.{sets}
+use Rattle.text_rules.specs.Digits.{digit, pad}
 use Rattle.text_rules.proofs.DigitLaws.{last_one}
 use Rattle.text_rules.proofs.DigitCode.{count-is, led_short, led_more}
 use Rattle.text_rules.proofs.DigitWords.{ahead_most, ahead_more}
 use borrow.Author.Rules.{rules}
 use Rattle.text_rules.proofs.digits.put_blocks.Goals as goal
 
+one_digit : (l : List ℕ) (p n d : ℕ) → n < 10 → d ≡ digit n → set l p d ≡ sets l p (pad 1 n)
+unfolding pad
+one_digit l p n d h e = let m : n % 10 ≡ n = omega arith in rw (m, e)
+
 pub returns-then-n-lt10 : goal.returns-then-n-lt10
 returns-then-n-lt10 c =
     let n = c.args.n in
-    led_short 1 (rw c.wide.ensures at c.one.ensures) (last_one 19 n (omega arith))
+    led_short 1 (one_digit c.args.buf.now c.args.pos n _ c.if-n-lt10.true c.digit_of.ensures) (last_one 19 n (omega arith))
 
 pub returns-then-n-lt100 : goal.returns-then-n-lt100
 returns-then-n-lt100 c =
     let n = c.args.n in
-    led_short 2 (rw c.wide-then-n-lt100.ensures at c.two.ensures) (count-is 1 n (omega arith) (omega arith) (omega arith))
+    led_short 2 c.two.ensures (count-is 1 n (omega arith) (omega arith) (omega arith))
 
 pub eight-requires : goal.eight-requires
 eight-requires c = let m = ahead_most 7 c.lead_store-p.ensures (omega arith) in search rules

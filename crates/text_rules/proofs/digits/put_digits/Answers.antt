@@ -5,8 +5,8 @@ use Rattle.text_rules.proofs.DigitLaws.{length_digits, count_le}
 use borrow.Author.Rules.{rules}
 use Rattle.text_rules.proofs.digits.put_digits.Goals as goal
 
-pub returns-then-pos-buf : goal.returns-then-pos-buf
-returns-then-pos-buf c =
+pub returns-then-pos-saturating_sub : goal.returns-then-pos-saturating_sub
+returns-then-pos-saturating_sub c =
     let n = c.args.n in
     record {
       bytes = c.put_blocks.ensures.bytes;
@@ -14,6 +14,6 @@ returns-then-pos-buf c =
       room = search rules;
     }
 
-pub returns : goal.returns
+pub returns-else-pos-saturating_sub : goal.returns-else-pos-saturating_sub
 unfolding digits
-returns c = rw c.digit_count-w.ensures.0 at c.pad_clipped.ensures
+returns-else-pos-saturating_sub c = rw c.digit_count.ensures.0 at c.pad_clipped.ensures

@@ -4,8 +4,8 @@ use Rattle.text_rules.proofs.DigitLaws.{length-pad}
 use borrow.Author.Rules.{rules}
 use Rattle.text_rules.proofs.digits.put_padded.Goals as goal
 
-pub returns-then-pos-w : goal.returns-then-pos-w
-returns-then-pos-w c =
+pub returns-then-w-buf : goal.returns-then-w-buf
+returns-then-w-buf c =
     let a = c.args in
     record {
       bytes = c.fill_padded.ensures;

@@ -14,6 +14,6 @@ pub returns : goal.returns
 unfolding pad
 returns c =
     let x = c.args.x in
-    let d : c.digit_of-d.result ≡ digit (x / 10 % 10) = omega (arith, c.digit_of-d.ensures) in
-    let e : c.digit_of-e.result ≡ digit (x % 10) = omega (arith, c.digit_of-e.ensures) in
+    let d : c.digit_of.result ≡ digit (x / 10 % 10) = omega (arith, c.digit_of.ensures) in
+    let e : c.digit_of-2.result ≡ digit (x % 10) = omega (arith, c.digit_of-2.ensures) in
     rw (d, e, add-one c.args.p)

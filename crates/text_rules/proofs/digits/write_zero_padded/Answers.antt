@@ -9,7 +9,7 @@ returns-then-w-digit_count c =
     let a = c.args in
     rw (sym (zero-padded_long a.w a.n (omega (arith, c.digit_count.ensures.0, c.if-w-digit_count.true)))) at c.put_digits.ensures
 
-pub returns : goal.returns
-returns c =
+pub returns-else-w-digit_count : goal.returns-else-w-digit_count
+returns-else-w-digit_count c =
     let a = c.args in
     rw (sym (zero-padded_short a.w a.n (omega arith) (omega (arith, c.digit_count.ensures.0, c.if-w-digit_count.false)))) at c.put_padded.ensures

@@ -1,5 +1,8 @@
 -- `escapes::is_raw` meets its contract. The invariant: the whole needs no escape if what is left needs none. Assumes nothing.
 use mathlib.Core.Path.{sym, ◌∙◌}
+use Prim.Native.Nat.{◌*◌, ◌/◌}
+use native.Mathlib.Nat.{zero-add}
+use lib.ListN.{length}
 use native.Mathlib.Omega.{arith}
 use Rattle.text_rules.proofs.DigitLaws.{never}
 use Rattle.text_rules.proofs.EscapesLaws.{body_part, body_last}
@@ -12,14 +15,14 @@ returns-then-n-lt8 c = c.raw_bytes.ensures
 pub overflow_mul-i : goal.overflow_mul-i
 overflow_mul-i c = omega arith
 
-pub any_suspect-requires : goal.any_suspect-requires
-any_suspect-requires c = omega arith
-
-pub returns-then-any_suspect-ne0 : goal.returns-then-any_suspect-ne0
-returns-then-any_suspect-ne0 c = λ e. never (sym e)
+pub returns-then-any_escaped : goal.returns-then-any_escaped
+returns-then-any_escaped c = λ e. never (sym e)
 
 pub loop-i-init : goal.loop-i-init
-loop-i-init c = (omega arith, c.any_suspect.ensures c.if-any_suspect-ne0.false)
+loop-i-init c =
+    let s = c.args.s.now in
+    let i = length s / 32 * 32 in
+    (omega arith, λ h. body_part s 0 i (c.any_escaped.ensures c.if-any_escaped.false) (rw (zero-add i) h))
 
 pub overflow_add-i : goal.overflow_add-i
 overflow_add-i c = omega (arith, c.loop-i.invariant.0, c.well_formed)

@@ -9,23 +9,23 @@ use Rattle.text_rules.proofs.DigitLaws.{never}
 use Rattle.text_rules.proofs.EscapesLaws.{body_raw}
 use Rattle.text_rules.proofs.escapes.raw_bytes.Goals as goal
 
-pub loop-i-init : goal.loop-i-init
-loop-i-init c = (omega arith, λ h. h)
+pub loop-b-init : goal.loop-b-init
+loop-b-init c = (omega arith, λ h. h)
 
-pub returns-then-suspect-ne0 : goal.returns-then-suspect-ne0
-returns-then-suspect-ne0 c = λ e. never (sym e)
+pub returns-then-is_escaped : goal.returns-then-is_escaped
+returns-then-is_escaped c = λ e. never (sym e)
 
-pub loop-i-preserved : goal.loop-i-preserved
-loop-i-preserved c =
-    let l = c.loop-i in
+pub loop-b-preserved : goal.loop-b-preserved
+loop-b-preserved c =
+    let l = c.loop-b in
     let s = c.args.s.now in
-    let lt : l.i < length s = c.loop-i-test.true in
-    (omega arith, λ h. l.invariant.1 (body_raw s l.i lt (c.suspect.ensures c.if-suspect-ne0.false) h))
+    let lt : l.b-index < length s = c.loop-b-test.true in
+    (omega arith, λ h. l.invariant.1 (body_raw s l.b-index lt (c.is_escaped.ensures c.if-is_escaped.false) h))
 
 pub returns : goal.returns
 unfolding text_body
 returns c =
-    let l = c.loop-i in
+    let l = c.loop-b in
     let s = c.args.s.now in
-    let e : drop l.i s ≡ [] = drop_of_length-le s {i = l.i} (omega arith) in
+    let e : drop l.b-index s ≡ [] = drop_of_length-le s {i = l.b-index} (omega arith) in
     λ z. l.invariant.1 (rw e)

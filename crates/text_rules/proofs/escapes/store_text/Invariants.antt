@@ -1,12 +1,9 @@
 -- `escapes::store_text` meets its contract. Assumes nothing.
-use Prim.Native.Nat.{◌+◌, ◌-◌, ◌≤◌}
+use Prim.Native.Nat.{◌+◌, ◌≤◌}
 use lib.ListN.{length, drop}
 use Rattle.output.proofs.Laws.{Progress}
 use Rattle.text_rules.specs.Escapes.{text_body}
 use Rattle.text_rules.proofs.escapes.store_text.Given as goal
 
-abbrev pub invariant-loop-i : goal.invariant-loop-i
-invariant-loop-i l = (l.i ≤ length l.s) × (l.p + length (text_body (drop l.i l.s)) ≤ length l.initial.buf) × Progress l.initial.buf l.buf l.pos l.p (text_body l.s) (text_body (drop l.i l.s))
-
-abbrev pub decreases-loop-i : goal.decreases-loop-i
-decreases-loop-i l = length l.s - l.i
+abbrev pub invariant-loop-b : goal.invariant-loop-b
+invariant-loop-b l = (l.b-index ≤ length l.s) × (l.p + length (text_body (drop l.b-index l.s)) ≤ length l.initial.buf) × Progress l.initial.buf l.buf l.pos l.p (text_body l.s) (text_body (drop l.b-index l.s))

@@ -1,38 +1,24 @@
 -- `short_words::is_keyword_word` meets its contract. Assumes nothing.
-use mathlib.Core.Path.{sym, ◌∙◌}
+use mathlib.Core.Path.{sym}
 use native.Mathlib.Omega.{arith}
-use Rattle.text_rules.proofs.LaneTests.{masked, keyword_none, keyword_true, keyword_null, keyword_nan, keyword_false, keyword_other}
+use borrow.Author.Tests.{eq-eqb, ne_eqb}
+use Rattle.text_rules.proofs.LaneTests.{keyword-3, keyword-4, keyword-5, keyword_none}
 use Rattle.text_rules.proofs.short_words.is_keyword_word.Goals as goal
 
-pub returns-then-n-lt3 : goal.returns-then-n-lt3
-returns-then-n-lt3 c = let h = c.if-n-lt3.true in sym (keyword_none _ _ (λ e. omega arith) (λ e. omega arith) (λ e. omega arith))
+pub returns-then-starts_no_keyword : goal.returns-then-starts_no_keyword
+returns-then-starts_no_keyword c = sym (c.starts_no_keyword.ensures c.if-starts_no_keyword.true _)
 
-pub returns-then-n-gt5 : goal.returns-then-n-gt5
-returns-then-n-gt5 c = let h = c.if-n-gt5.true in sym (keyword_none _ _ (λ e. omega arith) (λ e. omega arith) (λ e. omega arith))
+pub returns-in-3 : goal.returns-in-3
+returns-in-3 c = rw (c.in-3.is, keyword-3 c.args.x)
 
 pub returns-then-y-eq1702195828 : goal.returns-then-y-eq1702195828
-returns-then-y-eq1702195828 c =
-    let a = c.args in
-    keyword_true a.x a.n (omega (arith, c.if-n-lt3.false)) (omega (arith, c.if-n-gt5.false)) (sym (masked a.x _ a.n c.low_bits.ensures) ∙ c.if-y-eq1702195828.true)
+returns-then-y-eq1702195828 c = rw (c.in-4.is, keyword-4 c.args.x, eq-eqb _ _ c.if-y-eq1702195828.true)
 
-pub returns-then-y-eq1819047278 : goal.returns-then-y-eq1819047278
-returns-then-y-eq1819047278 c =
-    let a = c.args in
-    keyword_null a.x a.n (omega (arith, c.if-n-lt3.false)) (omega (arith, c.if-n-gt5.false)) (sym (masked a.x _ a.n c.low_bits.ensures) ∙ c.if-y-eq1819047278.true)
+pub returns-else-y-eq1702195828 : goal.returns-else-y-eq1702195828
+returns-else-y-eq1702195828 c = rw (c.in-4.is, keyword-4 c.args.x, ne_eqb _ _ c.if-y-eq1702195828.false)
 
-pub returns-then-y-eq7233902 : goal.returns-then-y-eq7233902
-returns-then-y-eq7233902 c =
-    let a = c.args in
-    keyword_nan a.x a.n (omega (arith, c.if-n-lt3.false)) (omega (arith, c.if-n-gt5.false)) (sym (masked a.x _ a.n c.low_bits.ensures) ∙ c.if-y-eq7233902.true)
+pub returns-in-5 : goal.returns-in-5
+returns-in-5 c = rw (c.in-5.is, keyword-5 c.args.x)
 
-pub returns-then-y-eq435728179558 : goal.returns-then-y-eq435728179558
-returns-then-y-eq435728179558 c =
-    let a = c.args in
-    keyword_false a.x a.n (omega (arith, c.if-n-lt3.false)) (omega (arith, c.if-n-gt5.false)) (sym (masked a.x _ a.n c.low_bits.ensures) ∙ c.if-y-eq435728179558.true)
-
-pub returns : goal.returns
-returns c =
-    let a = c.args in
-    let m = masked a.x _ a.n c.low_bits.ensures in
-    sym (keyword_other a.x a.n (omega (arith, c.if-n-lt3.false)) (omega (arith, c.if-n-gt5.false))
-    (λ e. c.if-y-eq1702195828.false (m ∙ e)) (λ e. c.if-y-eq1819047278.false (m ∙ e)) (λ e. c.if-y-eq7233902.false (m ∙ e)) (λ e. c.if-y-eq435728179558.false (m ∙ e)))
+pub returns-in_default : goal.returns-in_default
+returns-in_default c = sym (keyword_none c.args.n c.args.x (λ e. omega arith) (λ e. omega arith) (λ e. omega arith))

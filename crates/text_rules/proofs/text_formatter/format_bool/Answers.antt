@@ -7,6 +7,6 @@ pub returns-then-b : goal.returns-then-b
 unfolding bool_text le_bytes
 returns-then-b c = rw c.if-b.true c.put_le.ensures
 
-pub returns : goal.returns
+pub returns-else-b : goal.returns-else-b
 unfolding bool_text le_bytes
-returns c = rw c.if-b.false c.put_le-2.ensures
+returns-else-b c = rw c.if-b.false c.put_le-else-b.ensures

@@ -8,8 +8,8 @@ pub returns-then-same_word : goal.returns-then-same_word
 returns-then-same_word c =
     sym (dollar_marker _ c.requires.0 (sym c.token_resembles_version_marker.ensures ∙ c.if-token_resembles_version_marker.true) (sym c.same_word.ensures ∙ c.if-same_word.true))
 
-pub returns-then-token_resembles_version_marker : goal.returns-then-token_resembles_version_marker
-returns-then-token_resembles_version_marker c =
+pub returns-else-same_word : goal.returns-else-same_word
+returns-else-same_word c =
     sym (dollar_version _ c.requires.0 (sym c.token_resembles_version_marker.ensures ∙ c.if-token_resembles_version_marker.true) (sym c.same_word.ensures ∙ c.if-same_word.false))
 
 pub symbol_id-requires : goal.symbol_id-requires
@@ -23,6 +23,6 @@ pub returns-then-identifier : goal.returns-then-identifier
 returns-then-identifier c =
     sym (dollar_other _ c.requires.0 (sym c.token_resembles_version_marker.ensures ∙ c.if-token_resembles_version_marker.false) (sym c.all_digits.ensures ∙ c.if-all_digits.false) true (sym c.requires.1 ∙ c.if-identifier.true))
 
-pub returns : goal.returns
-returns c =
+pub returns-else-identifier : goal.returns-else-identifier
+returns-else-identifier c =
     sym (dollar_other _ c.requires.0 (sym c.token_resembles_version_marker.ensures ∙ c.if-token_resembles_version_marker.false) (sym c.all_digits.ensures ∙ c.if-all_digits.false) false (sym c.requires.1 ∙ c.if-identifier.false))

@@ -1,34 +1,24 @@
 -- `words::is_version` meets its contract. Assumes nothing.
 use mathlib.Core.Path.{sym, ◌∙◌}
 use native.Mathlib.Omega.{arith}
-use Rattle.text_rules.proofs.WordsLaws.{version-end, version-other, version_short, version_mark, version_here}
+use Rattle.text_rules.proofs.WordsLaws.{version-end, version-other, version_behind}
 use Rattle.text_rules.proofs.words.is_version.Goals as goal
+use Rattle.text_rules.proofs.words.is_version.Goals.{then-from-w-via-then-from-w, then-from-w-via-else-from-w+then-not-is_digit}
 
 pub returns-then-from-w : goal.returns-then-from-w
 returns-then-from-w c =
     let x = c.args in
-    sym (version-end x.w.now x.from c.if-from-w.true)
+    sym (elim c.then-from-w.branch [
+      | then-from-w-via-then-from-w w ↦ version-end x.w.now x.from w.if-from-w.true
+      | then-from-w-via-else-from-w+then-not-is_digit w ↦ version-other x.w.now x.from (omega arith) (sym w.is_digit.ensures ∙ w.if-not-is_digit.true)
+    ])
 
-pub returns-then-not-is_digit : goal.returns-then-not-is_digit
-returns-then-not-is_digit c =
+pub returns-then-stands : goal.returns-then-stands
+returns-then-stands c =
     let x = c.args in
-    sym (version-other x.w.now x.from (omega arith) (sym c.is_digit.ensures ∙ c.if-not-is_digit.true))
+    sym (version_behind x.w.now x.from (omega arith) (sym c.is_digit.ensures ∙ c.if-not-is_digit.false) c.digits_end-e.ensures ∙ rw (sym c.stands.ensures.is, c.if-stands.true, c.all_digits.ensures))
 
-pub returns-then-e-w : goal.returns-then-e-w
-returns-then-e-w c =
+pub returns-else-stands : goal.returns-else-stands
+returns-else-stands c =
     let x = c.args in
-    sym (version_short x.w.now x.from (omega arith) (sym c.is_digit.ensures ∙ c.if-not-is_digit.false) c.digits_end-e.ensures c.if-e-w.true)
-
-pub returns-then-w-e-ne95 : goal.returns-then-w-e-ne95
-returns-then-w-e-ne95 c =
-    let x = c.args in
-    let d = c.digits_end-e in
-    let i = d.ensures.inside in
-    sym (version_mark x.w.now x.from (omega arith) (sym c.is_digit.ensures ∙ c.if-not-is_digit.false) d.ensures (omega arith) c.if-w-e-ne95.true)
-
-pub returns : goal.returns
-returns c =
-    let x = c.args in
-    let d = c.digits_end-e in
-    let i = d.ensures.inside in
-    c.all_digits.ensures ∙ sym (version_here x.w.now x.from (omega arith) (sym c.is_digit.ensures ∙ c.if-not-is_digit.false) d.ensures (omega arith) c.if-w-e-ne95.false)
+    sym (version_behind x.w.now x.from (omega arith) (sym c.is_digit.ensures ∙ c.if-not-is_digit.false) c.digits_end-e.ensures ∙ rw (sym c.stands.ensures.is, c.if-stands.false))

@@ -14,6 +14,6 @@ pub returns-then-identifier : goal.returns-then-identifier
 returns-then-identifier c =
     sym (kind-plain c.args.w.now c.requires.0 c.if-w-eq36.false (sym c.is_keyword.ensures ∙ c.if-is_keyword.false) true (sym c.requires.1 ∙ c.if-identifier.true))
 
-pub returns : goal.returns
-returns c =
+pub returns-else-identifier : goal.returns-else-identifier
+returns-else-identifier c =
     sym (kind-plain c.args.w.now c.requires.0 c.if-w-eq36.false (sym c.is_keyword.ensures ∙ c.if-is_keyword.false) false (sym c.requires.1 ∙ c.if-identifier.false))

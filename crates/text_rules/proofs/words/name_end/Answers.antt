@@ -4,24 +4,12 @@ use native.Mathlib.Omega.{arith}
 use Rattle.text_rules.proofs.WordsLaws.{spanned_long, spanned_name}
 use Rattle.text_rules.proofs.words.name_end.Goals as goal
 
-pub returns-then-at-text : goal.returns-then-at-text
-returns-then-at-text c = λ h. let bad : ⊥ = omega arith in absurd bad
-
-pub returns-then-text-at-lt65 : goal.returns-then-text-at-lt65
-returns-then-text-at-lt65 c = λ h. let bad : ⊥ = omega arith in absurd bad
-
-pub returns-then-end-at : goal.returns-then-end-at
-returns-then-end-at c = λ h. let bad : ⊥ = omega arith in absurd bad
-
 pub is_keyword-requires : goal.is_keyword-requires
 is_keyword-requires c =
     let s = c.word_end-end.ensures in
     let a = s.ahead in
     let l = spanned_long s in
     omega arith
-
-pub returns-then-is_keyword : goal.returns-then-is_keyword
-returns-then-is_keyword c = λ h. let bad : ⊥ = omega arith in absurd bad
 
 pub returns : goal.returns
 returns c =

@@ -17,7 +17,7 @@ known_kind-kind-requires c =
     let l = spanned_long s in
     (omega arith, c.is_start.ensures ∙ spanned_identifier s (omega arith))
 
-pub returns : goal.returns
-returns c =
+pub returns-else-end-at : goal.returns-else-end-at
+returns-else-end-at c =
     let s = c.word_end-end.ensures in
     record { ahead = s.ahead; inside = s.inside; rest = s.rest; bytes = s.bytes; kind = c.known_kind-kind.ensures ∙ ap kind_of s.bytes }

@@ -4,12 +4,13 @@ use mathlib.Core.Path.{sym, ◌∙◌}
 use Rattle.tokens.proofs.BlobLanes.{bits-refused, bits-read}
 use Rattle.tokens.proofs.blobs.bits_of.Goals as goal
 
-pub returns-then-not-is_base64 : goal.returns-then-not-is_base64
-returns-then-not-is_base64 c =
+pub returns-then-not-is_base64-clause-bits : goal.returns-then-not-is_base64-clause-bits
+returns-then-not-is_base64-clause-bits c =
     let a = c.args in
     bits-refused a.a a.b a.c a.d _ (omega arith) (omega arith) (omega arith) (omega arith) (omega arith) (sym c.is_base64.ensures ∙ c.if-not-is_base64.true)
 
 pub returns : goal.returns
 returns c =
     let a = c.args in
-    bits-read a.a a.b a.c a.d _ (omega arith) (omega arith) (omega arith) (omega arith) (omega arith) _ (sym c.is_base64.ensures ∙ c.if-not-is_base64.false) c.values-v.ensures
+    let b = bits-read a.a a.b a.c a.d _ (omega arith) (omega arith) (omega arith) (omega arith) (omega arith) _ (sym c.is_base64.ensures ∙ c.if-not-is_base64.false) c.values-v.ensures in
+    record { bits = b.is; below = b.below }

@@ -9,7 +9,7 @@ pub returns-then-not-word_stands : goal.returns-then-not-word_stands
 returns-then-not-word_stands c = record { told = (blob_unopened _ (stripped_no c.word_stands.ensures (c.if-not-word_stands.true)), kept_all) }
 
 pub words_at-w-requires : goal.words_at-w-requires
-words_at-w-requires c = ((stripped_yes c.word_stands.ensures (c.if-not-word_stands.false)).1, search rules)
+words_at-w-requires c = (stripped_yes c.word_stands.ensures (c.if-not-word_stands.false)).1
 
 pub returns : goal.returns
 returns c =

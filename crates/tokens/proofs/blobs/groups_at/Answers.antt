@@ -1,12 +1,13 @@
 -- `blobs::groups_at` meets its contract. The invariant is that of `words_at`. Assumes nothing.
+use mathlib.Core.Path.{sym}
 use native.Mathlib.Omega.{arith}
 use Rattle.output.proofs.Laws.{wrote-length, wrote-bound}
-use Rattle.tokens.proofs.BlobGroups.{decoded_none, decoded_more, groups_four, no_group, end_group, read_none, read_some, whole-three}
+use Rattle.tokens.proofs.BlobGroups.{decoded_none, decoded_more, groups_four, no_group, end_group, whole-three}
 use borrow.Author.Rules.{rules}
 use Rattle.tokens.proofs.blobs.groups_at.Goals as goal
 
 pub loop-i-init : goal.loop-i-init
-loop-i-init c = decoded_none _ _ _ _ c.requires.0 c.requires.1 (search rules)
+loop-i-init c = decoded_none _ _ _ _ _ c.requires c.bounded-p.ensures (search rules)
 
 pub overflow_add-i : goal.overflow_add-i
 overflow_add-i c = omega (arith, c.loop-i.invariant.groups.inside)
@@ -32,15 +33,15 @@ overflow_add-i-in-loop-i-3 c = omega arith
 pub bounds-text-i-in-loop-i-3 : goal.bounds-text-i-in-loop-i-3
 bounds-text-i-in-loop-i-3 c = omega arith
 
-pub shape_of-buf-then-n-gt16777215 : goal.shape_of-buf-then-n-gt16777215
-shape_of-buf-then-n-gt16777215 c = wrote-length c.loop-i.invariant.wrote
+pub shape_of-buf-in_default : goal.shape_of-buf-in_default
+shape_of-buf-in_default c = wrote-length c.loop-i.invariant.wrote
 
-pub returns-then-n-gt16777215 : goal.returns-then-n-gt16777215
-returns-then-n-gt16777215 c =
-    record { read = c.loop-i.invariant; all = no_group _ c.loop-i.i (omega arith) (read_none _ c.if-n-gt16777215.true c.bits_of-n.ensures) }
+pub returns-in_default : goal.returns-in_default
+returns-in_default c =
+    record { read = c.loop-i.invariant; all = no_group _ c.loop-i.i (omega arith) (sym (rw c.in_default.is at c.bits_of.ensures.bits)) }
 
 pub put_bytes24-p-requires : goal.put_bytes24-p-requires
-put_bytes24-p-requires c = (wrote-bound c.loop-i.invariant.wrote, omega arith, omega arith)
+put_bytes24-p-requires c = (c.in-Some.ensures.below, omega arith)
 
 pub overflow_add-i-in-loop-i-4 : goal.overflow_add-i-in-loop-i-4
 overflow_add-i-in-loop-i-4 c = omega arith
@@ -51,7 +52,7 @@ loop-i-smaller c = omega arith
 pub loop-i-preserved : goal.loop-i-preserved
 loop-i-preserved c =
     let l = c.loop-i in
-    decoded_more l.invariant (groups_four _ l.i _ (omega arith) (read_some _ c.if-n-gt16777215.false c.bits_of-n.ensures)) (whole-three _ c.put_bytes24-p.ensures)
+    decoded_more l.invariant (groups_four _ l.i _ (omega arith) (sym (rw c.in-Some.is at c.bits_of.ensures.bits))) (whole-three _ c.put_bytes24-p.ensures)
 
 pub shape_of-buf : goal.shape_of-buf
 shape_of-buf c = wrote-length c.loop-i.invariant.wrote

@@ -7,7 +7,7 @@ use borrow.Author.Rules.{rules}
 use Rattle.tokens.proofs.blobs.words_at.Goals as goal
 
 pub loop-i-init : goal.loop-i-init
-loop-i-init c = decoded_none _ _ _ _ c.requires.0 c.requires.1 (search rules)
+loop-i-init c = decoded_none _ _ _ _ _ c.requires c.bounded-p.ensures (search rules)
 
 pub overflow_add-i : goal.overflow_add-i
 overflow_add-i c = omega (arith, c.loop-i.invariant.groups.inside)
@@ -20,9 +20,6 @@ shape_of-buf-then-not-is_base64 c = wrote-length c.loop-i.invariant.wrote
 
 pub returns-then-not-is_base64 : goal.returns-then-not-is_base64
 returns-then-not-is_base64 c = c.loop-i.invariant
-
-pub put_six-p-requires : goal.put_six-p-requires
-put_six-p-requires c = wrote-bound c.loop-i.invariant.wrote
 
 pub overflow_add-i-in-loop-i : goal.overflow_add-i-in-loop-i
 overflow_add-i-in-loop-i c = omega arith

@@ -4,14 +4,14 @@ use mathlib.Core.Path.{◌≡◌}
 use mathlib.Core.List.{List}
 use lib.ListN.{length}
 use Rattle.output.specs.Logic.{byte}
-use Rattle.output.specs.Wrote.{limit}
 use Rattle.tokens.specs.Quoted.{clob_byte}
 use Rattle.tokens.specs.declared.quoted.Step.{Step}
+use Rattle.std.specs.Prelude.{Option}
 use Rattle.tokens.proofs.QuotedMany.{ManyAt}
 use Rattle.tokens.proofs.quoted.clob_bytes_at.Given as goal
 
 abbrev pub invariant-loop-at : goal.invariant-loop-at
-invariant-loop-at l = (l.at ≤ l.i) × (l.i ≤ length l.text) × (l.p ≤ limit) × (length l.buf ≡ length l.initial.buf) × ((r : Step) (b' : List ℕ) → ManyAt clob_byte (byte "\"") l.text l.i l.buf b' l.p r → ManyAt clob_byte (byte "\"") l.text l.at l.initial.buf b' l.pos r)
+invariant-loop-at l = (l.at ≤ l.i) × (l.i ≤ length l.text) × (length l.buf ≡ length l.initial.buf) × ((r : Option Step) (b' : List ℕ) → ManyAt clob_byte (byte "\"") l.text l.i l.buf b' l.p r → ManyAt clob_byte (byte "\"") l.text l.at l.initial.buf b' l.pos r)
 
 abbrev pub decreases-loop-at : goal.decreases-loop-at
 decreases-loop-at l = length l.text - l.i

@@ -7,22 +7,22 @@ use Rattle.tokens.proofs.quoted.escape_at.Goals as goal
 pub returns-then-at-text : goal.returns-then-at-text
 returns-then-at-text c = record { told = ((escape_end _ _ c.if-at-text.true).0, kept_all) }
 
-pub returns-then-b-eq120 : goal.returns-then-b-eq120
-returns-then-b-eq120 c =
+pub returns-in-120 : goal.returns-in-120
+returns-in-120 c =
     let a = c.args in
-    copies_as _ (omega arith) (escape-x a.text.now a.at (omega arith) c.if-b-eq120.true) c.scalar_at.ensures
+    copies_as _ (omega arith) (escape-x a.text.now a.at (omega arith) c.in-120.is) c.scalar_at.ensures
 
-pub returns-then-b-eq117 : goal.returns-then-b-eq117
-returns-then-b-eq117 c =
+pub returns-in-117 : goal.returns-in-117
+returns-in-117 c =
     let a = c.args in
-    copies_as _ (omega arith) (escape-u a.text.now a.at (omega arith) c.if-b-eq117.true) c.scalar_at-then-b-eq117.ensures
+    copies_as _ (omega arith) (escape-u a.text.now a.at (omega arith) c.in-117.is) c.scalar_at-in-117.ensures
 
-pub returns-then-b-eq85 : goal.returns-then-b-eq85
-returns-then-b-eq85 c =
+pub returns-in-85 : goal.returns-in-85
+returns-in-85 c =
     let a = c.args in
-    copies_as _ (omega arith) (escape-U a.text.now a.at (omega arith) c.if-b-eq85.true) c.scalar_at-then-b-eq85.ensures
+    copies_as _ (omega arith) (escape-U a.text.now a.at (omega arith) c.in-85.is) c.scalar_at-in-85.ensures
 
-pub returns : goal.returns
-returns c =
+pub returns-in_default : goal.returns-in_default
+returns-in_default c =
     let a = c.args in
-    copies_as _ (omega arith) (escape-letter a.text.now a.at (omega arith) c.if-b-eq120.false c.if-b-eq117.false c.if-b-eq85.false) c.letter_at.ensures
+    copies_as _ (omega arith) (escape-letter a.text.now a.at (omega arith) (omega arith) (omega arith) (omega arith)) c.letter_at.ensures

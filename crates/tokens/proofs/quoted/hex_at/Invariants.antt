@@ -7,6 +7,3 @@ use Rattle.tokens.proofs.quoted.hex_at.Given as goal
 
 abbrev pub invariant-loop-i : goal.invariant-loop-i
 invariant-loop-i l = (l.i ≤ l.w) × (l.at + l.i ≤ length l.text) × (l.v < 16 ^ l.i) × (hex l.w 0 (drop l.at l.text) ≡ hex (l.w - l.i) l.v (drop (l.at + l.i) l.text))
-
-abbrev pub decreases-loop-i : goal.decreases-loop-i
-decreases-loop-i l = l.w - l.i

@@ -1,5 +1,5 @@
 -- `quoted::plain_end` meets its contract. Assumes nothing.
-use mathlib.Core.Path.{sym, ◌∙◌}
+use mathlib.Core.Path.{◌≡◌, sym, ◌∙◌}
 use native.Mathlib.Omega.{arith}
 use Rattle.tokens.proofs.QuotedSteps.{run_more}
 use borrow.Author.Rules.{rules}
@@ -17,4 +17,4 @@ loop-i-preserved c =
     (l.0, run_more l.1 (omega (arith, c.loop-i-test.true, l.0)) (sym c.is_plain.ensures ∙ c.if-not-is_plain.false))
 
 pub returns : goal.returns
-returns c = c.loop-i.invariant.1
+returns c = let e : c.loop-i.i ≡ c.block_end-stop.result = omega arith in rw e at c.loop-i.invariant.1

@@ -1,6 +1,6 @@
 -- `values::bare_symbol_at` meets its contract: each arm is told which kind it has. Assumes nothing.
 use mathlib.Core.Path.{refl}
-use Rattle.tokens.proofs.SymbolSteps.{bare_text, bare_number, bare_bad}
+use Rattle.tokens.proofs.SymbolSteps.{other_word, bare_text, bare_number, bare_bad}
 use Rattle.tokens.proofs.Keeping.{kept_all}
 use borrow.Author.Rules.{rules}
 use Rattle.tokens.proofs.values.bare_symbol_at.Goals as goal
@@ -19,20 +19,6 @@ returns-in-Text c = bare_text c.word_at-w.ensures c.in-Text.is c.put_bytes-p.ens
 pub returns-in-Number : goal.returns-in-Number
 returns-in-Number c = bare_number c.word_at-w.ensures _ c.in-Number.is refl
 
-pub returns-in-Null : goal.returns-in-Null
-returns-in-Null c = bare_bad c.word_at-w.ensures _ c.in-Null.is refl kept_all
-
-pub returns-in-True : goal.returns-in-True
-returns-in-True c = bare_bad c.word_at-w.ensures _ c.in-True.is refl kept_all
-
-pub returns-in-False : goal.returns-in-False
-returns-in-False c = bare_bad c.word_at-w.ensures _ c.in-False.is refl kept_all
-
-pub returns-in-Nan : goal.returns-in-Nan
-returns-in-Nan c = bare_bad c.word_at-w.ensures _ c.in-Nan.is refl kept_all
-
-pub returns-in-Marker : goal.returns-in-Marker
-returns-in-Marker c = bare_bad c.word_at-w.ensures _ c.in-Marker.is refl kept_all
-
-pub returns-in-Refused : goal.returns-in-Refused
-returns-in-Refused c = bare_bad c.word_at-w.ensures _ c.in-Refused.is refl kept_all
+pub returns-in_default : goal.returns-in_default
+returns-in_default c =
+    bare_bad c.word_at-w.ensures _ refl (other_word _ _ c.in_default.not-Text c.in_default.not-Number) kept_all

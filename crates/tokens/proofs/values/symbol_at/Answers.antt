@@ -9,12 +9,12 @@ returns-then-at-text c = symbol_end _ c.args.text.now c.args.at c.if-at-text.tru
 
 pub returns-then-text-at-ne39 : goal.returns-then-text-at-ne39
 returns-then-text-at-ne39 c =
-    symbol_unquoted _ c.args.text.now c.args.at c.bare_symbol_at.result (omega (arith, c.if-at-text.false, c.requires.0)) c.if-text-at-ne39.true c.bare_symbol_at.ensures
+    symbol_unquoted _ c.args.text.now c.args.at c.bare_symbol_at.result (omega (arith, c.if-at-text.false, c.requires)) c.if-text-at-ne39.true c.bare_symbol_at.ensures
 
-pub returns-in_default : goal.returns-in_default
-returns-in_default c =
-    symbol-broken _ c.args.text.now c.args.at (omega (arith, c.if-at-text.false, c.requires.0)) c.if-text-at-ne39.false _ (rw c.in_default.is at c.characters_at.ensures)
+pub returns-in_err-s : goal.returns-in_err-s
+returns-in_err-s c =
+    rw c.from_residual.ensures (symbol-broken _ c.args.text.now c.args.at (omega (arith, c.if-at-text.false, c.requires)) c.if-text-at-ne39.false _ c.in_err-s.ensures)
 
 pub returns : goal.returns
 returns c =
-    symbol-quoted _ c.args.text.now c.args.at (omega (arith, c.if-at-text.false, c.requires.0)) c.if-text-at-ne39.false _ _ _ (omega arith) (rw c.in-Next.is at c.characters_at.ensures)
+    symbol-quoted _ c.args.text.now c.args.at (omega (arith, c.if-at-text.false, c.requires)) c.if-text-at-ne39.false _ _ _ (omega arith) c.in_ok-s.ensures

@@ -49,7 +49,7 @@ write_nodes-write_value-v-requires t c =
     let u = turn_here a.depth a.frame a.tape.now l.at a.end nz c.loop-at-test.true (trailed c.requires.end_in_bounds) l.invariant.1 in
     let f = c.write_front-f.ensures in
     let z = c.decreases in
-    let m = c.requires.width_bound in (omega arith, (rw f.place u.within, (c.requires.end_in_bounds, (wrote-bound f.text, (omega arith, rw f.place u.value)))))
+    let m = c.requires.width_bound in (omega arith, (rw f.place u.within, (c.requires.end_in_bounds, (omega arith, rw f.place u.value))))
 
 pub write_nodes-loop-at-smaller : goal.write_nodes-loop-at-smaller
 write_nodes-loop-at-smaller t c =
@@ -97,7 +97,6 @@ write_value-write_leaf-requires t c =
     let i = c.requires.end_in_bounds in
     let h = c.if-k-lt10.true in
     record {
-      pos_le_limit = c.requires.pos_le_limit;
       at_le_end = c.requires.at_le_end;
       end_in_bounds = i;
       nonzero = scalar-some a.quoted a.layout a.width a.depth a.tape.now a.at a.end (trailed i) c.requires.end_value (λ j b d q. omega arith);
@@ -131,7 +130,6 @@ write_value-write_blob_node-requires t c =
     let i = c.requires.end_in_bounds in
     let h = c.if-k-eq15.true in
     record {
-      pos_le_limit = c.requires.pos_le_limit;
       at_le_end = c.requires.at_le_end;
       end_in_bounds = i;
       nonzero = scalar-some a.quoted a.layout a.width a.depth a.tape.now a.at a.end (trailed i) c.requires.end_value (λ j b d q. omega arith);

@@ -8,7 +8,7 @@ pub write_blob-p-requires : goal.write_blob-p-requires
 write_blob-p-requires c =
     let a = c.args in
     let q = blob_leaf a.tape.now a.at a.end c.requires.at_le_end (trailed c.requires.end_in_bounds) c.requires.nonzero _ c.u32_at-n.ensures.0 c.requires.at_value in
-    record { pos_le_limit = c.requires.pos_le_limit; n_bound = q.room; end_in_bounds = trailed c.requires.end_in_bounds }
+    record { n_bound = q.room; end_in_bounds = trailed c.requires.end_in_bounds }
 
 pub returns : goal.returns
 unfolding scalar_text

@@ -50,18 +50,18 @@ write_notes-q-requires c =
     let a = c.args in
     let b = name-before a.frame a.tape.now a.at a.end c.requires.end_value _ c.encode_field_name-n.ensures.place in
     let u = c.requires.end_bound in
-    record { pos_le_limit = wrote-bound c.encode_field_name-n.ensures.text; at_le_end = omega arith; end_in_bounds = trailed c.requires.end_in_bounds; end_value = sym c.notes_end.ensures ∙ c.in-At.is }
+    record { at_le_end = omega arith; end_in_bounds = trailed c.requires.end_in_bounds; end_value = sym c.notes_end.ensures ∙ c.in-Some.is }
 
 pub returns-then-layout-eq3 : goal.returns-then-layout-eq3
 returns-then-layout-eq3 c =
     let a = c.args in
     let n = name_placed a.frame a.tape.now a.at a.end c.requires.end_value _ c.encode_field_name-n.ensures.place in
-    let v = head_one a.frame a.tape.now a.at a.end _ n ∙ sym c.notes_end.ensures ∙ c.in-At.is in
+    let v = head_one a.frame a.tape.now a.at a.end _ n ∙ sym c.notes_end.ensures ∙ c.in-Some.is in
     let z = ap (place_of a.at) c.requires.end_value in record { text = rw (front_parts a.quoted a.layout a.width a.frame a.tape.now a.at a.end _ _ n v, eq-eqb _ _ c.if-layout-eq3.true) (wrote_then (wrote_then c.write_blanks-o.ensures c.encode_field_name-n.ensures.text) c.write_notes-q.ensures); place = cc }
 
 pub returns : goal.returns
 returns c =
     let a = c.args in
     let n = name_placed a.frame a.tape.now a.at a.end c.requires.end_value _ c.encode_field_name-n.ensures.place in
-    let v = head_one a.frame a.tape.now a.at a.end _ n ∙ sym c.notes_end.ensures ∙ c.in-At.is in
+    let v = head_one a.frame a.tape.now a.at a.end _ n ∙ sym c.notes_end.ensures ∙ c.in-Some.is in
     let z = ap (place_of a.at) c.requires.end_value in record { text = rw (front_parts a.quoted a.layout a.width a.frame a.tape.now a.at a.end _ _ n v, ne_eqb _ _ c.if-layout-eq3.false) (wrote_then (wrote_then c.write_blanks-o.ensures c.encode_field_name-n.ensures.text) (wrote_none _ _ (wrote-bound c.encode_field_name-n.ensures.text) (search rules))); place = cc }

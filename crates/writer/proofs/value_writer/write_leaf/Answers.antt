@@ -4,7 +4,7 @@ use native.Mathlib.Omega.{arith}
 use mir.Syntax.{w32, w64}
 use mir.Val.{SFits}
 use mir.ValLaws.{to_z-of_z}
-use Rattle.output.proofs.Laws.{wrote_none}
+use Rattle.output.proofs.Laws.{wrote_empty}
 use Rattle.tape.specs.Bytes.{part}
 use Rattle.tape.specs.Tree.{encode_scalar}
 use Rattle.tape.specs.Tape.{scalar_of}
@@ -75,7 +75,7 @@ pub write_string-p-requires : goal.write_string-p-requires
 write_string-p-requires c =
     let a = c.args in
     let q = string_leaf a.tape.now a.at a.end c.requires.at_le_end (trailed c.requires.end_in_bounds) c.requires.nonzero _ c.u32_at-n.ensures.0 c.if-k-eq8.true in
-    record { pos_le_limit = c.requires.pos_le_limit; n_bound = q.room; end_in_bounds = trailed c.requires.end_in_bounds }
+    record { n_bound = q.room; end_in_bounds = trailed c.requires.end_in_bounds }
 
 pub returns-then-k-eq8 : goal.returns-then-k-eq8
 unfolding scalar_text
@@ -88,18 +88,18 @@ pub returns-in_default : goal.returns-in_default
 returns-in_default c =
     let a = c.args in
     let e = sym (rw c.in_default.is at c.scalar_at.ensures) in
-    record { text = rw e (wrote_none _ _ c.requires.pos_le_limit (search rules)); place = rw e (omega arith) }
+    record { text = rw e (wrote_empty _ _ _ c.bounded.ensures (search rules)); place = rw e (omega arith) }
 
 pub write_scalar-requires : goal.write_scalar-requires
 write_scalar-requires c =
     let a = c.args in
-    let e = sym (rw c.in-Is.is at c.scalar_at.ensures) in
+    let e = sym (rw c.in-Some.is at c.scalar_at.ensures) in
     let r = (place-within encode_scalar a.tape.now a.at a.end _ (scalar_of (part a.tape.now a.at a.end)) c.requires.at_le_end (trailed c.requires.end_in_bounds) (scalar_sound _) (ap (place_of a.at) e)).1 in
     let all : Bytes a.tape.now = λ i. (c.type_inv.tape i).fits in
-    let rare = rare_leaf a.tape.now a.at a.end c.requires.at_le_end (trailed c.requires.end_in_bounds) c.requires.nonzero all c.in-Is.s e c.if-k-eq2.false c.if-k-eq4.false c.if-k-eq5.false c.if-k-eq6.false c.if-k-eq8.false in
-    record { pos_le_limit = c.requires.pos_le_limit; s_bound = r; end_in_bounds = trailed c.requires.end_in_bounds; rare = rare }
+    let rare = rare_leaf a.tape.now a.at a.end c.requires.at_le_end (trailed c.requires.end_in_bounds) c.requires.nonzero all c.in-Some.s e c.if-k-eq2.false c.if-k-eq4.false c.if-k-eq5.false c.if-k-eq6.false c.if-k-eq8.false in
+    record { s_bound = r; end_in_bounds = trailed c.requires.end_in_bounds; rare = rare }
 
 pub returns : goal.returns
 returns c =
-    let e = sym (rw c.in-Is.is at c.scalar_at.ensures) in
+    let e = sym (rw c.in-Some.is at c.scalar_at.ensures) in
     record { text = rw e (c.write_scalar.ensures.text _); place = rw e c.write_scalar.ensures.place }

@@ -15,7 +15,7 @@ bounds-tape-at c =
 
 pub write_text_name-requires : goal.write_text_name-requires
 write_text_name-requires c =
-    record { pos_le_limit = c.requires.pos_le_limit; at_le_end = c.requires.at_le_end; end_in_bounds = c.requires.end_in_bounds; end_value = c.requires.end_value; at_bound = c.if-tape-at-lt7.true }
+    record { at_le_end = c.requires.at_le_end; end_in_bounds = c.requires.end_in_bounds; end_value = c.requires.end_value; at_bound = c.if-tape-at-lt7.true }
 
 pub returns-then-tape-at-lt7 : goal.returns-then-tape-at-lt7
 returns-then-tape-at-lt7 c = c.write_text_name.ensures

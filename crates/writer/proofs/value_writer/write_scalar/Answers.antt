@@ -30,7 +30,7 @@ unreached (C.Blob n) r h1 h2 h3 h4 h5 h6 = h6 n refl
 pub write_clob-requires : goal.write_clob-requires
 write_clob-requires c =
     let e : size_of c.args.s ≡ 5 + c.in-Clob.n = ap size_of c.in-Clob.is in
-    record { pos_le_limit = c.requires.pos_le_limit; n_bound = omega arith; end_in_bounds = c.requires.end_in_bounds }
+    record { n_bound = omega arith; end_in_bounds = c.requires.end_in_bounds }
 
 pub overflow_add-result-in-Clob : goal.overflow_add-result-in-Clob
 overflow_add-result-in-Clob c =
@@ -49,7 +49,7 @@ overflow_add-result-in-Clob-2 c =
 pub write_blob-requires : goal.write_blob-requires
 write_blob-requires c =
     let e : size_of c.args.s ≡ 5 + c.in-Blob.n = ap size_of c.in-Blob.is in
-    record { pos_le_limit = c.requires.pos_le_limit; n_bound = omega arith; end_in_bounds = c.requires.end_in_bounds }
+    record { n_bound = omega arith; end_in_bounds = c.requires.end_in_bounds }
 
 pub overflow_add-result-in-Blob : goal.overflow_add-result-in-Blob
 overflow_add-result-in-Blob c =

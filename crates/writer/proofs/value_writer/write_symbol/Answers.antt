@@ -37,7 +37,7 @@ pub write_symbol_text-p-requires : goal.write_symbol_text-p-requires
 write_symbol_text-p-requires c =
     let a = c.args in
     let q = symbol_leaf a.tape.now a.at a.end c.requires.at_le_end (trailed c.requires.end_in_bounds) c.requires.nonzero _ c.u32_at-n.ensures.0 c.requires.at_value in
-    record { pos_le_limit = c.requires.pos_le_limit; n_bound = q.room; end_in_bounds = trailed c.requires.end_in_bounds }
+    record { n_bound = q.room; end_in_bounds = trailed c.requires.end_in_bounds }
 
 pub returns : goal.returns
 unfolding scalar_text sym_text

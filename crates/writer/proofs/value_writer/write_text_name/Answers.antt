@@ -49,7 +49,7 @@ returns-then-plain_at c =
 
 pub write_symbol_text-p-requires : goal.write_symbol_text-p-requires
 write_symbol_text-p-requires c =
-    record { pos_le_limit = c.requires.pos_le_limit; n_bound = (name c.args.tape.now c.args.at c.args.end _ c.requires.at_le_end c.requires.end_in_bounds c.requires.end_value c.requires.at_bound c.u32_at-n.ensures.0).room; end_in_bounds = trailed c.requires.end_in_bounds }
+    record { n_bound = (name c.args.tape.now c.args.at c.args.end _ c.requires.at_le_end c.requires.end_in_bounds c.requires.end_value c.requires.at_bound c.u32_at-n.ensures.0).room; end_in_bounds = trailed c.requires.end_in_bounds }
 
 pub returns : goal.returns
 unfolding name_text sym_text

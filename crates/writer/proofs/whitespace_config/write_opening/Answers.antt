@@ -1,12 +1,12 @@
 -- `whitespace_config::write_opening` meets its contract. Assumes nothing.
-use Rattle.output.proofs.Laws.{wrote_none}
+use Rattle.output.proofs.Laws.{wrote_empty}
 use Rattle.writer.specs.Text.{opening}
 use borrow.Author.Rules.{rules}
 use Rattle.writer.proofs.whitespace_config.write_opening.Goals as goal
 
 pub returns-in-Top : goal.returns-in-Top
 unfolding opening
-returns-in-Top c = rw c.in-Top.is (wrote_none _ _ c.requires (search rules))
+returns-in-Top c = rw c.in-Top.is (wrote_empty _ _ _ c.bounded.ensures (search rules))
 
 pub returns-in-List : goal.returns-in-List
 unfolding opening

@@ -1,6 +1,7 @@
 -- `whitespace_config::write_start` meets its contract. Assumes nothing.
+use native.Mathlib.Omega.{arith}
 use borrow.Author.Tests.{eq-eqb, ne_eqb}
-use Rattle.output.proofs.Laws.{wrote_none, wrote_then, wrote-bound}
+use Rattle.output.proofs.Laws.{wrote_empty, wrote_then, wrote-bound}
 use Rattle.writer.specs.Text.{broken}
 use borrow.Author.Rules.{rules}
 use Rattle.writer.proofs.whitespace_config.write_start.Goals as goal
@@ -12,4 +13,4 @@ returns-then-layout-eq2 c = rw (eq-eqb _ _ c.if-layout-eq2.true) (wrote_then c.w
 pub returns : goal.returns
 unfolding broken
 returns c =
-    rw (ne_eqb _ _ c.if-layout-eq2.false) (wrote_then c.write_opening-p.ensures (wrote_none _ _ (wrote-bound c.write_opening-p.ensures) (search rules)))
+    rw (ne_eqb _ _ c.if-layout-eq2.false) (wrote_then c.write_opening-p.ensures (wrote_empty _ _ _ (omega (arith, wrote-bound c.write_opening-p.ensures)) (search rules)))
