@@ -9,8 +9,6 @@
 ghost use Rattle.std.specs.Prelude.{◌≤◌};
 
 use line_reader::Called;
-use program_io::Answered;
-use std::alloc::{AllocError, Global};
 use std::ops::Range;
 use std::{io, mem};
 use tape::answer::Answer;
@@ -52,9 +50,18 @@ fn feed_after(d: u64, text: &[u8], out: &mut [u8]) -> u64 {
     feed_past(feed_call(d, again, out), text, out)
 }
 
+// The tape in hex, the refusal or `end`, on a line.
+fn say(rt: &impl Print, a: Answer, out: &[u8]) -> io::Result<()> {
+    let mut line = [0u8; 1024];
+    let p = program_io::put_answer(&mut line, 0, a, out);
+    let end = output::put(&mut line, p, b'\n');
+    program_io::print(rt, &line, end)?;
+    Ok(())
+}
+
 // A digest with the calls on a text through the end mark, each from what the last one left, in a buffer of 256 bytes that is `#` all over
 // at first. Each answer and what it left are told.
-fn feed_calls<T: Fn(Answered<'_>) -> io::Result<()>>(
+fn feed_calls<T: Fn(Answer, &[u8]) -> io::Result<()>>(
     start: u64,
     text: &[u8],
     tell: T,
@@ -68,7 +75,7 @@ fn feed_calls<T: Fn(Answered<'_>) -> io::Result<()>>(
         let c = line_reader::call_at(text, at, &mut out);
         at = c.at;
         d = feed_call(d, c, &out);
-        tell(Answered(c.answer, &out))?;
+        tell(c.answer, &out)?;
         if matches!(c.answer, Answer::End) {
             return Ok(feed_after(d, text, &mut out));
         }
@@ -98,20 +105,21 @@ fn feed_lists(start: u64, text: &[u8]) -> u64 {
     d
 }
 
-// The text with the bytes in place of those of a range; nothing where the range is not in the text.
-fn replaced(
-    alloc: Global,
+// The text with the bytes in place of those of a range, put into the buffer; nothing where the range is not in the text. None where that is longer
+// than the buffer.
+fn replaced<'a>(
     text: &[u8],
     range: Range<usize>,
     new: &[u8],
-) -> Result<Vec<u8>, AllocError> {
-    let mut made = Vec::new(alloc);
+    made: &'a mut [u8],
+) -> Option<&'a [u8]> {
+    let mut n = 0;
     if let (Some(before), Some(behind)) = (text.get(..range.start), text.get(range.end..)) {
-        made.extend_from_slice(before)?;
-        made.extend_from_slice(new)?;
-        made.extend_from_slice(behind)?;
+        n = output::put_bytes(made, n, before);
+        n = output::put_bytes(made, n, new);
+        n = output::put_bytes(made, n, behind);
     }
-    Ok(made)
+    made.get(..n)
 }
 
 // A digest, and on how many texts the one by lists of calls differed.
@@ -122,17 +130,18 @@ struct Fed {
 }
 
 impl Fed {
-    // With a text more, which is damaged already. One that got too long counts as one on which they differ.
-    fn with(self, text: &[u8]) -> io::Result<Fed> {
+    // With a text more, which is a text with other bytes in place of a range. One that got too long counts as one on which they differ.
+    fn with(self, text: &[u8], range: Range<usize>, new: &[u8]) -> io::Result<Fed> {
         let Fed { digest, differ } = self;
-        if LONGEST < text.len() {
+        let mut made = [0u8; LONGEST];
+        let Some(damaged) = replaced(text, range, new, &mut made) else {
             return Ok(Fed {
                 digest,
                 differ: differ.saturating_add(1),
             });
-        }
-        let by_lists = feed_lists(digest, text);
-        let digest = feed_calls(digest, text, |_| Ok(()))?;
+        };
+        let by_lists = feed_lists(digest, damaged);
+        let digest = feed_calls(digest, damaged, |_, _| Ok(()))?;
         let differ = differ.saturating_add(u64::from(digest != by_lists));
         Ok(Fed { digest, differ })
     }
@@ -145,34 +154,29 @@ fn say_digest(rt: &impl Print, texts: usize, fed: Fed) -> io::Result<()> {
 }
 
 // Each run of so many bytes replaced by the same bytes.
-fn replace_each(
-    rt: &(impl Print + AllocGlobal),
-    text: &[u8],
-    width: usize,
-    new: &[u8],
-) -> io::Result<()> {
+fn replace_each(rt: &impl Print, text: &[u8], width: usize, new: &[u8]) -> io::Result<()> {
     let places = text
         .len()
         .checked_sub(width)
         .map_or(0, |last| last.saturating_add(1));
     let mut fed = Fed::default();
     for i in 0..places {
-        fed = fed.with(&replaced(rt.alloc(), text, i..i.saturating_add(width), new)?)?;
+        fed = fed.with(text, i..i.saturating_add(width), new)?;
     }
     say_digest(rt, places, fed)
 }
 
 // Each byte replaced by the byte with the next number.
-fn raise(rt: &(impl Print + AllocGlobal), text: &[u8]) -> io::Result<()> {
+fn raise(rt: &impl Print, text: &[u8]) -> io::Result<()> {
     let mut fed = Fed::default();
     for (i, b) in text.iter().enumerate() {
-        fed = fed.with(&replaced(rt.alloc(), text, i..i + 1, &[b.wrapping_add(1)])?)?;
+        fed = fed.with(text, i..i + 1, &[b.wrapping_add(1)])?;
     }
     print!(rt; "raised")?;
     say_digest(rt, text.len(), fed)
 }
 
-fn change_each(rt: &(impl Print + AllocGlobal), text: &[u8]) -> io::Result<()> {
+fn change_each(rt: &impl Print, text: &[u8]) -> io::Result<()> {
     for b in [b'\n', b'x', b'"', b'[', b'\'', 0, 255] {
         print!(rt; "changed to {b}")?;
         replace_each(rt, text, 1, &[b])?;
@@ -180,7 +184,7 @@ fn change_each(rt: &(impl Print + AllocGlobal), text: &[u8]) -> io::Result<()> {
     raise(rt, text)
 }
 
-fn cut_each(rt: &(impl Print + AllocGlobal), text: &[u8]) -> io::Result<()> {
+fn cut_each(rt: &impl Print, text: &[u8]) -> io::Result<()> {
     for n in 1..9 {
         print!(rt; "cut {n}")?;
         replace_each(rt, text, n, b"")?;
@@ -188,7 +192,7 @@ fn cut_each(rt: &(impl Print + AllocGlobal), text: &[u8]) -> io::Result<()> {
     Ok(())
 }
 
-fn insert_each(rt: &(impl Print + AllocGlobal), text: &[u8]) -> io::Result<()> {
+fn insert_each(rt: &impl Print, text: &[u8]) -> io::Result<()> {
     for b in [b'\n', b'"', b'\'', b'[', b']', b'{', b'(', b'\\', b','] {
         print!(rt; "inserted {b}")?;
         replace_each(rt, text, 0, &[b])?;
@@ -197,15 +201,11 @@ fn insert_each(rt: &(impl Print + AllocGlobal), text: &[u8]) -> io::Result<()> {
 }
 
 // A text with `x` for the bytes of a range, and what each call on it answers.
-fn show_damaged(
-    rt: &(impl Print + AllocGlobal),
-    text: &[u8],
-    range: Range<usize>,
-) -> io::Result<()> {
-    let made = replaced(rt.alloc(), text, range, b"x")?;
-    if made.len() <= LONGEST {
-        rt.write_all(&made)?;
-        feed_calls(0, &made, |answered| rt.println(answered))?;
+fn show_damaged(rt: &impl Print, text: &[u8], range: Range<usize>) -> io::Result<()> {
+    let mut made = [0u8; LONGEST];
+    if let Some(damaged) = replaced(text, range, b"x", &mut made) {
+        rt.write_all(damaged)?;
+        feed_calls(0, damaged, |a, out| say(rt, a, out))?;
     }
     Ok(())
 }
@@ -318,12 +318,7 @@ fn say_measured(rt: &impl Print, tape: &[u8], text: &[u8]) -> io::Result<()> {
     println!(rt; "measured and written, differs in texts: {both}")
 }
 
-fn damage(
-    rt: &(impl Print + AllocGlobal),
-    tape: &[u8],
-    text: &[u8],
-    first: bool,
-) -> io::Result<()> {
+fn damage(rt: &impl Print, tape: &[u8], text: &[u8], first: bool) -> io::Result<()> {
     if first {
         show_damaged(rt, text, 2..4)?;
         show_damaged(rt, text, 2..3)?;
@@ -337,7 +332,7 @@ fn damage(
 }
 
 // Whether a frame is one whose text can be damaged.
-fn damage_frame(rt: &(impl Print + AllocGlobal), frame: &[u8], first: bool) -> io::Result<bool> {
+fn damage_frame(rt: &impl Print, frame: &[u8], first: bool) -> io::Result<bool> {
     let mut out = [0u8; LONGEST];
     let Some(tape) = frame.get(4..) else {
         return Ok(false);

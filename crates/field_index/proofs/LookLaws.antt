@@ -1,4 +1,4 @@
--- A lookup over an index gives the latest field with the name, and maybe.none exactly if no field has it. Assumes nothing.
+-- A lookup over an index gives the latest field with the name, and none exactly if no field has it. Assumes nothing.
 use Prim.Native.Nat.{ℕ, zero, suc, ◌+◌, ◌<◌, ◌≤◌}
 use mathlib.Core.Path.{◌≡◌, refl, sym, ap, subst, ◌∙◌}
 use mathlib.Core.List.{List, [], ◌∷◌, ◌++◌}
@@ -276,7 +276,7 @@ module _ (t : List ℕ) (at : ℕ) (ns : Nodes) (b : Bytes t) (v : verdict t ≡
   pub latest_first : filter (named t name) (index_at t at) ≡ reversed (filter (named t name) (fields_from (at + 5) ns))
   latest_first = ap (filter (named t name)) index_is ∙ other_order t name (at + 5) ns
 
-  -- LOOKUP OVER THE INDEX of a struct: the latest field with the name, in tape order, or maybe.none exactly if no field has it
+  -- LOOKUP OVER THE INDEX of a struct: the latest field with the name, in tape order, or none exactly if no field has it
   pub lookup_over_index : (r : Option ℕ) → Finds t name (index_at t at) r → found_in (index_at t at) r ≡ looked_by 0 (latest_field name (at + 5) ns)
   lookup_over_index r f =
       let l : List Entry = sorted (before t) (fields_from (at + 5) ns) in

@@ -1,16 +1,24 @@
--- The name at an offset. Assumes nothing.
-use mathlib.Core.Path.{◌≡◌, sym, ap, ◌∙◌}
+-- The name at an offset; two texts byte by byte. Assumes nothing.
+use mathlib.Core.Path.{◌≡◌, refl, sym, ap, ◌∙◌}
 use mathlib.Core.List.{List, []}
 use mathlib.Core.Option.{Option}
-use Prim.Native.Nat.{ℕ, ◌+◌, ◌-◌, ◌≤◌, ◌<◌}
+use Prim.Native.Nat.{ℕ, ◌+◌, ◌-◌, ◌≤◌, ◌<◌, min}
 use native.Mathlib.Nat.{add-zero}
 use native.Mathlib.Omega.{arith}
-use lib.ListN.{length, get_or, take, drop, length-drop}
+use lib.ListN.{length, get_or, take, drop, length-drop, drop_of_length-le}
 use lib.Seq.{drop-drop, get_or-drop}
+use Rattle.std.proofs.Common.{inl, inr}
+use Rattle.std.proofs.lemmas.Bool.{cases_lt}
+use Rattle.std.specs.Cmp.{nat_cmp_is}
+use Rattle.std.specs.declared.cmp.Ordering.{Ordering}
+use Rattle.std.specs.declared.cmp.Ordering.TheVariants.{Less, Equal, Greater}
+use Rattle.std.specs.Ordering.{nat_cmp, ordering_then, is_ne}
+use Rattle.std.specs.Cmp.Lexicographic.{slice_cmp}
 use Rattle.text_rules.specs.Text.{Sym}
+use Rattle.text_rules.proofs.Places.{byte_at}
 use Rattle.tape.specs.Bytes.{le_number, part}
 use Rattle.tape.specs.Tape.{reading, kind, length_of}
-use Rattle.std.specs.Prelude.{Some, None}
+use Rattle.std.specs.Prelude.{Some, None, true, false}
 use Rattle.tape.proofs.CodeReading.{length_over, length_some, sym-text, sym_id, sym_none, sym_short}
 use Rattle.field_index.specs.Names.{name_at}
 
@@ -55,3 +63,36 @@ module _ (tape : List ℕ) (at : ℕ) where
       let size : length_of node ≡ at + 5 + number - (at + 5) = omega (arith, number_is) in
       ap named (sym-text node (Some (length_of node)) (kind-is ∙ k) (sym (length_some node (omega (arith, length-drop at tape, number_is)))))
       ∙ ap (λ (l : List ℕ). Sym.text (take (length_of node) l)) (drop-drop 5 at tape) ∙ ap (λ (n : ℕ). Sym.text (take n (drop (at + 5) tape))) size
+
+-- ---- two texts, of which both go on at a place
+
+module _ (s t : List ℕ) (i : ℕ) (h : i < length s) (k : i < length t) where
+  both : slice_cmp nat_cmp (drop i s) (drop i t) ≡ ordering_then (nat_cmp (get_or s i 0) (get_or t i 0)) (slice_cmp nat_cmp (drop (i + 1) s) (drop (i + 1) t))
+  both = rw (byte_at s i h, byte_at t i k)
+
+  first : (o r : Ordering) → is_ne o ≡ true → ordering_then o r ≡ o
+  first Less r e = refl
+  first Equal r e = cc
+  first Greater r e = refl
+
+  second : (o r : Ordering) → is_ne o ≡ false → ordering_then o r ≡ r
+  second Less r e = cc
+  second Equal r e = refl
+  second Greater r e = cc
+
+  -- they differ there, or not
+  pub apart_there : (o : Ordering) → o ≡ nat_cmp (get_or s i 0) (get_or t i 0) → is_ne o ≡ true → slice_cmp nat_cmp (drop i s) (drop i t) ≡ o
+  apart_there o e d = both ∙ rw (← e) (first o _ d)
+
+  pub alike_there : (o : Ordering) → o ≡ nat_cmp (get_or s i 0) (get_or t i 0) → is_ne o ≡ false → slice_cmp nat_cmp (drop i s) (drop i t) ≡ slice_cmp nat_cmp (drop (i + 1) s) (drop (i + 1) t)
+  alike_there o e d = both ∙ rw (← e) (second o _ d)
+
+-- one of them ends at a place, and they are equal so far
+pub ended : (s t : List ℕ) (i : ℕ) → i ≡ min (length s) (length t) → slice_cmp nat_cmp (drop i s) (drop i t) ≡ nat_cmp (length s) (length t)
+ended s t i e = elim (cases_lt (length s) (length t)) [
+  | inl h ↦ rw (drop_of_length-le s {i = i} (omega arith), byte_at t i (omega arith)) (nat_cmp_is (length s) (length t) Less h)
+  | inr h ↦ elim (cases_lt (length t) (length s)) [
+    | inl k ↦ rw (drop_of_length-le t {i = i} (omega arith), byte_at s i (omega arith)) (nat_cmp_is (length s) (length t) Greater k)
+    | inr k ↦ rw (drop_of_length-le s {i = i} (omega arith), drop_of_length-le t {i = i} (omega arith)) (nat_cmp_is (length s) (length t) Equal (omega arith))
+  ]
+]

@@ -43,7 +43,10 @@ pub fn magnitude_of(bits: u64) -> Option<u64>
     if e == 0 {
         return (t == 0).then_some(0);
     }
-    if e < 1023 || 1076 < e {
+    if e < 1023 {
+        return None;
+    }
+    if 1076 < e {
         return None;
     }
     if e == 1076 {

@@ -1,9 +1,17 @@
 // Reads a tape on standard input and prints its Lines text, or what is wrong with it.
 #![tactic(auto)]
 
-use program_io::Refused;
 use std::io;
 use tape::answer::Answer;
+
+// `refused`, a blank, the number and LF.
+fn refuse(rt: &impl Print, a: Answer) -> io::Result<()> {
+    let mut line = [0u8; 16];
+    let n = program_io::put_refusal(&mut line, 0, tape::answer::number(a));
+    let end = output::put(&mut line, n, b'\n');
+    program_io::print(rt, &line, end)?;
+    Ok(())
+}
 
 // The Lines text of a tape as it is, or the refusal on a line.
 fn show(rt: &impl Print, tape: &[u8]) -> io::Result<()> {
@@ -13,7 +21,7 @@ fn show(rt: &impl Print, tape: &[u8]) -> io::Result<()> {
             program_io::print(rt, &out, n)?;
             Ok(())
         }
-        refused => println!(rt; "{}", Refused(tape::answer::number(refused))),
+        refused => refuse(rt, refused),
     }
 }
 

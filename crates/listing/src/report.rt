@@ -3,7 +3,6 @@ ghost use Rattle.std.specs.Prelude.{◌≡◌, ◌≤◌, ◌==◌, IfOk};
 ghost use Rattle.listing.specs.Seen.{one_more, differences, Keeps, Differs};
 
 use crate::compare::Due;
-use program_io::{Hex, Refused};
 use std::io;
 use tape::answer::Answer;
 
@@ -30,6 +29,16 @@ pub fn count(n: &mut usize)
     }
 }
 
+// Every byte as two hex digits.
+fn say_hex(rt: &impl Print, bytes: &[u8]) -> io::Result<()> {
+    let mut digits = [0u8; 4096];
+    for part in bytes.chunks(2048) {
+        let n = program_io::put_hex(&mut digits, 0, part);
+        program_io::print(rt, &digits, n)?;
+    }
+    Ok(())
+}
+
 // `line` and its number; every difference starts so.
 fn difference(rt: &impl Print, seen: &mut Seen) -> io::Result<()>
     ensures { Differs seen.old seen.new }
@@ -52,9 +61,10 @@ fn expected(rt: &impl Print, due: Due) -> io::Result<()> {
     print!(rt; ": expected ")?;
     match due.refusal {
         None => print!(rt; "{}", due.bytes.len())?,
-        Some(number) => print!(rt; "{}", Refused(number))?,
+        Some(number) => print!(rt; "refused {number}")?,
     }
-    print!(rt; " {}", Hex(due.bytes))
+    print!(rt; " ")?;
+    say_hex(rt, due.bytes)
 }
 
 // The answer and the whole buffer.
@@ -63,9 +73,11 @@ fn found(rt: &impl Print, a: Answer, out: &[u8]) -> io::Result<()> {
     match a {
         Answer::Count(n) => print!(rt; "{n}")?,
         Answer::End => print!(rt; "the end mark")?,
-        refused => print!(rt; "{}", Refused(tape::answer::number(refused)))?,
+        refused => print!(rt; "refused {}", tape::answer::number(refused))?,
     }
-    println!(rt; " {}", Hex(out))
+    print!(rt; " ")?;
+    say_hex(rt, out)?;
+    println!(rt)
 }
 
 // A call that did not answer what was due, or did not leave its buffer so: what was done, with how much room.
@@ -98,7 +110,8 @@ pub fn line_differs(
     ensures { Differs seen.old seen.new }
 {
     difference(rt, seen)?;
-    print!(rt; " line call to {next}: expected a node of {}", Hex(nodes))?;
+    print!(rt; " line call to {next}: expected a node of ")?;
+    say_hex(rt, nodes)?;
     found(rt, a, out)
 }
 

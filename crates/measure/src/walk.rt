@@ -123,7 +123,7 @@ fn measure_nodes(
                 if k == 9 {
                     n = n + parts::untold_length(tape, p, end, quotes);
                 } else {
-                    measure_nodes(
+                    match measure_nodes(
                         tape,
                         p + 5,
                         p + size,
@@ -132,7 +132,10 @@ fn measure_nodes(
                         sums,
                         seen,
                         quotes,
-                    )?;
+                    ) {
+                        Ok(_) => {}
+                        Err(fault) => return Err(fault),
+                    }
                     n = n + 2;
                     sums[3] = sums[3] + (width + 1);
                 }

@@ -14,8 +14,8 @@ use Rattle.numbers.proofs.Signed.{below-zero}
 use Rattle.tape.specs.Tree.{bit}
 use Rattle.std.specs.declared.cmp.Ordering.{Ordering}
 use Rattle.std.specs.declared.cmp.Ordering.TheVariants.{Less, Equal, Greater}
-use Rattle.order.specs.Order.{values}
-use Rattle.order.specs.Steps.{over_by, Biased, by_sign}
+use Rattle.order.specs.Order.{integers, values}
+use Rattle.order.specs.Steps.{over_by, Low, Biased, by_sign}
 use Rattle.order.proofs.Combine.{less_is, greater_is, equal_is, Told, below, equal, over, tell, numbers-total}
 use Rattle.order.proofs.Decimals.{values_near}
 
@@ -112,6 +112,25 @@ pub invert : (w : Width) (M : ℕ) → ((k : ℕ) → k < 2 ^ hbits w → M - of
 invert w M f z s h =
     let b = below-zero w z s h in
     record { k = b.0; is = b.1; fits = b.2; bits = ap (λ (x : ℤ). to_z w (M - of_z w x)) b.1 ∙ ap (to_z w) (f b.0 b.2) ∙ to_z_pos w b.0 b.2 }
+
+pub integers-by : (N : ℕ) (e f : ℤ) → Low N e → Low N f → integers e f ≡ nat_cmp (over_by N e) (over_by N f)
+integers-by N (pos m) (pos n) p q = go (tell m n)
+  where
+    go : Told m n → nat_cmp m n ≡ nat_cmp (N + m) (N + n)
+    go (below h) = less_is m n h ∙ sym (less_is (N + m) (N + n) (omega arith))
+    go (equal h) = equal_is m n h ∙ sym (equal_is (N + m) (N + n) (omega arith))
+    go (over h) = greater_is m n h ∙ sym (greater_is (N + m) (N + n) (omega arith))
+integers-by N (pos m) (negsuc n) p q = sym (greater_is (N + m) (N - suc n) (omega arith))
+integers-by N (negsuc m) (pos n) p q = sym (less_is (N - suc m) (N + n) (omega arith))
+integers-by N (negsuc m) (negsuc n) p q = go (tell n m)
+  where
+    go : Told n m → nat_cmp n m ≡ nat_cmp (N - suc m) (N - suc n)
+    go (below h) = less_is n m h ∙ sym (less_is (N - suc m) (N - suc n) (omega arith))
+    go (equal h) = equal_is n m h ∙ sym (equal_is (N - suc m) (N - suc n) (omega arith))
+    go (over h) = greater_is n m h ∙ sym (greater_is (N - suc m) (N - suc n) (omega arith))
+
+pub biased_order : (N : ℕ) (e f : ℤ) (x y : ℕ) → Biased N e x → Biased N f y → nat_cmp x y ≡ integers e f
+biased_order N e f x y p q = ap (λ (i : ℕ). nat_cmp i y) p.is ∙ ap (nat_cmp (over_by N e)) q.is ∙ sym (integers-by N e f p.low q.low)
 
 -- ---- signs
 

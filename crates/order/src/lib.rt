@@ -163,11 +163,14 @@ fn known_on(
     equal_bytes(a, i, ea, b, j, eb)
 }
 
-// The first `known` bytes are equal.
+// The first `known` bytes are equal: where these are all of the first text, the lengths decide.
 fn compare_bytes(s: &[u8], t: &[u8], known: usize) -> Ordering
     requires { Shared s.now 0 (length s.now) t.now 0 (length t.now) known }
     ensures { result ≡ slice_cmp nat_cmp s.now t.now }
 {
+    if known == s.len() {
+        return known.cmp(&t.len());
+    }
     s[known..].cmp(&t[known..])
 }
 

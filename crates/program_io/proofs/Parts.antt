@@ -1,14 +1,20 @@
--- What the loop of `find` goes by, and a frame by its length. Assumes nothing.
-use Prim.Native.Nat.{ℕ, suc, ◌+◌, ◌-◌, ◌<◌, ◌≤◌}
+-- What the loops go by, a byte at a time, and a frame by its length. Assumes nothing.
+use Prim.Native.Nat.{ℕ, suc, ◌+◌, ◌-◌, ◌/◌, ◌%◌, ◌<◌, ◌≤◌}
 use mathlib.Core.Path.{◌≡◌}
-use mathlib.Core.List.{List}
+use mathlib.Core.List.{List, [], ◌∷◌, ◌++◌}
 use lib.ListN.{length, get_or, drop, length-drop, drop_of_length-le}
 use lib.Seq.{drop-drop}
 use borrow.Author.Tests.{eq-eqb, ne_eqb, le-leb, lt-leb}
+use Rattle.text_rules.specs.Escapes.{hex_digit}
 use Rattle.text_rules.proofs.Places.{byte_at}
 use Rattle.std.specs.Prelude.{Some, None}
 use Rattle.tape.specs.Bytes.{le_number}
+use Rattle.program_io.specs.Shown.{hex_text}
 use Rattle.program_io.specs.Framed.{frame_size, framed, distance}
+
+pub hex-step : (s : List ℕ) (i : ℕ) → i < length s → hex_text (drop i s) ≡ (hex_digit (get_or s i 0 / 16) ∷ hex_digit (get_or s i 0 % 16) ∷ []) ++ hex_text (drop (i + 1) s)
+unfolding hex_text
+hex-step s i h = rw (byte_at s i h)
 
 -- ---- the first place of a byte
 

@@ -1,60 +1,56 @@
-// What the programs share: hex digits and refusals to print, a buffer printed, what the system refused told, an input read, and where
+// What the programs share: hex digits and refusals put into a buffer, a buffer printed, what the system refused told, an input read, and where
 // the parts of an input end.
 #![tactic(auto)]
 
-ghost use Rattle.std.specs.Prelude.{◌≡◌, true, ◌+◌, ◌≤◌, length, drop, IfOk, IfSome, Some};
+ghost use Rattle.std.specs.Prelude.{◌≡◌, true, ◌+◌, ◌<◌, ◌≤◌, length, drop, IfOk, IfSome};
+ghost use Rattle.output.specs.Wrote.{Wrote};
+ghost use Rattle.text_rules.specs.Escapes.{hex_digit};
 ghost use Rattle.tape.specs.Answer.{outcome};
 ghost use Rattle.program_io.specs.Shown.{hex_text, refusal_text, answer_text};
 ghost use Rattle.program_io.specs.Framed.{framed, FramesTo, distance};
 
 use std::fmt::{Display, InlineText};
+use std::io;
 use std::io::Read;
-use std::{fmt, io};
 use tape::answer::Answer;
 
-// ---- what is printed
+// ---- what is printed. It is put into a buffer, which cannot fail; a `Display` would promise what it writes only where it answers `Ok`
+
+#[tactic(auto, unfolding(text_rules::specs::Escapes::hex_digit))]
+fn hex_digit(d: u8) -> u8
+    requires { d < 16 }
+    ensures { result ≡ hex_digit d }
+{
+    if d < 10 { b'0' + d } else { b'a' + (d - 10) }
+}
 
 // Every byte as two hex digits.
-#[derive(Clone, Copy)]
-pub struct Hex<'a>(pub &'a [u8]);
-
-impl Display for Hex<'_> {
-    ghost output = { λ h. Some (hex_text h.0.now) };
-
-    fn fmt<W: fmt::Write>(&self, f: &mut fmt::Formatter<W>) -> fmt::Result {
-        for &b in self.0 {
-            write!(f, "{b:02x}")?;
-        }
-        Ok(())
+pub fn put_hex(buf: &mut [u8], pos: usize, bytes: &[u8]) -> usize
+    ensures { Wrote buf.old buf.new pos result (hex_text bytes.now) }
+{
+    let mut p = output::bounded(pos);
+    for &b in bytes {
+        p = output::put_two(buf, p, hex_digit(b / 16), hex_digit(b % 16));
     }
+    p
 }
 
 // `refused`, a blank and the number of a refusal.
-#[derive(Clone, Copy)]
-pub struct Refused(pub u8);
-
-impl Display for Refused {
-    ghost output = { λ r. Some (refusal_text r.0) };
-
-    fn fmt<W: fmt::Write>(&self, f: &mut fmt::Formatter<W>) -> fmt::Result {
-        let number = self.0;
-        write!(f, "refused {number}")
-    }
+pub fn put_refusal(buf: &mut [u8], pos: usize, number: u8) -> usize
+    ensures { Wrote buf.old buf.new pos result (refusal_text number) }
+{
+    let p = output::put_bytes(buf, pos, b"refused ");
+    text_rules::digits::put_digits(buf, p, number as u64)
 }
 
 // What a reader answered: the tape at the start of its buffer in hex, `end`, or the refusal.
-#[derive(Clone, Copy)]
-pub struct Answered<'a>(pub Answer, pub &'a [u8]);
-
-impl Display for Answered<'_> {
-    ghost output = { λ a. Some (answer_text (outcome a.0) a.1.now) };
-
-    fn fmt<W: fmt::Write>(&self, f: &mut fmt::Formatter<W>) -> fmt::Result {
-        match self.0 {
-            Answer::Count(n) => Hex(self.1.get(..n).unwrap_or(self.1)).fmt(f),
-            Answer::End => f.write_str("end"),
-            refused => Refused(tape::answer::number(refused)).fmt(f),
-        }
+pub fn put_answer(buf: &mut [u8], pos: usize, a: Answer, out: &[u8]) -> usize
+    ensures { Wrote buf.old buf.new pos result (answer_text (outcome a) out.now) }
+{
+    match a {
+        Answer::Count(n) => put_hex(buf, pos, out.get(..n).unwrap_or(out)),
+        Answer::End => output::put_bytes(buf, pos, b"end"),
+        refused => put_refusal(buf, pos, tape::answer::number(refused)),
     }
 }
 

@@ -491,7 +491,10 @@ pub fn check_tape(tape: &[u8]) -> Result<Checked, Fault>
     ensures { TapeChecks tape.now result }
 {
     let end = body_end(tape)?;
-    let c = check_nodes(tape, 0, end, Frame::Top, 65)?;
+    let c = match check_nodes(tape, 0, end, Frame::Top, 65) {
+        Ok(c) => c,
+        Err(fault) => return Err(fault),
+    };
     if crate::u32_at(tape, end + 4) as usize != c.count {
         return Err(Fault::BadNode);
     }

@@ -124,3 +124,6 @@ identifier_word (c ∷ w) h = (identifier_parts c w h).1
 -- a byte of a word is none that is no part of one
 pub unlike : (c x : ℕ) → is_part c ≡ true → is_part x ≡ false → eqb c x ≡ false
 unlike c x h e = ne_eqb c x (λ q. never (sym h ∙ ap is_part q ∙ e))
+
+pub start-other : (c x : ℕ) → is_start c ≡ true → is_start x ≡ false → eqb c x ≡ false
+start-other c x h e = ne_eqb c x (λ q. never (sym h ∙ ap is_start q ∙ e))

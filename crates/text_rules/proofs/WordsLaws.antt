@@ -98,6 +98,11 @@ same_long (x ∷ w) (c ∷ t) h = go (eqb c x) (same_long w t (λ e. h (ap suc e
     go true e = e
     go false e = refl
 
+pub same_stands : (w t : List ℕ) (r : Bool) → length t ≡ length w → WordStands t 0 w r → r ≡ same w t
+unfolding same
+same_stands w t true h s = sym (rw s.is (ap empty (end-at t (0 + length w) (omega arith))))
+same_stands w t false h s = sym (rw s.is)
+
 pub same-other : (c : ℕ) (k t : List ℕ) → 0 < length t → (get_or t 0 0 ≡ c → ⊥) → same (c ∷ k) t ≡ false
 unfolding same strip
 same-other c k [] h e = absurd (omega arith)

@@ -3,7 +3,9 @@
 // before the call. The frames and what they must give are the table of tests/writings.py.
 #![tactic(auto)]
 
-use program_io::{Hex, Refused};
+ghost use Rattle.std.specs.Prelude.{◌≤◌};
+ghost use Rattle.output.specs.Wrote.{limit};
+
 use std::io;
 use tape::answer::Answer;
 
@@ -14,16 +16,34 @@ fn write(layout: u8, tape: &[u8], out: &mut [u8]) -> Answer {
     }
 }
 
-fn show(rt: &impl Print, layout: u8, tape: &[u8], out: &mut [u8]) -> io::Result<()> {
-    match write(layout, tape, out) {
-        Answer::Count(n) => print!(rt; "{n}")?,
-        refused => print!(rt; "{}", Refused(tape::answer::number(refused)))?,
+// The count, or the refusal.
+fn put_count(line: &mut [u8], a: Answer) -> usize
+    ensures { result ≤ limit }
+{
+    match a {
+        Answer::Count(n) => text_rules::digits::put_digits(line, 0, n as u64),
+        refused => program_io::put_refusal(line, 0, tape::answer::number(refused)),
     }
-    println!(rt; " {}", Hex(out))
+}
+
+fn show(
+    rt: &impl Print,
+    layout: u8,
+    tape: &[u8],
+    out: &mut [u8],
+    line: &mut [u8],
+) -> io::Result<()> {
+    let a = write(layout, tape, out);
+    let p = put_count(line, a);
+    let q = output::put(line, p, b' ');
+    let r = program_io::put_hex(line, q, out);
+    let end = output::put(line, r, b'\n');
+    program_io::print(rt, line, end)?;
+    Ok(())
 }
 
 // Whether a frame asks for a buffer that it can have.
-fn show_frame(rt: &impl Print, frame: &[u8]) -> io::Result<bool> {
+fn show_frame(rt: &impl Print, frame: &[u8], line: &mut [u8]) -> io::Result<bool> {
     let mut out = [b'#'; 4096];
     let Some((head, tape)) = frame.split_at_checked(9) else {
         return Ok(false);
@@ -32,14 +52,15 @@ fn show_frame(rt: &impl Print, frame: &[u8]) -> io::Result<bool> {
     let Some(out) = out.get_mut(..room) else {
         return Ok(false);
     };
-    show(rt, head[0], tape, out)?;
+    show(rt, head[0], tape, out, line)?;
     Ok(true)
 }
 
 fn main(rt: HostRuntime) -> io::Result<()> {
     let mut input = [0u8; 65536];
+    let mut line = [0u8; 8224];
     let n = program_io::read_full(&mut rt.stdin(), &mut input)?;
-    if !program_io::all_frames(&input[..n], 9, |frame| show_frame(&rt, frame))? {
+    if !program_io::all_frames(&input[..n], 9, |frame| show_frame(&rt, frame, &mut line))? {
         println!(rt; "malformed input")?;
     }
     Ok(())

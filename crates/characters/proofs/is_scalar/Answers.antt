@@ -14,4 +14,5 @@ scalar-of v None h = grind (arith, nat_tests)
 scalar-of v (Some x) h = grind (arith, nat_tests)
 
 pub returns : goal.returns
-returns c = c.is_some.ensures ∙ scalar-of c.args.v c.from_u32.result c.from_u32.ensures.cases
+unfolding is_scalar
+returns c = rw (c.is_some.ensures ∙ scalar-of c.args.v c.from_u32.result c.from_u32.ensures.cases) (grind (arith, nat_tests))

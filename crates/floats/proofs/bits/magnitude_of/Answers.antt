@@ -6,7 +6,6 @@ use native.Mathlib.Nat.{mul-div_cancel, div-mul-le_self}
 use lib.Pow.{pow_pos}
 use Rattle.floats.proofs.ValueBits.{exponent, fraction, told_if, zero-told, low_told, part-told, over_told, most_told, past_told, some-told, none_told}
 use Rattle.floats.proofs.bits.magnitude_of.Goals as goal
-use Rattle.floats.proofs.bits.magnitude_of.Goals.{then-e-lt1023-via-then-e-lt1023, then-e-lt1023-via-else-e-lt1023+then-e-gt1076}
 
 pub returns-then-e-eq0 : goal.returns-then-e-eq0
 returns-then-e-eq0 c =
@@ -14,11 +13,10 @@ returns-then-e-eq0 c =
     rw c.then_some.ensures (told_if (fraction b) 0 0 _ (λ h. zero-told b (omega arith) h) (λ h. low_told b (omega arith) (omega (arith, h))))
 
 pub returns-then-e-lt1023 : goal.returns-then-e-lt1023
-returns-then-e-lt1023 c =
-    elim c.then-e-lt1023.branch [
-      | then-e-lt1023-via-then-e-lt1023 w ↦ sym (part-told c.args.bits (omega arith) (omega (arith, w.if-e-lt1023.true)))
-      | then-e-lt1023-via-else-e-lt1023+then-e-gt1076 w ↦ sym (over_told c.args.bits (omega (arith, w.if-e-gt1076.true)))
-    ]
+returns-then-e-lt1023 c = sym (part-told c.args.bits (omega arith) (omega arith))
+
+pub returns-then-e-gt1076 : goal.returns-then-e-gt1076
+returns-then-e-gt1076 c = sym (over_told c.args.bits (omega arith))
 
 pub returns-then-e-eq1076 : goal.returns-then-e-eq1076
 returns-then-e-eq1076 c =

@@ -13,7 +13,6 @@ use Rattle.tape.specs.declared.Frame.{Frame}
 use Rattle.tape.proofs.Parts.{part-first, trailed}
 use Rattle.tape.proofs.CodeFacts.{end_read}
 use Rattle.tape.proofs.CodeWalk.{fault_some}
-use Rattle.std.proofs.lemmas.Result.{err_from_is_err_and}
 use Rattle.tape.proofs.Turns.{Refused, TreeTurn, name-refused, notes-refused, end_refused, size-refused, span-turn, blob-refused, other-refused, marker_refused}
 use Rattle.tape.proofs.check.behind_name.Reads as behind-name
 use Rattle.tape.proofs.check.frame_of.Reads as frame-of
@@ -34,9 +33,8 @@ use Rattle.measure.proofs.parts.untold_length.Reads as untold-length
 use Rattle.measure.proofs.walk.add_body.Reads as add_body
 use Rattle.measure.proofs.walk.measure_nodes.Reads as own
 use Rattle.measure.proofs.walk.+measure_nodes.Lts-measure_nodes as lts
-use Rattle.measure.proofs.walk.+measure_nodes.Tie as tie
 use Rattle.measure.proofs.walk.+measure_nodes.Goals as goal
-use Rattle.measure.proofs.walk.+measure_nodes.Goals.{then-name_number, else-name_number, then-tape-q-eq13+in-Some+else-notes-end+then-notes, then-tape-q-eq13+in-Some+else-notes-end+else-notes, else-tape-q-eq13, then-l-eq0, else-l-eq0, then-is_number, else-is_number, then-k-eq9, else-k-eq9+in_ok-measure_nodes}
+use Rattle.measure.proofs.walk.+measure_nodes.Goals.{then-name_number, else-name_number, then-tape-q-eq13+in-Some+else-notes-end+then-notes, then-tape-q-eq13+in-Some+else-notes-end+else-notes, else-tape-q-eq13, then-l-eq0, else-l-eq0, then-is_number, else-is_number, then-k-eq9, else-k-eq9+in-Ok}
 
 abbrev callees : ℕ → lts.Claims
 callees t = (
@@ -62,10 +60,6 @@ callees t = (
   frame-of.Learnt,
   goal.measure_nodes-below t,
   own.Post,
-  tie.Asked-measure_nodes-11,
-  tie.Learnt-measure_nodes-11,
-  tie.Asked-measure_nodes-12,
-  tie.Learnt-measure_nodes-12,
   blob-length.Asked,
   blob-length.Learnt,
   is_free.Asked,
@@ -437,20 +431,19 @@ measure_nodes-requires t c =
     let i = h.head.behind in
     (omega arith, (u.inner, (omega arith, (v.body.most, (omega arith, (v.walking.left.long, (h.flags.long, (c.requires.quotes_value, sums_most v (omega arith)))))))))
 
-pub returns-in_err-measure_nodes-clause-fault : goal.returns-in_err-measure_nodes-clause-fault
-returns-in_err-measure_nodes-clause-fault t c =
+pub returns-in-Err-clause-fault : goal.returns-in-Err-clause-fault
+returns-in-Err-clause-fault t c =
     let b : Bytes c.args.tape.now = (λ i. (c.type_inv.tape i).fits) in
-    let j : At-Joined-tape-q-eq13 t = c.before.before.before.before.before.before.before.before.before.before.before.before.before.before.before in
+    let j : At-Joined-tape-q-eq13 t = c.before.before.before.before.before.before.before.before.before.before.before.before.before in
     let v = this t j b in
     let h = headed t j b in
-    let r = c.in_err-measure_nodes.ensures.fault in
-    let p = err_from_is_err_and c.from_residual.result c.from_residual.ensures.1 in
-    rw (p.1, p.2) (fails v r (container_refused v h (opens t j b c.span-size.result c.if-k-lt9.false c.if-k-lt13.true c.if-k-eq9.false c.span-size.ensures c.if-size-eq0.false _ c.frame_of.ensures) (λ z. fault_some c.in_err-measure_nodes.field-0.0 (r ∙ z))))
+    let r = c.in-Err.ensures.fault in
+    fails v r (container_refused v h (opens t j b c.span-size.result c.if-k-lt9.false c.if-k-lt13.true c.if-k-eq9.false c.span-size.ensures c.if-size-eq0.false _ c.frame_of.ensures) (λ z. fault_some c.in-Err.fault (r ∙ z)))
 
 pub overflow_add-n-else-k-eq9 : goal.overflow_add-n-else-k-eq9
 overflow_add-n-else-k-eq9 t c =
     let b : Bytes c.args.tape.now = (λ i. (c.type_inv.tape i).fits) in
-    let j : At-Joined-tape-q-eq13 t = c.before.before.before.before.before.before.before.before.before.before.before.before.before.before.before in
+    let j : At-Joined-tape-q-eq13 t = c.before.before.before.before.before.before.before.before.before.before.before.before.before.before in
     let v = this t j b in
     let h = headed t j b in
     record { fits = omega (arith, front_most v h, end_most v, h.more) }
@@ -462,11 +455,11 @@ overflow_add-sums t c =
 pub overflow_add-sums-else-k-eq9 : goal.overflow_add-sums-else-k-eq9
 overflow_add-sums-else-k-eq9 t c =
     let b : Bytes c.args.tape.now = (λ i. (c.type_inv.tape i).fits) in
-    let j : At-Joined-tape-q-eq13 t = c.before.before.before.before.before.before.before.before.before.before.before.before.before.before.before.before.before in
+    let j : At-Joined-tape-q-eq13 t = c.before.before.before.before.before.before.before.before.before.before.before.before.before.before.before.before in
     let v = this t j b in
     let h = headed t j b in
     let u = opens t j b c.span-size.result c.if-k-lt9.false c.if-k-lt13.true c.if-k-eq9.false c.span-size.ensures c.if-size-eq0.false _ c.frame_of.ensures in
-    let g = container_most v h u (c.in_ok-measure_nodes.ensures.grown) in
+    let g = container_most v h u (c.in-Ok.ensures.grown) in
     record { fits = omega (arith, g, u.within, end_most v, v.body.low) }
 
 pub overflow_add-at-then-k-lt13 : goal.overflow_add-at-then-k-lt13
@@ -499,9 +492,9 @@ loop-at-preserved-then-k-lt13 t c =
           let r = w.untold_length-n-then-k-eq9.ensures in
           let n = w.n-is in
           rw (w.seen-is, w.sums-is) (sized_on v h (omega arith) (λ i. omega arith) c.span-size.ensures c.if-size-eq0.false (omega arith)))
-      | else-k-eq9+in_ok-measure_nodes w ↦ (
+      | else-k-eq9+in-Ok w ↦ (
           let u = opens t j b c.span-size.result c.if-k-lt9.false c.if-k-lt13.true w.if-k-eq9.false c.span-size.ensures c.if-size-eq0.false _ w.frame_of.ensures in
-          let r = w.in_ok-measure_nodes.ensures in
+          let r = w.in-Ok.ensures in
           rw (w.n-is, w.seen-is, w.sums-is) (container_on v h u w.frame_of.ensures (sym r.fault) r.sums r.seen r.grown))
     ]
 

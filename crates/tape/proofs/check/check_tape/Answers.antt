@@ -13,13 +13,11 @@ returns-in_err-end c =
 pub check_nodes-requires : goal.check_nodes-requires
 check_nodes-requires c = let n = c.in_ok-end.ensures.end in record { from_le_end = omega arith; end_in_bounds = omega arith }
 
-pub returns-in_err-c : goal.returns-in_err-c
-returns-in_err-c c =
-    let p = err_from_is_err_and c.from_residual-in_err-c.result c.from_residual-in_err-c.ensures.1 in
-    rw (p.1, p.2) (refuse_inner c.args.tape.now _ c.in_ok-end.ensures _ c.in_err-c.ensures)
+pub returns-in-Err : goal.returns-in-Err
+returns-in-Err c = refuse_inner c.args.tape.now _ c.in_ok-end.ensures _ c.in-Err.ensures
 
 pub returns-then-u32_at-c : goal.returns-then-u32_at-c
-returns-then-u32_at-c c = refuse_count c.args.tape.now _ c.in_ok-end.ensures _ c.in_ok-c.ensures (λ e. c.if-u32_at-c.true (c.u32_at.ensures.0 ∙ e))
+returns-then-u32_at-c c = refuse_count c.args.tape.now _ c.in_ok-end.ensures _ c.in-Ok.ensures (λ e. c.if-u32_at-c.true (c.u32_at.ensures.0 ∙ e))
 
 pub returns : goal.returns
-returns c = accept c.args.tape.now _ c.in_ok-end.ensures _ c.in_ok-c.ensures (sym c.u32_at.ensures.0 ∙ c.if-u32_at-c.false)
+returns c = accept c.args.tape.now _ c.in_ok-end.ensures _ c.in-Ok.ensures (sym c.u32_at.ensures.0 ∙ c.if-u32_at-c.false)
