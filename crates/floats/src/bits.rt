@@ -35,6 +35,7 @@ pub fn bits_of(neg: bool, n: u64) -> u64
 }
 
 // The whole number up to the most that the float of these bits is, of either sign; or none.
+#[tactic(auto, using(crate::proofs::ValueBits::past_told))]
 pub fn magnitude_of(bits: u64) -> Option<u64>
     ensures { found result ≡ magnitude (of_bits binary64 bits) }
 {

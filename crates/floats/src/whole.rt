@@ -136,7 +136,10 @@ fn behind_e(text: &[u8], at: usize, m: u64, f: usize) -> Option<(u64, usize)>
 {
     let (e, end) = digits_at(text, at, 0)?;
     let k = end - at;
-    if k == 0 || 1 < k && text[at] == b'0' {
+    if k == 0 {
+        return None;
+    }
+    if 1 < k && text[at] == b'0' {
         return None;
     }
     scaled_of(m, f, e, end)

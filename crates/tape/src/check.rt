@@ -487,15 +487,17 @@ pub fn body_end(tape: &[u8]) -> Result<usize, Fault>
 }
 
 // What stands in a tape, or the refusal that both writers share: the length, then the nodes, then whether the trailer counts them right.
+#[tactic(auto, using(crate::proofs::CodeVerdict::refuse_inner))]
 pub fn check_tape(tape: &[u8]) -> Result<Checked, Fault>
     ensures { TapeChecks tape.now result }
 {
     let end = body_end(tape)?;
+    let claimed = crate::u32_at(tape, end + 4) as usize;
     let c = match check_nodes(tape, 0, end, Frame::Top, 65) {
         Ok(c) => c,
         Err(fault) => return Err(fault),
     };
-    if crate::u32_at(tape, end + 4) as usize != c.count {
+    if claimed != c.count {
         return Err(Fault::BadNode);
     }
     Ok(c)

@@ -2,7 +2,7 @@
 use mathlib.Core.Path.{sym, ◌∙◌}
 use native.Mathlib.Omega.{arith}
 use Rattle.std.proofs.lemmas.Result.{err_from_is_err_and}
-use Rattle.tape.proofs.CodeVerdict.{refuse_misfit, refuse_inner, refuse_count, accept}
+use Rattle.tape.proofs.CodeVerdict.{refuse_misfit, refuse_count, accept}
 use Rattle.tape.proofs.check.check_tape.Goals as goal
 
 pub returns-in_err-end : goal.returns-in_err-end
@@ -13,11 +13,8 @@ returns-in_err-end c =
 pub check_nodes-requires : goal.check_nodes-requires
 check_nodes-requires c = let n = c.in_ok-end.ensures.end in record { from_le_end = omega arith; end_in_bounds = omega arith }
 
-pub returns-in-Err : goal.returns-in-Err
-returns-in-Err c = refuse_inner c.args.tape.now _ c.in_ok-end.ensures _ c.in-Err.ensures
-
-pub returns-then-u32_at-c : goal.returns-then-u32_at-c
-returns-then-u32_at-c c = refuse_count c.args.tape.now _ c.in_ok-end.ensures _ c.in-Ok.ensures (λ e. c.if-u32_at-c.true (c.u32_at.ensures.0 ∙ e))
+pub returns-then-claimed-c : goal.returns-then-claimed-c
+returns-then-claimed-c c = refuse_count c.args.tape.now _ c.in_ok-end.ensures _ c.in-Ok.ensures (λ e. c.if-claimed-c.true (c.u32_at-claimed.ensures.0 ∙ e))
 
 pub returns : goal.returns
-returns c = accept c.args.tape.now _ c.in_ok-end.ensures _ c.in-Ok.ensures (sym c.u32_at.ensures.0 ∙ c.if-u32_at-c.false)
+returns c = accept c.args.tape.now _ c.in_ok-end.ensures _ c.in-Ok.ensures (sym c.u32_at-claimed.ensures.0 ∙ c.if-claimed-c.false)
